@@ -1,0 +1,19 @@
+-- The theorems, from lists and graphs up to demands 2 and 3.
+pub mod BasicExamples
+pub mod ListLaws
+pub mod SumLaws
+pub mod Pigeonhole
+pub mod Tests
+pub mod Walks
+pub mod Graphs
+pub mod Potentials
+pub mod Rounds
+pub mod Differences
+pub mod CycleWeights
+pub mod QuietGraphs
+pub mod Decision
+pub mod RunLaws
+pub mod Ceiling
+pub mod CycleSetLaws
+pub mod Exclusion
+pub mod PassingExamples

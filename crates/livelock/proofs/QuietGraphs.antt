@@ -1,0 +1,124 @@
+-- The quiet rows of one machine as a graph, in which a simple cycle is longer than 0 exactly when it weighs zero or more.
+use mathlib.Core.Path.{_≡_, subst}
+use mathlib.Core.Logic.{_↔_}
+use mathlib.Core.Bool.{false, _&&_}
+use mathlib.Core.List.{List, map}
+use Prim.Native.Nat.{ℕ, suc, _+_, _*_, _≤_, _<_}
+use native.Mathlib.Nat.{le-of-suc-le-suc, mul-le-mul-left, lt-of-mul-lt-mul-left}
+use native.Mathlib.Omega.{arith}
+use lib.ListN.{length, getD, length-map}
+use lib.Dec.{eqb}
+use lib.IntN.{pos}
+use lib.Signed.{_≤ℤ_}
+use Rattle.livelock.specs.Lists.{sum}
+use Rattle.livelock.specs.Plants.{Plant, rowAt, rowCount, machineCount, stateCount, hasProgress, isQuiet, WellFormed}
+use Rattle.livelock.specs.Cycles.{leaves, enters, RowOf, firstLeft, SimpleCycle, Quiet}
+use Rattle.livelock.specs.Weights.{cycleWeight}
+use Rattle.livelock.specs.Figures.{mostStates}
+use Rattle.livelock.proofs.ListLaws.{all-weaken, all-both, all-at, all-of-map}
+use Rattle.livelock.proofs.SumLaws.{sum-add, sum-ones, sum-times, greatest-below}
+use Rattle.livelock.proofs.Pigeonhole.{pigeonhole}
+use Rattle.livelock.proofs.Tests.{both-iff, equal-iff, not-iff}
+use Rattle.livelock.proofs.Walks.{walk-first}
+use Rattle.livelock.proofs.Graphs.{Graph, IsEdge, Within, Cycle, Positive}
+use Rattle.livelock.proofs.CycleWeights.{sentWeight, takenWeight, row-fits, zero-or-more-iff}
+
+-- The edges are the quiet rows of machine m. Row k has the length 1 + n × (weight sent − weight taken).
+abbrev pub quietGraph : Plant → List ℕ → ℕ → Graph
+quietGraph P ws m =
+    record {
+      size = rowCount P;
+      counts = λ k. eqb (rowAt P k .machine) m && isQuiet (rowAt P k);
+      src = leaves P;
+      dst = enters P;
+      plus = λ k. 1 + mostStates P * sentWeight P ws k;
+      minus = λ k. mostStates P * takenWeight P ws k;
+    }
+
+-- A quiet row of machine m.
+abbrev pub QuietRowOf : Plant → ℕ → ℕ → Type 0
+QuietRowOf P m k = RowOf P m k × (hasProgress (rowAt P k) ≡ false)
+
+pub edge-iff : (P : Plant) (ws : List ℕ) (m k : ℕ) → IsEdge (quietGraph P ws m) k ↔ QuietRowOf P m k
+edge-iff P ws m k =
+    let t = both-iff _ _ (equal-iff (rowAt P k .machine) m) (not-iff (hasProgress (rowAt P k))) in
+    (λ e. ((e .0, t .0 (e .1) .0), t .0 (e .1) .1), λ r. (r .0 .0, t .1 (r .0 .1, r .1)))
+
+-- ---- its simple cycles are the quiet simple cycles of machine m
+
+module _ (P : Plant) (ws : List ℕ) (m : ℕ) (c : List ℕ) where
+  pub graph-cycle : SimpleCycle P m c → Quiet P c → Cycle (quietGraph P ws m) c
+  graph-cycle s q =
+      record {
+        non-empty = s .non-empty;
+        edges = all-weaken (QuietRowOf P m) _ (λ k. edge-iff P ws m k .1) c (all-both (RowOf P m) _ c (s .of-machine) q);
+        at = firstLeft P c;
+        closed = s .closed;
+        once = s .once;
+      }
+
+  pub simple-cycle : Cycle (quietGraph P ws m) c → SimpleCycle P m c
+  simple-cycle g =
+      record {
+        non-empty = g .non-empty;
+        of-machine = all-weaken (IsEdge (quietGraph P ws m)) _ (λ k e. edge-iff P ws m k .0 e .0) c (g .edges);
+        closed = walk-first (leaves P) (enters P) (g .at) c (g .non-empty) (g .closed);
+        once = g .once;
+      }
+
+  pub quiet-cycle : Cycle (quietGraph P ws m) c → Quiet P c
+  quiet-cycle g = all-weaken (IsEdge (quietGraph P ws m)) _ (λ k e. edge-iff P ws m k .0 e .1) c (g .edges)
+
+-- ---- states
+
+module _ (P : Plant) (wf : WellFormed P) (m : ℕ) where
+  -- A row of machine m leads from one of its states to another.
+  pub row-within : (k : ℕ) → RowOf P m k → (leaves P k < stateCount P m) × (enters P k < stateCount P m)
+  row-within k r =
+      let fits = row-fits P wf k (r .0) in
+      (subst (λ (x : ℕ). leaves P k < stateCount P x) (r .1) (fits .left), subst (λ (x : ℕ). enters P k < stateCount P x) (r .1) (fits .entered))
+
+  pub quiet-within : (ws : List ℕ) → Within (quietGraph P ws m) (stateCount P m)
+  quiet-within ws k e = row-within k (edge-iff P ws m k .0 e .0)
+
+  -- A simple cycle has no more rows than its machine has states, since it leaves each state once at most.
+  pub cycle-length : (c : List ℕ) → SimpleCycle P m c → length c ≤ stateCount P m
+  cycle-length c s =
+      rw
+      (← length-map c (leaves P))
+      (pigeonhole (stateCount P m) (map (leaves P) c) (s .once) (all-of-map _ (leaves P) c (all-weaken (RowOf P m) _ (λ k r. row-within k r .0) c (s .of-machine))))
+
+  -- The machine of a simple cycle is one of the plant's.
+  pub cycle-machine : (c : List ℕ) → SimpleCycle P m c → m < machineCount P
+  cycle-machine c s =
+      let r = all-at (RowOf P m) 0 c (s .of-machine) 0 (s .non-empty) in
+      subst (λ (x : ℕ). x < machineCount P) (r .1) (row-fits P wf (getD c 0 0) (r .0) .machine)
+
+-- No machine has more than n states.
+pub most-states : (P : Plant) (m : ℕ) → m < machineCount P → stateCount P m ≤ mostStates P
+most-states P m l = omega (arith, greatest-below (stateCount P) (machineCount P) m l)
+
+-- ---- lengths
+
+-- A quiet simple cycle of k rows has the length k + n × its weight, and 1 ≤ k ≤ n.
+-- So the length is at least 1 if the weight is zero or more, and at most n − n = 0 if the weight is below zero.
+module _ (P : Plant) (wf : WellFormed P) (ws : List ℕ) (m : ℕ) (c : List ℕ) (s : SimpleCycle P m c) where
+  total-plus : sum (quietGraph P ws m .plus) c ≡ length c + mostStates P * sum (sentWeight P ws) c
+  total-plus = omega (arith, sum-add (λ k. 1) (λ k. mostStates P * sentWeight P ws k) c, sum-ones c, sum-times (mostStates P) (sentWeight P ws) c)
+
+  total-minus : sum (quietGraph P ws m .minus) c ≡ mostStates P * sum (takenWeight P ws) c
+  total-minus = sum-times (mostStates P) (takenWeight P ws) c
+
+  at-most : length c ≤ mostStates P
+  at-most = omega (arith, cycle-length P wf m c s, most-states P m (cycle-machine P wf m c s))
+
+  not-lighter : Positive (quietGraph P ws m) c → sum (takenWeight P ws) c ≤ sum (sentWeight P ws) c
+  not-lighter h =
+      let l : mostStates P * sum (takenWeight P ws) c < mostStates P * suc (sum (sentWeight P ws) c) = omega (arith, total-plus, total-minus, at-most) in
+      le-of-suc-le-suc (lt-of-mul-lt-mul-left (mostStates P) l)
+
+  longer : sum (takenWeight P ws) c ≤ sum (sentWeight P ws) c → Positive (quietGraph P ws m) c
+  longer h = omega (arith, total-plus, total-minus, mul-le-mul-left (mostStates P) h, s .non-empty)
+
+  pub positive-iff : Positive (quietGraph P ws m) c ↔ (pos 0 ≤ℤ cycleWeight P ws c)
+  positive-iff = let z = zero-or-more-iff P wf ws c in (λ h. z .1 (not-lighter h), λ h. longer (z .0 h))

@@ -1,0 +1,34 @@
+-- The figures F, n and G of demand 3, and the ceiling (document 01, "Quoting").
+use mathlib.Core.List.{List}
+use Prim.Native.Nat.{ℕ, _+_, _-_, _*_}
+use Rattle.livelock.specs.Lists.{below, sum, greatest}
+use Rattle.livelock.specs.Plants.{Plant, machineCount, stateCount}
+use Rattle.livelock.specs.Weights.{weight}
+
+-- "S sums each machine's states less one".
+abbrev pub statesLessOne : Plant → ℕ
+statesLessOne P = sum (λ m. stateCount P m - 1) (below (machineCount P))
+
+-- "n is the most states in one machine".
+abbrev pub mostStates : Plant → ℕ
+mostStates P = greatest (stateCount P) (below (machineCount P))
+
+-- "w is the largest weight", and "w is 0 with no types".
+abbrev pub largestWeight : Plant → List ℕ → ℕ
+largestWeight P ws = greatest (weight ws) (below (P .types))
+
+-- "F = S + n × w × S".
+abbrev pub base : Plant → List ℕ → ℕ
+base P ws = statesLessOne P + mostStates P * largestWeight P ws * statesLessOne P
+
+-- "G = n − 1 + n × n × w".
+abbrev pub perProgress : Plant → List ℕ → ℕ
+perProgress P ws = (mostStates P - 1) + mostStates P * mostStates P * largestWeight P ws
+
+-- "W sums weight times opening content over the types".
+abbrev pub contentsWeight : Plant → List ℕ → (ℕ → ℕ) → ℕ
+contentsWeight P ws content = sum (λ t. weight ws t * content t) (below (P .types))
+
+-- "the ceiling is F + n × W + G × g, W being the sum of weight times content".
+abbrev pub ceilingOf : Plant → List ℕ → (ℕ → ℕ) → ℕ → ℕ
+ceilingOf P ws content g = base P ws + mostStates P * contentsWeight P ws content + perProgress P ws * g

@@ -1,0 +1,8 @@
+-- The definitions of the theory, a file for each subject of document 01.
+pub mod Lists
+pub mod Plants
+pub mod Runs
+pub mod Cycles
+pub mod Weights
+pub mod Figures
+pub mod CycleSets

@@ -1,0 +1,84 @@
+"""Hold the documents to the source.
+
+- Each line of the antt blocks in docs/ceiling.md stands in a file of crate livelock.
+- Each name in the definition and theorem columns of docs/map.md is declared in the file that the row names,
+  each must-fail edit that it names exists, and each must-fail edit has a row.
+
+    python3 tests/documents.py
+"""
+import glob
+import os
+import re
+import sys
+
+ROOT = os.path.dirname(os.path.dirname(os.path.abspath(__file__)))
+faults = []
+
+
+def read(path):
+    with open(os.path.join(ROOT, path), encoding='utf-8') as source:
+        return source.read()
+
+
+def files(pattern):
+    return sorted(os.path.relpath(p, ROOT) for p in glob.glob(os.path.join(ROOT, pattern), recursive=True))
+
+
+def antt_lines():
+    return {line.strip() for path in files('crates/*/*/**/*.antt') + files('crates/*/*/*.antt') for line in read(path).split('\n')}
+
+
+def hold_excerpts(path):
+    known, inside = antt_lines(), False
+    for number, line in enumerate(read(path).split('\n'), 1):
+        if line.startswith('```'):
+            inside = line == '```antt'
+        elif inside and line.strip() and not line.startswith('--') and line.strip() not in known:
+            faults.append('%s:%d: stands in no antt file: %s' % (path, number, line))
+
+
+def declared(path):
+    """The names that an antt file declares: definitions, theorems, types and fields."""
+    names = set()
+    for line in read(path).split('\n'):
+        found = re.match(r'\s*(?:(?:unfoldable|abbrev|pub|record|data) )*([^\s(){}.;,]+)(?: \(.*\))?(?: \{[^}]*\})? :', line)
+        if found:
+            names.add(found.group(1))
+    return names
+
+
+def hold_map(path):
+    named_edits = set()
+    for number, line in enumerate(read(path).split('\n'), 1):
+        cells = [cell.strip() for cell in line.strip().strip('|').split('|')]
+        if not line.startswith('|') or len(cells) != 4 or set(cells[0]) <= {'-', ' '} or cells[0] == 'Sentence':
+            continue
+        for cell in cells[1:3]:
+            for group in cell.split(';'):
+                place = re.search(r'\(([A-Za-z_]+/(?:specs|proofs)/[A-Za-z]+)\)', group)
+                names = re.findall(r'`([^`]+)`', group)
+                if names and not place:
+                    faults.append('%s:%d: no file is named for %s' % (path, number, ', '.join(names)))
+                elif names:
+                    source = 'crates/%s.antt' % place.group(1)
+                    if not os.path.exists(os.path.join(ROOT, source)):
+                        faults.append('%s:%d: there is no %s' % (path, number, source))
+                        continue
+                    for name in set(names) - declared(source):
+                        faults.append('%s:%d: %s does not declare %s' % (path, number, source, name))
+        named_edits |= set(re.findall(r'`([^`]+)`', cells[3]))
+    edits = {p.split('/')[1] + '/' + os.path.splitext(os.path.basename(p))[0] for p in files('crates/*/must-fail/*.edit')}
+    faults.extend('%s: there is no must-fail edit %s' % (path, name) for name in sorted(named_edits - edits))
+    faults.extend('%s: no row names the must-fail edit %s' % (path, name) for name in sorted(edits - named_edits))
+
+
+def main():
+    hold_excerpts('docs/ceiling.md')
+    hold_map('docs/map.md')
+    if faults:
+        sys.exit('\n'.join(['documents.py:'] + faults))
+    print('documents.py: the excerpts and the map agree with the source')
+
+
+if __name__ == '__main__':
+    main()
