@@ -1,13 +1,14 @@
 -- Examples that the checker computes from the definitions alone, so that an edit of a definition is caught here first.
 use mathlib.Core.Path.{_≡_, refl}
-use mathlib.Core.Bool.{true, false, true≢false}
+use mathlib.Core.Bool.{Bool, true, false, true≢false}
 use mathlib.Core.Option.{none, some}
 use mathlib.Core.List.{List, [], _∷_}
-use Prim.Native.Nat.{ℕ}
+use Prim.Native.Nat.{ℕ, zero, suc, _<_}
 use native.Mathlib.Nat.{not-suc-le-zero}
 use native.Mathlib.Omega.{arith}
 use lib.ListN.{getD}
 use lib.IntN.{pos, negsuc}
+use lib.Signed.{_≤ℤ_, leZ-yes}
 use lib.Dec.{lit<}
 use Rattle.livelock.specs.Lists.{below, sum, sumℤ, greatest, All, Distinct}
 use Rattle.livelock.specs.Plants.{Plant, hasProgress}
@@ -18,34 +19,43 @@ use Rattle.livelock.specs.Weights.{cycleWeight, Passes}
 use Rattle.livelock.specs.Figures.{statesLessOne, mostStates, largestWeight, base, perProgress, contentsWeight, ceilingOf}
 use Rattle.livelock.specs.CycleSets.{Entry, setEffect, Balanced}
 
--- ---- plant A of document 01: machine 0 is the panel, machine 1 the probe
+-- ---- plants A and B of document 01
 
-unfoldable pub plantA : Plant
-plantA =
+-- Machine 0 is the panel, machine 1 the probe. The panel's row 1 takes the probe's answer, with the progress mark or without.
+unfoldable pub panelAndProbe : Bool → Plant
+panelAndProbe mark =
     record {
       types = 2;
       states = 2 ∷ 2 ∷ [];
       rows =
           record { machine = 0; left = 0; entered = 1; sent = some 0; taken = none; progress = false }
-          ∷ record { machine = 0; left = 1; entered = 0; sent = none; taken = some 1; progress = true }
+          ∷ record { machine = 0; left = 1; entered = 0; sent = none; taken = some 1; progress = mark }
           ∷ record { machine = 1; left = 0; entered = 1; sent = none; taken = some 0; progress = false }
           ∷ record { machine = 1; left = 1; entered = 0; sent = some 1; taken = none; progress = false }
           ∷ [];
     }
 
+abbrev pub plantA : Plant
+plantA = panelAndProbe true
+
+abbrev pub plantB : Plant
+plantB = panelAndProbe false
+
+-- ---- figures of plant A
+
 -- Weights 2, 1: F 10, n 2, G 9.
 figures-2-1 : (base plantA (2 ∷ 1 ∷ []) ≡ 10) × (mostStates plantA ≡ 2) × (perProgress plantA (2 ∷ 1 ∷ []) ≡ 9)
-unfolding plantA below sum greatest
+unfolding panelAndProbe below sum greatest
 figures-2-1 = (refl, refl, refl)
 
 -- Weights 1, 0: F 6, n 2, G 5.
 figures-1-0 : (base plantA (1 ∷ 0 ∷ []) ≡ 6) × (mostStates plantA ≡ 2) × (perProgress plantA (1 ∷ 0 ∷ []) ≡ 5)
-unfolding plantA below sum greatest
+unfolding panelAndProbe below sum greatest
 figures-1-0 = (refl, refl, refl)
 
 -- Of weights 1, 2 the largest is the second.
 largest-1-2 : largestWeight plantA (1 ∷ 2 ∷ []) ≡ 2
-unfolding plantA below greatest
+unfolding panelAndProbe below greatest
 largest-1-2 = refl
 
 -- The most states may be those of the second machine.
@@ -65,11 +75,11 @@ with-loss : List Event
 with-loss = row 2 ∷ row 0 ∷ row 2 ∷ row 9 ∷ loss 7 ∷ loss 0 ∷ row 3 ∷ loss 1 ∷ row 1 ∷ []
 
 run-with-loss : (quietRows plantA empty with-loss ≡ 3) × (progressRows plantA empty with-loss ≡ 0)
-unfolding plantA empty with-loss sum run canHappen changed after isQuietRow isProgressRow hasProgress
+unfolding panelAndProbe empty with-loss sum run canHappen changed after isQuietRow isProgressRow hasProgress
 run-with-loss = (refl, refl)
 
 states-after-loss : (afterAll plantA empty with-loss .state 0 ≡ 1) × (afterAll plantA empty with-loss .state 1 ≡ 0)
-unfolding plantA empty with-loss canHappen changed after afterAll
+unfolding panelAndProbe empty with-loss canHappen changed after afterAll
 states-after-loss = (refl, refl)
 
 -- The same without loss 1.
@@ -77,19 +87,25 @@ without-loss : List Event
 without-loss = row 2 ∷ row 0 ∷ row 2 ∷ row 9 ∷ loss 7 ∷ loss 0 ∷ row 3 ∷ row 1 ∷ []
 
 run-without-loss : (quietRows plantA empty without-loss ≡ 3) × (progressRows plantA empty without-loss ≡ 1)
-unfolding plantA empty without-loss sum run canHappen changed after isQuietRow isProgressRow hasProgress
+unfolding panelAndProbe empty without-loss sum run canHappen changed after isQuietRow isProgressRow hasProgress
 run-without-loss = (refl, refl)
 
--- ---- cycles of plant A
+-- ---- cycles
 
--- With weights 2, 1 the probe's cycle weighs −1,
-probe-weight : cycleWeight plantA (2 ∷ 1 ∷ []) (2 ∷ 3 ∷ []) ≡ negsuc 0
-unfolding plantA below sum sumℤ cycleWeight
-probe-weight = refl
+-- The panel's cycle and the probe's.
+panel-cycle : (mark : Bool) → SimpleCycle (panelAndProbe mark) 0 (0 ∷ 1 ∷ [])
+unfolding panelAndProbe All Walk Distinct
+panel-cycle mark =
+    record {
+      non-empty = lit< tt;
+      of-machine = ((lit< tt, refl), ((lit< tt, refl), tt));
+      closed = (refl, (refl, refl));
+      once = ((λ e. omega arith, tt), (tt, tt));
+    }
 
-pub probe-cycle : SimpleCycle plantA 1 (2 ∷ 3 ∷ [])
-unfolding plantA All Walk Distinct
-probe-cycle =
+pub probe-cycle : (mark : Bool) → SimpleCycle (panelAndProbe mark) 1 (2 ∷ 3 ∷ [])
+unfolding panelAndProbe All Walk Distinct
+probe-cycle mark =
     record {
       non-empty = lit< tt;
       of-machine = ((lit< tt, refl), ((lit< tt, refl), tt));
@@ -98,29 +114,33 @@ probe-cycle =
     }
 
 pub probe-quiet : Quiet plantA (2 ∷ 3 ∷ [])
-unfolding plantA All hasProgress
+unfolding panelAndProbe All hasProgress
 probe-quiet = (refl, (refl, tt))
 
--- and with weights 1, 1 it weighs 0, so these do not pass.
+-- The panel's has progress in plant A.
+panel-not-quiet : Quiet plantA (0 ∷ 1 ∷ []) → ⊥
+unfolding panelAndProbe All hasProgress
+panel-not-quiet q = true≢false (q .1 .0)
+
+-- With weights 2, 1 the probe's cycle weighs −1. With weights 1, 1 it weighs 0, so these do not pass.
+probe-weight : cycleWeight plantA (2 ∷ 1 ∷ []) (2 ∷ 3 ∷ []) ≡ negsuc 0
+unfolding panelAndProbe below sum sumℤ cycleWeight
+probe-weight = refl
+
 not-1-1 : Passes plantA (1 ∷ 1 ∷ []) → ⊥
-unfolding plantA below sum sumℤ cycleWeight
-not-1-1 ok = ok 1 (2 ∷ 3 ∷ []) probe-cycle probe-quiet .lt
+unfolding panelAndProbe below sum sumℤ cycleWeight
+not-1-1 ok = ok 1 (2 ∷ 3 ∷ []) (probe-cycle true) probe-quiet .lt
 
 -- Row 2 alone does not lead back, and twice round the cycle each state is left twice.
 open-walk : SimpleCycle plantA 1 (2 ∷ []) → ⊥
-unfolding plantA Walk
+unfolding panelAndProbe Walk
 open-walk s = let e = s .closed .1 in omega arith
 
 twice-round : SimpleCycle plantA 1 (2 ∷ 3 ∷ 2 ∷ 3 ∷ []) → ⊥
-unfolding plantA All Distinct
+unfolding panelAndProbe All Distinct
 twice-round s = s .once .0 .1 .0 refl
 
--- The panel's cycle has progress.
-panel-not-quiet : Quiet plantA (0 ∷ 1 ∷ []) → ⊥
-unfolding plantA All hasProgress
-panel-not-quiet q = true≢false (q .1 .0)
-
--- ---- cycle sets of plant A
+-- ---- cycle sets
 
 abbrev pub panel : Entry
 panel = record { machine = 0; repeats = 3; cycle = 0 ∷ 1 ∷ [] }
@@ -130,12 +150,12 @@ probe = record { machine = 1; repeats = 3; cycle = 2 ∷ 3 ∷ [] }
 
 -- The panel's cycle three times sends three of type 0 and takes three of type 1.
 panel-sums : (setEffect plantA (panel ∷ []) 0 ≡ pos 3) × (setEffect plantA (panel ∷ []) 1 ≡ negsuc 2)
-unfolding plantA sum sumℤ setEffect
+unfolding panelAndProbe sum sumℤ setEffect
 panel-sums = (refl, refl)
 
 -- It takes more than it sends of type 1. The empty set repeats nothing. With the probe's cycle the sums are zero, but the panel's has progress.
 panel-not-balanced : Balanced plantA (panel ∷ []) → ⊥
-unfolding plantA sum sumℤ setEffect
+unfolding panelAndProbe sum sumℤ setEffect
 panel-not-balanced b = b .none-consumed 1 (lit< tt) .le
 
 empty-not-balanced : Balanced plantA [] → ⊥
@@ -146,6 +166,23 @@ progress-not-balanced : Balanced plantA (panel ∷ probe ∷ []) → ⊥
 unfolding All
 progress-not-balanced b = panel-not-quiet (b .no-progress .0)
 
+-- In plant B, where it has none, both cycles together are balanced.
+pub both-balanced : Balanced plantB (panel ∷ probe ∷ [])
+unfolding panelAndProbe sum sumℤ setEffect All hasProgress
+both-balanced =
+    record {
+      simple = (panel-cycle false, (probe-cycle false, tt));
+      none-consumed = sums;
+      some-repeated = lit< tt;
+      no-progress = ((refl, (refl, tt)), ((refl, (refl, tt)), tt));
+      repeated = (lit< tt, (lit< tt, tt));
+    }
+  where
+    sums : (t : ℕ) → t < 2 → pos 0 ≤ℤ setEffect plantB (panel ∷ probe ∷ []) t
+    sums zero l = leZ-yes tt
+    sums (suc zero) l = leZ-yes tt
+    sums (suc (suc t)) l = absurd (omega arith)
+
 -- ---- ceilings
 
 -- Plant A, weights 2, 1, contents 3, 4, g 1: W 10, ceiling 39.
@@ -153,7 +190,7 @@ three-and-four : ℕ → ℕ
 three-and-four t = getD (3 ∷ 4 ∷ []) t 0
 
 ceiling-39 : (contentsWeight plantA (2 ∷ 1 ∷ []) three-and-four ≡ 10) × (ceilingOf plantA (2 ∷ 1 ∷ []) three-and-four 1 ≡ 39)
-unfolding plantA three-and-four below sum greatest
+unfolding panelAndProbe three-and-four below sum greatest
 ceiling-39 = (refl, refl)
 
 -- A plant that meets its ceiling: one state, row 0 takes type 0, row 1 sends it with progress. Weight 1: F 0, n 1, G 1.

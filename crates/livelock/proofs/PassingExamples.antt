@@ -1,7 +1,8 @@
--- Weights that pass, by the test, and what the theorems then say.
+-- Weights that pass, by the test, and weights that do not, and what the theorems then say.
 use mathlib.Core.Path.{refl}
+use mathlib.Core.Bool.{true}
 use mathlib.Core.List.{List, [], _∷_}
-use Prim.Native.Nat.{_+_, _*_, _≤_}
+use Prim.Native.Nat.{ℕ, _+_, _*_, _≤_}
 use lib.Signed.{leZ-yes}
 use Rattle.livelock.specs.Lists.{below, sum, sumℤ, greatest}
 use Rattle.livelock.specs.Plants.{hasProgress, WellFormed}
@@ -12,28 +13,33 @@ use Rattle.livelock.proofs.Tests.{every, well-formed-iff}
 use Rattle.livelock.proofs.Graphs.{via, longest}
 use Rattle.livelock.proofs.Decision.{statePotential, passing-iff}
 use Rattle.livelock.proofs.Ceiling.{ceiling}
-use Rattle.livelock.proofs.BasicExamples.{plantA, probe-cycle, probe-quiet, tight}
+use Rattle.livelock.proofs.Exclusion.{exclusion}
+use Rattle.livelock.proofs.BasicExamples.{panelAndProbe, plantA, probe-cycle, probe-quiet, panel, probe, plantB, both-balanced, tight}
 
 formed-A : WellFormed plantA
-unfolding plantA every
+unfolding panelAndProbe every
 formed-A = well-formed-iff plantA .0 refl
 
 -- Weights 2, 1 pass in plant A, so every run of it stays within its ceiling.
 passes-2-1 : Passes plantA (2 ∷ 1 ∷ [])
-unfolding plantA below greatest every statePotential longest via hasProgress
+unfolding panelAndProbe below greatest every statePotential longest via hasProgress
 passes-2-1 = passing-iff plantA formed-A (2 ∷ 1 ∷ []) .0 refl
 
 runs-of-A : (c : Configuration) (events : List Event)
     → quietRows plantA c events ≤ 10 + 2 * contentsWeight plantA (2 ∷ 1 ∷ []) (c .content) + 9 * progressRows plantA c events
-unfolding plantA below sum greatest
+unfolding panelAndProbe below sum greatest
 runs-of-A = ceiling plantA formed-A (2 ∷ 1 ∷ []) passes-2-1
 
 -- With weights 1, 1 the probe's cycle weighs 0 and may be shown.
 shown-1-1 : FailingCycle plantA (1 ∷ 1 ∷ []) (2 ∷ 3 ∷ [])
-unfolding plantA below sum sumℤ cycleWeight
-shown-1-1 = record { machine = 1; simple = probe-cycle; quiet = probe-quiet; weighs = leZ-yes tt }
+unfolding panelAndProbe below sum sumℤ cycleWeight
+shown-1-1 = record { machine = 1; simple = probe-cycle true; quiet = probe-quiet; weighs = leZ-yes tt }
 
 -- The plant that meets its ceiling passes with weight 1.
 tight-passes : Passes tight (1 ∷ [])
 unfolding tight below greatest every statePotential longest via hasProgress
 tight-passes = passing-iff tight (well-formed-iff tight .0 refl) (1 ∷ []) .0 refl
+
+-- Plant B has a balanced set, so no weights pass.
+none-pass-in-B : (weights : List ℕ) → Passes plantB weights → ⊥
+none-pass-in-B ws ok = exclusion plantB ws ok (panel ∷ probe ∷ []) both-balanced

@@ -22,7 +22,7 @@ pub record Plant : Type 0 where
   pub states : List ℕ
   pub rows : List Row
 
--- What `rowAt` gives for a number that the plant lacks; no definition rests on it, since each asks for a number below the count.
+-- What `rowAt` gives for a number that the plant lacks. Runs and cycles have only rows of the plant, so no promise speaks of it.
 abbrev pub noRow : Row
 noRow = record { machine = 0; left = 0; entered = 0; sent = none; taken = none; progress = false }
 
