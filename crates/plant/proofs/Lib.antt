@@ -1,0 +1,9 @@
+pub mod BasicExamples
+pub mod Told
+pub mod ByteLaws
+pub mod Bounds
+pub mod TypeLaws
+pub mod TableLaws
+pub mod RowLaws
+pub mod MachineLaws
+pub mod PlantLaws

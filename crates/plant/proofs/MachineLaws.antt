@@ -1,0 +1,82 @@
+-- Laws of `readMachine` and `readMachines`, for the functions that read machines.
+use mathlib.Core.Path.{_≡_, sym, subst}
+use mathlib.Core.List.{List}
+use Prim.Native.Nat.{ℕ, suc, _+_, _-_, _<_, _≤_, zero-le}
+use native.Mathlib.Nat.{le-of-eq, le-refl}
+use native.Mathlib.Omega.{arith}
+use lib.ListN.{length, take, drop, length-drop}
+use lib.Seq.{take-all}
+use Rattle.livelock.specs.Plants.{Plant}
+use Rattle.plant.specs.Found.{Found, found, fault, andThen, movedBy}
+use Rattle.plant.specs.Reading.{byteIn, withMachine, readRows, rowsByte, readMachine, readMachines}
+use Rattle.plant.specs.Limits.{Placed, at-the-end, within}
+use Rattle.plant.specs.Tables.{plantOf, Sound}
+use Rattle.plant.specs.Answers.{endFound, offsetOf, decodedFound}
+use Rattle.plant.specs.declared.Decoded.{Decoded}
+use Rattle.plant.specs.declared.End.{End}
+use Rattle.plant.specs.declared.End.the-variants as Ends
+use Rattle.plant.specs.declared.PlantTable.{PlantTable}
+use Rattle.plant.proofs.TableLaws.{rows-so-far, machines-so-far}
+use Rattle.plant.proofs.Bounds.{Each, got, stopped, readRows-each}
+
+-- `&s[b..]`, as the rule for it has it.
+part-is : (s : List ℕ) (b : ℕ) → take (length s - b) (drop b s) ≡ drop b s
+part-is s b = take-all (length s - b) (drop b s) (le-of-eq (length-drop b s))
+
+-- ---- one machine
+
+module _ (s : List ℕ) (at : ℕ) (t : PlantTable) (sound : Sound t (t .machines)) where
+  pub no-states : (number place : ℕ) → byteIn 1 65 3 s at ≡ fault number place → fault number place ≡ readMachine s at (plantOf t)
+  unfolding readMachine
+  no-states number place e = rw e
+
+  pub no-rows : (states a number place : ℕ) → byteIn 1 65 3 s at ≡ found states a → rowsByte (t .rows) s a ≡ fault number place
+      → fault number place ≡ readMachine s at (plantOf t)
+  unfolding readMachine
+  no-rows states a number place e f = rw (e, rows-so-far t, f)
+
+  pub machine-read : (states a n b : ℕ) (x : Found Plant) (q : Plant) → t .machines < 16 → byteIn 1 65 3 s at ≡ found states a → rowsByte (t .rows) s a ≡ found n b
+      → q ≡ withMachine (plantOf t) states → x ≡ readRows n (t .machines) states 0 (take (length s - b) (drop b s)) 0 q → movedBy b x ≡ readMachine s at (plantOf t)
+  unfolding readMachine
+  machine-read states a n b x q room e f w h =
+      let m = machines-so-far t _ sound (omega arith) in
+      let g = subst (λ (p : Plant). x ≡ readRows n (t .machines) states 0 (take (length s - b) (drop b s)) 0 p) w h in
+      rw (e, rows-so-far t, f, m, g, part-is)
+
+place-within : (n number place : ℕ) → Placed n number place → place ≤ n
+place-within n number place at-the-end = le-refl n
+place-within n number place (within h l) = omega arith
+
+end-within : (J : Plant → ℕ → Type 0) (n : ℕ) (p : Plant) (e : End) → Each (λ q next. (next ≤ n) × J q next) n (endFound e p) → offsetOf e ≤ n
+end-within J n p (Ends.At next) (got h) = h .0
+end-within J n p (Ends.Fault f) (stopped h) = place-within n (f .number) (f .place) h
+
+-- Reading rows in the part from b on ends in that part.
+pub rows-end : (n m states b : ℕ) (s : List ℕ) (p : Plant) (d : Decoded) → 0 < states
+    → decodedFound d ≡ readRows n m states 0 (take (length s - b) (drop b s)) 0 p → offsetOf (d .end) ≤ length s - b
+rows-end n m states b s p d h e =
+    rw
+    (← length-drop b s)
+    (end-within
+    (λ q next. Unit {0})
+    (length (drop b s))
+    (plantOf (d .table))
+    (d .end)
+    (rw (e, part-is) (readRows-each (drop b s) (λ k at q. Unit {0}) m states (λ k at next q r j l i. tt) n 0 0 p h zero-le tt)))
+
+-- ---- what is left to read after i of n machines
+
+module _ (s : List ℕ) (at n i : ℕ) (p : Plant) (x : Found Plant) (h : readMachines (n - i) s at p ≡ x) where
+  one-more : i < n → andThen (readMachine s at p) (λ q next. readMachines (n - (i + 1)) s next q) ≡ x
+  unfolding readMachines
+  one-more more = let e : n - i ≡ suc (n - (i + 1)) = omega arith in rw e at h
+
+  pub machine-stops : i < n → (number place : ℕ) → readMachine s at p ≡ fault number place → fault number place ≡ x
+  machine-stops more number place e = rw e at (one-more more)
+
+  pub machine-goes-on : i < n → (q : Plant) (next : ℕ) → readMachine s at p ≡ found q next → readMachines (n - (i + 1)) s next q ≡ x
+  machine-goes-on more q next e = rw e at (one-more more)
+
+  pub machines-done : n ≤ i → found p at ≡ x
+  unfolding readMachines
+  machines-done done = let e : n - i ≡ 0 = omega arith in rw e at h

@@ -1,0 +1,146 @@
+use borrow.Author.Needs.{needs}
+use Rattle.plant.specs.Reading.{readRow}
+use Rattle.plant.specs.Answers.{fieldFound, typeFound}
+use Rattle.plant.proofs.Told.{told}
+use Rattle.plant.proofs.row_at.Statement.{statement}
+use Rattle.plant.proofs.row_at.Tie as tie
+
+map-byte-requires : tie.Need-map-byte-requires
+map-byte-requires c κs = search needs
+
+enum-known-first : tie.Need-enum-known-first
+enum-known-first c = search needs
+
+enum-known-first-2 : tie.Need-enum-known-first-2
+enum-known-first-2 c = search needs
+
+returns : tie.Need-returns
+unfolding readRow
+returns c = λ m. rw (told fieldFound (c .before .before .before .map-byte .ensures) (c .before .first2 .given .1))
+
+has-bit-requires : tie.Need-has-bit-requires
+has-bit-requires c κs = search needs
+
+state-field-requires : tie.Need-state-field-requires
+state-field-requires c κs = search needs
+
+enum-known-second : tie.Need-enum-known-second
+enum-known-second c = search needs
+
+enum-known-second-2 : tie.Need-enum-known-second-2
+enum-known-second-2 c = search needs
+
+returns-2 : tie.Need-returns-2
+unfolding readRow
+returns-2 c = λ m. rw (
+  told fieldFound (c .before .before .before .before .before .before .before .before .map-byte .ensures) (c .before .before .before .before .before .before .first .given .1),
+  rw (c .before .before .before .before .has-bit .ensures) at (told fieldFound (c .before .before .before .state-field .ensures) (c .before .second2 .given .1)),
+)
+
+has-bit-requires-2 : tie.Need-has-bit-requires-2
+has-bit-requires-2 c κs = search needs
+
+state-field-requires-2 : tie.Need-state-field-requires-2
+state-field-requires-2 c κs = search needs
+
+enum-known-third : tie.Need-enum-known-third
+enum-known-third c = search needs
+
+enum-known-third-2 : tie.Need-enum-known-third-2
+enum-known-third-2 c = search needs
+
+returns-3 : tie.Need-returns-3
+unfolding readRow
+returns-3 c = λ m. rw (
+  told fieldFound (c .before .before .before .before .before .before .before .before .before .before .before .before .before .map-byte .ensures) (c .before .before .before .before .before .before .before .before .before .before .before .first .given .1),
+  rw (c .before .before .before .before .before .before .before .before .before .has-bit .ensures) at (told fieldFound (c .before .before .before .before .before .before .before .before .state-field .ensures) (c .before .before .before .before .before .before .second .given .1)),
+  rw (c .before .before .before .before .has-bit2 .ensures) at (told fieldFound (c .before .before .before .state-field2 .ensures) (c .before .third2 .given .1)),
+)
+
+has-bit-requires-3 : tie.Need-has-bit-requires-3
+has-bit-requires-3 c κs = search needs
+
+type-field-requires : tie.Need-type-field-requires
+type-field-requires c κs = c .before .before .before .before .before .before .before .before .before .before .before .before .before .before .before .before .pre
+
+enum-known-fourth : tie.Need-enum-known-fourth
+enum-known-fourth c = search needs
+
+enum-known-fourth-2 : tie.Need-enum-known-fourth-2
+enum-known-fourth-2 c = search needs
+
+returns-4 : tie.Need-returns-4
+unfolding readRow
+returns-4 c = λ m. rw (
+  told fieldFound (c .before .before .before .before .before .before .before .before .before .before .before .before .before .before .before .before .before .before .map-byte .ensures) (c .before .before .before .before .before .before .before .before .before .before .before .before .before .before .before .before .first .given .1),
+  rw (c .before .before .before .before .before .before .before .before .before .before .before .before .before .before .has-bit .ensures) at (told fieldFound (c .before .before .before .before .before .before .before .before .before .before .before .before .before .state-field .ensures) (c .before .before .before .before .before .before .before .before .before .before .before .second .given .1)),
+  rw (c .before .before .before .before .before .before .before .before .before .has-bit2 .ensures) at (told fieldFound (c .before .before .before .before .before .before .before .before .state-field2 .ensures) (c .before .before .before .before .before .before .third .given .1)),
+  rw (c .before .before .before .before .has-bit3 .ensures) at (told typeFound (c .before .before .before .type-field .ensures) (c .before .fourth2 .given .1)),
+)
+
+has-bit-requires-4 : tie.Need-has-bit-requires-4
+has-bit-requires-4 c κs = search needs
+
+type-field-requires-2 : tie.Need-type-field-requires-2
+type-field-requires-2 c κs = c .before .before .before .before .before .before .before .before .before .before .before .before .before .before .before .before .before .before .before .before .before .pre
+
+enum-known-fifth : tie.Need-enum-known-fifth
+enum-known-fifth c = search needs
+
+enum-known-fifth-2 : tie.Need-enum-known-fifth-2
+enum-known-fifth-2 c = search needs
+
+returns-5 : tie.Need-returns-5
+unfolding readRow
+returns-5 c = λ m. rw (
+  told fieldFound (c .before .before .before .before .before .before .before .before .before .before .before .before .before .before .before .before .before .before .before .before .before .before .before .map-byte .ensures) (c .before .before .before .before .before .before .before .before .before .before .before .before .before .before .before .before .before .before .before .before .before .first .given .1),
+  rw (c .before .before .before .before .before .before .before .before .before .before .before .before .before .before .before .before .before .before .before .has-bit .ensures) at (told fieldFound (c .before .before .before .before .before .before .before .before .before .before .before .before .before .before .before .before .before .before .state-field .ensures) (c .before .before .before .before .before .before .before .before .before .before .before .before .before .before .before .before .second .given .1)),
+  rw (c .before .before .before .before .before .before .before .before .before .before .before .before .before .before .has-bit2 .ensures) at (told fieldFound (c .before .before .before .before .before .before .before .before .before .before .before .before .before .state-field2 .ensures) (c .before .before .before .before .before .before .before .before .before .before .before .third .given .1)),
+  rw (c .before .before .before .before .before .before .before .before .before .has-bit3 .ensures) at (told typeFound (c .before .before .before .before .before .before .before .before .type-field .ensures) (c .before .before .before .before .before .before .fourth .given .1)),
+  rw (c .before .before .before .before .has-bit4 .ensures) at (told typeFound (c .before .before .before .type-field2 .ensures) (c .before .fifth2 .given .1)),
+)
+
+has-bit-requires-5 : tie.Need-has-bit-requires-5
+has-bit-requires-5 c κs = search needs
+
+returns-6 : tie.Need-returns-6
+unfolding readRow
+returns-6 c = λ m. rw (
+  told fieldFound (c .before .before .before .before .before .before .before .before .before .before .before .before .before .before .before .before .before .before .before .before .before .before .before .before .map-byte .ensures) (c .before .before .before .before .before .before .before .before .before .before .before .before .before .before .before .before .before .before .before .before .before .before .first .given .1),
+  rw (c .before .before .before .before .before .before .before .before .before .before .before .before .before .before .before .before .before .before .before .before .has-bit .ensures) at (told fieldFound (c .before .before .before .before .before .before .before .before .before .before .before .before .before .before .before .before .before .before .before .state-field .ensures) (c .before .before .before .before .before .before .before .before .before .before .before .before .before .before .before .before .before .second .given .1)),
+  rw (c .before .before .before .before .before .before .before .before .before .before .before .before .before .before .before .has-bit2 .ensures) at (told fieldFound (c .before .before .before .before .before .before .before .before .before .before .before .before .before .before .state-field2 .ensures) (c .before .before .before .before .before .before .before .before .before .before .before .before .third .given .1)),
+  rw (c .before .before .before .before .before .before .before .before .before .before .has-bit3 .ensures) at (told typeFound (c .before .before .before .before .before .before .before .before .before .type-field .ensures) (c .before .before .before .before .before .before .before .fourth .given .1)),
+  rw (c .before .before .before .before .before .has-bit4 .ensures) at (told typeFound (c .before .before .before .before .type-field2 .ensures) (c .before .before .fifth .given .1)),
+  c .has-bit5 .ensures,
+)
+
+pub row-at-spec : {M : Type 1} → statement M
+row-at-spec =
+    tie.close
+    (tie.spec
+    map-byte-requires
+    enum-known-first
+    enum-known-first-2
+    returns
+    has-bit-requires
+    state-field-requires
+    enum-known-second
+    enum-known-second-2
+    returns-2
+    has-bit-requires-2
+    state-field-requires-2
+    enum-known-third
+    enum-known-third-2
+    returns-3
+    has-bit-requires-3
+    type-field-requires
+    enum-known-fourth
+    enum-known-fourth-2
+    returns-4
+    has-bit-requires-4
+    type-field-requires-2
+    enum-known-fifth
+    enum-known-fifth-2
+    returns-5
+    has-bit-requires-5
+    returns-6)

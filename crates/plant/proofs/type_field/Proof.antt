@@ -1,0 +1,19 @@
+use borrow.Author.Needs.{needs}
+use Rattle.plant.specs.Reading.{typeField}
+use Rattle.plant.proofs.TypeLaws.{type-of-byte}
+use Rattle.plant.proofs.type_field.Statement.{statement}
+use Rattle.plant.proofs.type_field.Tie as tie
+
+byte-in-requires : tie.Need-byte-in-requires
+byte-in-requires c κs = search needs
+
+returns : tie.Need-returns
+unfolding typeField
+returns c = rw (c .before .if1 .taken) (type-of-byte _ _ _ (c .byte-in .result) (c .before .before .before .pre) (c .byte-in .ensures))
+
+returns-2 : tie.Need-returns-2
+unfolding typeField
+returns-2 c = rw (c .if1 .left)
+
+pub type-field-spec : {M : Type 1} → statement M
+type-field-spec = tie.close (tie.spec byte-in-requires returns returns-2)

@@ -1,0 +1,35 @@
+-- What holds of every plant that a file reads as (document 01, "The plant file").
+use mathlib.Core.List.{List, [], _∷_}
+use Prim.Native.Nat.{ℕ, _≤_, _<_}
+use lib.Dec.{eqb}
+use Rattle.livelock.specs.Lists.{All, count}
+use Rattle.livelock.specs.Plants.{Row, Plant, rowCount, machineCount, WellFormed}
+
+-- "row numbers run through the whole file": rows stand in ascending order of their machines.
+unfoldable pub Ascending : List Row → Type 0
+Ascending [] = Unit {0}
+Ascending (r ∷ rs) = All (λ q. r .machine ≤ q .machine) rs × Ascending rs
+
+-- How many rows machine m has.
+abbrev pub rowsOf : Plant → ℕ → ℕ
+rowsOf p m = count (λ r. eqb (r .machine) m) (p .rows)
+
+pub record WithinLimits (p : Plant) : Type 0 where
+  pub formed : WellFormed p
+  -- "the count of machines, 1 to 16"
+  pub some-machine : 1 ≤ machineCount p
+  pub few-machines : machineCount p ≤ 16
+  -- "the count of message types, 0 to 64"
+  pub few-types : p .types ≤ 64
+  -- "one byte of states (1 to 64)"
+  pub states : All (λ n. (1 ≤ n) × (n ≤ 64)) (p .states)
+  -- "one byte of rows (0 to 255)"
+  pub rows-each : (m : ℕ) → rowsOf p m ≤ 255
+  -- "All machines together have at most 1,024 rows."
+  pub rows-in-all : rowCount p ≤ 1024
+  pub ascending : Ascending (p .rows)
+
+-- "the file ends before it: file length", and every other place is a byte of the file: the place of a fault in a file of n bytes.
+pub data Placed (n : ℕ) : ℕ → ℕ → Type 0 where
+  at-the-end : Placed n 1 n
+  within : {number place : ℕ} → 2 ≤ number → place < n → Placed n number place
