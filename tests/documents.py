@@ -38,8 +38,10 @@ def hold_excerpts(path):
 
 
 def declared(path):
-    """The names that an antt file declares: definitions, theorems, types and fields."""
+    """The names that a file declares: definitions, theorems, types and fields of antt, functions and types of Rattle."""
     names = set()
+    if path.endswith('.rt'):
+        return set(re.findall(r'(?m)^(?:pub )?(?:extern "C" )?(?:fn|struct|enum|const) ([A-Za-z0-9_]+)', read(path)))
     for line in read(path).split('\n'):
         found = re.match(r'\s*(?:(?:unfoldable|abbrev|pub|record|data) )*([^\s(){}.;,]+)(?: \(.*\))?(?: \{[^}]*\})? :', line)
         if found:
@@ -55,12 +57,12 @@ def hold_map(path):
             continue
         for cell in cells[1:3]:
             for group in cell.split(';'):
-                place = re.search(r'\(([A-Za-z_]+/(?:specs|proofs)/[A-Za-z]+)\)', group)
+                place = re.search(r'\(([a-z_]+/(?:specs|proofs|src)/[A-Za-z_]+)\)', group)
                 names = re.findall(r'`([^`]+)`', group)
                 if names and not place:
                     faults.append('%s:%d: no file is named for %s' % (path, number, ', '.join(names)))
                 elif names:
-                    source = 'crates/%s.antt' % place.group(1)
+                    source = 'crates/%s.%s' % (place.group(1), 'rt' if '/src/' in place.group(1) else 'antt')
                     if not os.path.exists(os.path.join(ROOT, source)):
                         faults.append('%s:%d: there is no %s' % (path, number, source))
                         continue

@@ -1,16 +1,170 @@
 -- Files that the checker reads by the definitions alone, so that an edit of a definition is caught here first.
 use mathlib.Core.Path.{_≡_, refl}
 use mathlib.Core.Bool.{true, false}
-use mathlib.Core.List.{List, [], _∷_}
+use mathlib.Core.Option.{none}
+use mathlib.Core.List.{List, [], _∷_, _++_}
 use Prim.Native.Nat.{ℕ}
-use Rattle.livelock.specs.Plants.{Plant}
+use lib.ListN.{replicate}
 use Rattle.livelock.proofs.BasicExamples.{panelAndProbe, plantA, plantB}
-use Rattle.plant.specs.Found.{Found, found, fault}
+use Rattle.plant.specs.Found.{found, fault}
 use Rattle.plant.specs.Reading.{byteAt, byteThat, byteIn, mapByte, stateField, typeField, readRow, readRows, rowsByte, readMachine, readMachines, readPlant}
 
-fileA : List ℕ
-fileA = 2 ∷ 2 ∷ 2 ∷ 2 ∷ 6 ∷ 1 ∷ 0 ∷ 0x1B ∷ 1 ∷ 0 ∷ 1 ∷ 2 ∷ 2 ∷ 0x0A ∷ 1 ∷ 0 ∷ 7 ∷ 1 ∷ 0 ∷ 1 ∷ []
+-- ---- plants A and B of document 01
 
-reads-A : readPlant fileA ≡ found plantA 20
-unfolding fileA panelAndProbe byteAt byteThat byteIn mapByte stateField typeField readRow readRows rowsByte readMachine readMachines readPlant
+-- The 20 bytes of plant A; plant B has 0B for 1B.
+panelAndProbeFile : ℕ → List ℕ
+panelAndProbeFile map =
+    0x02 ∷ 0x02
+    ∷ 0x02 ∷ 0x02
+    ∷ 0x06 ∷ 0x01 ∷ 0x00
+    ∷ map ∷ 0x01 ∷ 0x00 ∷ 0x01
+    ∷ 0x02 ∷ 0x02
+    ∷ 0x0A ∷ 0x01 ∷ 0x00
+    ∷ 0x07 ∷ 0x01 ∷ 0x00 ∷ 0x01
+    ∷ []
+
+reads-A : readPlant (panelAndProbeFile 0x1B) ≡ found plantA 20
+unfolding panelAndProbeFile panelAndProbe byteAt byteThat byteIn mapByte stateField typeField readRow readRows rowsByte readMachine readMachines readPlant
 reads-A = refl
+
+reads-B : readPlant (panelAndProbeFile 0x0B) ≡ found plantB 20
+unfolding panelAndProbeFile panelAndProbe byteAt byteThat byteIn mapByte stateField typeField readRow readRows rowsByte readMachine readMachines readPlant
+reads-B = refl
+
+-- ---- faults, one by one
+
+-- Number 1: the file ends before byte 0, before byte 1, before a machine, before a map byte and before a field.
+empty-file : readPlant ([]) ≡ fault 1 0
+unfolding byteAt byteThat byteIn mapByte stateField typeField readRow readRows rowsByte readMachine readMachines readPlant
+empty-file = refl
+
+-- At the length of the file.
+one-byte : readPlant (0x01 ∷ []) ≡ fault 1 1
+unfolding byteAt byteThat byteIn mapByte stateField typeField readRow readRows rowsByte readMachine readMachines readPlant
+one-byte = refl
+
+-- The file has 2 of the bytes that it needs.
+no-machine-bytes : readPlant (0x10 ∷ 0x00 ∷ []) ≡ fault 1 2
+unfolding byteAt byteThat byteIn mapByte stateField typeField readRow readRows rowsByte readMachine readMachines readPlant
+no-machine-bytes = refl
+
+-- It ends where a row begins,
+no-map-byte : readPlant (0x01 ∷ 0x00 ∷ 0x01 ∷ 0x01 ∷ []) ≡ fault 1 4
+unfolding byteAt byteThat byteIn mapByte stateField typeField readRow readRows rowsByte readMachine readMachines readPlant
+no-map-byte = refl
+
+-- and where a field begins.
+no-field-byte : readPlant (0x01 ∷ 0x01 ∷ 0x01 ∷ 0x01 ∷ 0x04 ∷ []) ≡ fault 1 5
+unfolding byteAt byteThat byteIn mapByte stateField typeField readRow readRows rowsByte readMachine readMachines readPlant
+no-field-byte = refl
+
+-- Number 2: no machines; 17 of them; 65 types. The value of byte 0 is judged before byte 1 is missed.
+no-machines : readPlant (0x00 ∷ []) ≡ fault 2 0
+unfolding byteAt byteThat byteIn mapByte stateField typeField readRow readRows rowsByte readMachine readMachines readPlant
+no-machines = refl
+
+-- 17 machines.
+many-machines : readPlant (0x11 ∷ 0x00 ∷ []) ≡ fault 2 0
+unfolding byteAt byteThat byteIn mapByte stateField typeField readRow readRows rowsByte readMachine readMachines readPlant
+many-machines = refl
+
+-- 65 types.
+many-types : readPlant (0x01 ∷ 0x41 ∷ []) ≡ fault 2 1
+unfolding byteAt byteThat byteIn mapByte stateField typeField readRow readRows rowsByte readMachine readMachines readPlant
+many-types = refl
+
+-- Number 3: no states, and 65 of them.
+no-states : readPlant (0x01 ∷ 0x00 ∷ 0x00 ∷ 0x00 ∷ []) ≡ fault 3 2
+unfolding byteAt byteThat byteIn mapByte stateField typeField readRow readRows rowsByte readMachine readMachines readPlant
+no-states = refl
+
+-- 65 states.
+many-states : readPlant (0x01 ∷ 0x00 ∷ 0x41 ∷ 0x00 ∷ []) ≡ fault 3 2
+unfolding byteAt byteThat byteIn mapByte stateField typeField readRow readRows rowsByte readMachine readMachines readPlant
+many-states = refl
+
+-- Number 4: bit 5, and bits 2 and 3 together; before the fields, which are faulty too.
+high-bit : readPlant (0x01 ∷ 0x00 ∷ 0x01 ∷ 0x01 ∷ 0x21 ∷ 0x09 ∷ []) ≡ fault 4 4
+unfolding byteAt byteThat byteIn mapByte stateField typeField readRow readRows rowsByte readMachine readMachines readPlant
+high-bit = refl
+
+-- Bits 2 and 3.
+sends-and-takes : readPlant (0x01 ∷ 0x01 ∷ 0x01 ∷ 0x01 ∷ 0x0D ∷ 0x09 ∷ 0x00 ∷ 0x00 ∷ []) ≡ fault 4 4
+unfolding byteAt byteThat byteIn mapByte stateField typeField readRow readRows rowsByte readMachine readMachines readPlant
+sends-and-takes = refl
+
+-- Number 5: state 2 of 2, before the missing byte behind it.
+bad-state : readPlant (0x01 ∷ 0x01 ∷ 0x02 ∷ 0x01 ∷ 0x07 ∷ 0x02 ∷ []) ≡ fault 5 5
+unfolding byteAt byteThat byteIn mapByte stateField typeField readRow readRows rowsByte readMachine readMachines readPlant
+bad-state = refl
+
+-- The state entered is judged so as well.
+bad-entered : readPlant (0x01 ∷ 0x01 ∷ 0x02 ∷ 0x01 ∷ 0x03 ∷ 0x01 ∷ 0x02 ∷ []) ≡ fault 5 6
+unfolding byteAt byteThat byteIn mapByte stateField typeField readRow readRows rowsByte readMachine readMachines readPlant
+bad-entered = refl
+
+-- Number 6: with no types every type field is faulty,
+bad-type : readPlant (0x01 ∷ 0x00 ∷ 0x01 ∷ 0x01 ∷ 0x04 ∷ 0x00 ∷ []) ≡ fault 6 5
+unfolding byteAt byteThat byteIn mapByte stateField typeField readRow readRows rowsByte readMachine readMachines readPlant
+bad-type = refl
+
+-- and type 1 of 1.
+bad-taken : readPlant (0x01 ∷ 0x01 ∷ 0x01 ∷ 0x01 ∷ 0x08 ∷ 0x01 ∷ []) ≡ fault 6 5
+unfolding byteAt byteThat byteIn mapByte stateField typeField readRow readRows rowsByte readMachine readMachines readPlant
+bad-taken = refl
+
+-- Number 8: a byte behind the last row.
+bytes-remain : readPlant (0x01 ∷ 0x00 ∷ 0x01 ∷ 0x00 ∷ 0x00 ∷ []) ≡ fault 8 4
+unfolding byteAt byteThat byteIn mapByte stateField typeField readRow readRows rowsByte readMachine readMachines readPlant
+bytes-remain = refl
+
+-- Number 7: four machines with 255 rows each, and a fifth that announces 5.
+many-rows : List ℕ
+many-rows = 0x05 ∷ 0x00 ∷ (machine ++ machine ++ machine ++ machine ++ (0x01 ∷ 0x05 ∷ []))
+  where
+    machine : List ℕ
+    machine = 0x01 ∷ 0xFF ∷ replicate 255 0x00
+
+total-of-rows : readPlant many-rows ≡ fault 7 1031
+unfolding many-rows byteAt byteThat byteIn mapByte stateField typeField readRow readRows rowsByte readMachine readMachines readPlant
+total-of-rows = refl
+
+-- After 1,020 rows a machine may have 4 and not 5.
+rows-left : (rowsByte 1020 (0x04 ∷ []) 0 ≡ found 4 1) × (rowsByte 1020 (0x05 ∷ []) 0 ≡ fault 7 0)
+unfolding byteAt byteThat rowsByte
+rows-left = (refl, refl)
+
+-- ---- limits and implied states
+
+-- 64 types and 64 states are accepted.
+most-types-and-states : readPlant (0x01 ∷ 0x40 ∷ 0x40 ∷ 0x00 ∷ []) ≡ found (record { types = 64; states = 64 ∷ []; rows = [] }) 4
+unfolding byteAt byteThat byteIn mapByte stateField typeField readRow readRows rowsByte readMachine readMachines readPlant
+most-types-and-states = refl
+
+-- So are 16 machines.
+most-machines : readPlant (0x10 ∷ 0x00 ∷ 0x01 ∷ 0x00 ∷ 0x01 ∷ 0x00 ∷ 0x01 ∷ 0x00 ∷ 0x01 ∷ 0x00 ∷ 0x01 ∷ 0x00 ∷ 0x01 ∷ 0x00 ∷ 0x01 ∷ 0x00 ∷ 0x01 ∷ 0x00 ∷ 0x01 ∷ 0x00 ∷ 0x01 ∷ 0x00 ∷ 0x01 ∷ 0x00 ∷ 0x01 ∷ 0x00 ∷ 0x01 ∷ 0x00 ∷ 0x01 ∷ 0x00 ∷ 0x01 ∷ 0x00 ∷ 0x01 ∷ 0x00 ∷ []) ≡ found (record { types = 0; states = 1 ∷ 1 ∷ 1 ∷ 1 ∷ 1 ∷ 1 ∷ 1 ∷ 1 ∷ 1 ∷ 1 ∷ 1 ∷ 1 ∷ 1 ∷ 1 ∷ 1 ∷ 1 ∷ []; rows = [] }) 34
+unfolding byteAt byteThat byteIn mapByte stateField typeField readRow readRows rowsByte readMachine readMachines readPlant
+most-machines = refl
+
+-- One state and the row 00: it leaves and enters state 0.
+one-row : readPlant (0x01 ∷ 0x00 ∷ 0x01 ∷ 0x01 ∷ 0x00 ∷ []) ≡ found (record { types = 0; states = 1 ∷ []; rows = record { machine = 0; left = 0; entered = 0; sent = none; taken = none; progress = false } ∷ [] }) 5
+unfolding byteAt byteThat byteIn mapByte stateField typeField readRow readRows rowsByte readMachine readMachines readPlant
+one-row = refl
+
+-- Without bit 0 a row leaves the state that the previous row of its machine leaves, and 0 at the first row;
+-- without bit 1 it enters the state that it leaves.
+implied-states : readPlant (0x02 ∷ 0x00 ∷ 0x03 ∷ 0x03 ∷ 0x03 ∷ 0x01 ∷ 0x02 ∷ 0x02 ∷ 0x00 ∷ 0x11 ∷ 0x02 ∷ 0x03 ∷ 0x01 ∷ 0x02 ∷ 0x02 ∷ [])
+    ≡ found
+    (record {
+      types = 0;
+      states = 3 ∷ 3 ∷ [];
+      rows =
+          record { machine = 0; left = 1; entered = 2; sent = none; taken = none; progress = false }
+          ∷ record { machine = 0; left = 1; entered = 0; sent = none; taken = none; progress = false }
+          ∷ record { machine = 0; left = 2; entered = 2; sent = none; taken = none; progress = true }
+          ∷ record { machine = 1; left = 0; entered = 2; sent = none; taken = none; progress = false }
+          ∷ [];
+    })
+    15
+unfolding byteAt byteThat byteIn mapByte stateField typeField readRow readRows rowsByte readMachine readMachines readPlant
+implied-states = refl

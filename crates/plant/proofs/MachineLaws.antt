@@ -1,5 +1,5 @@
 -- Laws of `readMachine` and `readMachines`, for the functions that read machines.
-use mathlib.Core.Path.{_≡_, sym, subst}
+use mathlib.Core.Path.{_≡_, subst}
 use mathlib.Core.List.{List}
 use Prim.Native.Nat.{ℕ, suc, _+_, _-_, _<_, _≤_, zero-le}
 use native.Mathlib.Nat.{le-of-eq, le-refl}

@@ -1,16 +1,16 @@
 -- Laws of a decoded table and the plant that it holds.
-use mathlib.Core.Path.{_≡_, refl, ap, _∙_}
+use mathlib.Core.Path.{_≡_, refl, _∙_}
 use mathlib.Core.Bool.{Bool, false}
 use mathlib.Core.List.{List, [], _∷_, _++_, map, map-append}
 use Prim.Native.Nat.{ℕ, zero, suc, _+_, _≤_, _<_}
-use native.Mathlib.Nat.{not-suc-le-zero}
+use native.Mathlib.Nat.{le-refl, not-suc-le-zero}
 use native.Mathlib.Decide.{ℕ-discrete}
 use native.Mathlib.Numerals.{add-one}
 use native.Mathlib.Omega.{arith}
 use lib.ListN.{length, take, getD, set, length-set, length-map, List·getD-append}
 use lib.Seq.{take-suc-set, length-take-le, getD-set-same, getD-set-other, getD-at}
 use Rattle.livelock.specs.Lists.{below, All}
-use Rattle.livelock.specs.Plants.{Row, Plant, rowAt, noRow}
+use Rattle.livelock.specs.Plants.{Row, rowAt, noRow}
 use Rattle.livelock.proofs.ListLaws.{all-below}
 use Rattle.livelock.proofs.Pigeonhole.{below-length}
 use Rattle.plant.specs.Reading.{withRow, withMachine}
@@ -19,10 +19,11 @@ use Rattle.plant.specs.declared.PlantTable.{PlantTable}
 
 -- ---- counts
 
-pub more-machines : (t : PlantTable) (k l : ℕ) → Sound t k → k ≤ l → Sound t l
-more-machines t k l h le =
+-- The bound on the machines may be any that holds.
+pub recount : (t : PlantTable) (k l : ℕ) → Sound t k → t .machines ≤ l → Sound t l
+recount t k l h few =
     record {
-      few-machines = omega (arith, h .few-machines);
+      few-machines = few;
       few-rows = h .few-rows;
       few-types = h .few-types;
       states-room = h .states-room;
@@ -34,20 +35,11 @@ more-machines t k l h le =
       progress-room = h .progress-room;
     }
 
+pub more-machines : (t : PlantTable) (k l : ℕ) → Sound t k → k ≤ l → Sound t l
+more-machines t k l h le = recount t k l h (omega (arith, h .few-machines))
+
 pub own-machines : (t : PlantTable) (k : ℕ) → Sound t k → Sound t (t .machines)
-own-machines t k h =
-    record {
-      few-machines = omega arith;
-      few-rows = h .few-rows;
-      few-types = h .few-types;
-      states-room = h .states-room;
-      machine-room = h .machine-room;
-      left-room = h .left-room;
-      entered-room = h .entered-room;
-      sent-room = h .sent-room;
-      taken-room = h .taken-room;
-      progress-room = h .progress-room;
-    }
+own-machines t k h = recount t k (t .machines) h (le-refl _)
 
 pub rows-so-far : (t : PlantTable) → length (map (rowOf t) (below (t .rows))) ≡ t .rows
 rows-so-far t = length-map (below (t .rows)) (rowOf t) ∙ below-length (t .rows)
@@ -88,6 +80,7 @@ storedRow t machine left entered sent taken progress =
       machines = t .machines;
       rows = t .rows + 1;
       states = t .states;
+      first = t .first;
       machine = set (t .machine) (t .rows) machine;
       left = set (t .left) (t .rows) left;
       entered = set (t .entered) (t .rows) entered;
@@ -162,6 +155,7 @@ pub with-machine : (t : PlantTable) (k states : ℕ) → Sound t k → t .machin
       machines = t .machines + 1;
       rows = t .rows;
       states = set (t .states) (t .machines) states;
+      first = t .first;
       machine = t .machine;
       left = t .left;
       entered = t .entered;

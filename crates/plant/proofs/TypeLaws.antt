@@ -1,11 +1,11 @@
 -- A type below a count of at most 64 stands in a column as itself.
-use mathlib.Core.Path.{_≡_, sym, _∙_, ap}
+use mathlib.Core.Path.{_≡_, sym}
 use mathlib.Core.Option.{some}
 use mathlib.Core.List.{List}
 use Prim.Native.Nat.{ℕ, _≤_, _<_}
 use native.Mathlib.Omega.{arith}
 use borrow.Author.Tests.{lt-ltb}
-use Rattle.plant.specs.Found.{Found, found, fault, andThen}
+use Rattle.plant.specs.Found.{found, andThen}
 use Rattle.plant.specs.Reading.{byteIn}
 use Rattle.plant.specs.Tables.{typeOf}
 use Rattle.plant.specs.Answers.{fieldFound, typeFound}

@@ -6,7 +6,7 @@ ghost use Rattle.livelock.specs.Plants.{Plant};
 ghost use Rattle.plant.specs.Found.{andThen, movedBy};
 ghost use Rattle.plant.specs.Reading.{byteAt, inRange, byteIn, hasBit, isMap, mapByte, stateField, typeField, readRow};
 ghost use Rattle.plant.specs.Reading.{noMachines, withMachine, readRows, rowsByte, readMachine, readMachines, fileEnd, readPlant};
-ghost use Rattle.plant.specs.Tables.{plantOf, Sound, Grown};
+ghost use Rattle.plant.specs.Tables.{oneIfBelow, countBefore, FirstRows, plantOf, Sound, Ready, Grown};
 ghost use Rattle.plant.specs.Answers.{faultFound, fieldFound, typeFound, rowFound, endFound, offsetOf, decodedFound, answerOf, countsOf};
 
 // A fault's number in document 01's table, and its place.
@@ -42,11 +42,13 @@ pub enum RowStep {
 }
 
 // A decoded plant, in columns: entry k of a column belongs to row k, and 64 stands for no type. Entries past the counts are unused.
+// Machine m has the rows from first[m] up to, and not including, first[m + 1].
 pub struct PlantTable {
     pub types: u8,
     pub machines: usize,
     pub rows: usize,
     pub states: [u8; 16],
+    pub first: [u16; 17],
     pub machine: [u8; 1024],
     pub left: [u8; 1024],
     pub entered: [u8; 1024],
@@ -347,13 +349,8 @@ fn read_machine(file: &[u8], at: usize, table: PlantTable) -> Decoded
     };
     let t = with_machine(table, states.value);
     let from = count.next;
-    let read = read_rows(
-        &file[from..],
-        count.value as usize,
-        m as u8,
-        states.value,
-        t,
-    );
+    let n = count.value as usize;
+    let read = read_rows(&file[from..], n, m as u8, states.value, t);
     let inner = read.end;
     let done = read.table;
     let end = moved(inner, from);
@@ -395,9 +392,11 @@ fn read_machines(file: &[u8], n: usize, from: usize, start: PlantTable) -> Decod
 // A table of which only the count of types is read.
 fn blank(types: u8) -> PlantTable
     requires { ⌜ types ≤ 64 ⌝ }
-    ensures { λ r. ⌜ Sound r 0 × (plantOf r ≡ noMachines types) ⌝ }
+    ensures { λ r. ⌜ (plantOf r ≡ noMachines types) × (r .machines ≡ 0) ⌝ }
+    ensures { λ r. ⌜ Ready r ⌝ }
 {
     let states = [0; 16];
+    let first = [0; 17];
     let machine = [0; 1024];
     let left = [0; 1024];
     let entered = [0; 1024];
@@ -409,6 +408,7 @@ fn blank(types: u8) -> PlantTable
         machines: 0,
         rows: 0,
         states,
+        first,
         machine,
         left,
         entered,
@@ -421,7 +421,7 @@ fn blank(types: u8) -> PlantTable
 // A refusal, with a table that holds nothing.
 fn refused(fault: Fault) -> Decoded
     ensures { λ r. ⌜ decodedFound r ≡ faultFound fault ⌝ }
-    ensures { λ r. ⌜ Sound (r .table) 16 ⌝ }
+    ensures { λ r. ⌜ Ready (r .table) ⌝ }
 {
     let table = blank(0);
     Decoded {
@@ -449,10 +449,48 @@ fn at_file_end(file: &[u8], end: End) -> End
     }
 }
 
+fn one_if_below(a: u8, b: u8) -> u16
+    ensures { λ r. ⌜ r ≡ oneIfBelow a b ⌝ }
+{
+    if a < b {
+        return 1;
+    }
+    0
+}
+
+// How many of the first rows belong to machines before `m`.
+fn rows_before(machine: &[u8; 1024], rows: usize, m: u8) -> u16
+    requires { ⌜ rows ≤ 1024 ⌝ }
+    ensures { λ r. ⌜ r ≡ countBefore (now (machine .entry)) m rows ⌝ }
+{
+    let mut count = 0;
+    let mut k = 0;
+    while k < rows {
+        count += one_if_below(machine[k], m);
+        k += 1;
+    }
+    count
+}
+
+// Each machine's first row, and behind the last machine's the count of rows.
+fn first_rows(machine: &[u8; 1024], rows: usize) -> [u16; 17]
+    requires { ⌜ rows ≤ 1024 ⌝ }
+    ensures { λ r. ⌜ FirstRows (now (machine .entry)) rows 17 r ⌝ }
+{
+    let mut first = [0; 17];
+    let mut m: u8 = 0;
+    while m < 17 {
+        let at = m as usize;
+        first[at] = rows_before(machine, rows, m);
+        m += 1;
+    }
+    first
+}
+
 // The plant of a file, or the first fault, for the crates that work on plants.
 pub fn decode(file: &[u8]) -> Decoded
     ensures { λ r. ⌜ decodedFound r ≡ readPlant (now (file .entry)) ⌝ }
-    ensures { λ r. ⌜ Sound (r .table) 16 ⌝ }
+    ensures { λ r. ⌜ Ready (r .table) ⌝ }
 {
     let first = byte_in(file, 0, 1, 17, 2);
     let machines = match first {
@@ -466,9 +504,11 @@ pub fn decode(file: &[u8]) -> Decoded
     };
     let start = blank(types.value);
     let read = read_machines(file, machines.value as usize, types.next, start);
-    let table = read.table;
+    let mut table = read.table;
     let last = read.end;
     let end = at_file_end(file, last);
+    let first = first_rows(&table.machine, table.rows);
+    table.first = first;
     Decoded { end, table }
 }
 

@@ -1,3 +1,4 @@
+-- `byte_in` meets its contract: what `byte_at` found, and what `in_range` says of it.
 use borrow.Author.Needs.{needs}
 use mathlib.Core.Path.{sym, _∙_}
 use Rattle.plant.specs.Reading.{byteIn}

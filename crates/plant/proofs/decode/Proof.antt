@@ -1,9 +1,12 @@
+-- `decode` meets its contract: what its parts found, put together by the laws of `readPlant`.
 use borrow.Author.Needs.{needs}
 use mathlib.Core.Path.{_∙_}
 use native.Mathlib.Omega.{arith}
 use Rattle.plant.specs.Answers.{fieldFound}
 use Rattle.plant.proofs.Told.{told}
 use Rattle.plant.proofs.Bounds.{each-found, byteIn-each}
+use Rattle.plant.proofs.TableLaws.{recount}
+use Rattle.plant.proofs.FirstRowLaws.{ready}
 use Rattle.plant.proofs.PlantLaws.{no-machine-count, no-type-count, file-read}
 use Rattle.plant.proofs.decode.Statement.{statement}
 use Rattle.plant.proofs.decode.Tie as tie
@@ -21,7 +24,7 @@ refused-requires : tie.Need-refused-requires
 refused-requires c κs = search needs
 
 returns : tie.Need-returns
-returns c = (c .refused .ensures .0 ∙ no-machine-count _ _ _ (told fieldFound (c  .before .before .before .before .byte-in .ensures) (c  .before .before .first2 .given .1)), c .refused .ensures .1)
+returns c = (c .refused .ensures .0 ∙ no-machine-count _ _ _ (told fieldFound (c .before .before .before .before .byte-in .ensures) (c .before .before .first2 .given .1)), c .refused .ensures .1)
 
 byte-in-requires-2 : tie.Need-byte-in-requires-2
 byte-in-requires-2 c κs = search needs
@@ -37,29 +40,33 @@ refused-requires-2 c κs = search needs
 
 returns-2 : tie.Need-returns-2
 returns-2 c = (
-      c .refused2 .ensures .0 ∙ no-type-count _ _ _ (told fieldFound (c  .before .before .before .before .before .before .before .before .byte-in .ensures) (c  .before .before .before .before .before .before .first .given .1)) _ _ (told fieldFound (c  .before .before .before .before .byte-in2 .ensures) (c  .before .before .second2 .given .1)),
-      c .refused2 .ensures .1,
-    )
+  c .refused2 .ensures .0 ∙ no-type-count _ _ _ (told fieldFound (c .before .before .before .before .before .before .before .before .byte-in .ensures) (c .before .before .before .before .before .before .first .given .1)) _ _ (told fieldFound (c .before .before .before .before .byte-in2 .ensures) (c .before .before .second2 .given .1)),
+  c .refused2 .ensures .1,
+)
 
 blank-requires : tie.Need-blank-requires
-blank-requires c κs = let r = each-found _ _ (byteIn-each _ _ 0 65 2 (omega arith)) (told fieldFound (c  .before .before .before .byte-in2 .ensures) (c  .before .second .given .1)) in omega (arith, r .1 .1)
+blank-requires c κs = let r = each-found _ _ (byteIn-each _ _ 0 65 2 (omega arith)) (told fieldFound (c .before .before .before .byte-in2 .ensures) (c .before .second .given .1)) in omega (arith, r .1 .1)
 
 cast-read-machines : tie.Need-cast-read-machines
 cast-read-machines c = search needs
 
 read-machines-requires : tie.Need-read-machines-requires
-read-machines-requires c κs = 
-    let r = each-found _ _ (byteIn-each _ _ 1 17 2 (omega arith)) (told fieldFound (c  .before .before .before .before .before .before .before .before .before .byte-in .ensures) (c  .before .before .before .before .before .before .before .first .given .1)) in
-    (c  .before .blank .ensures .0, omega (arith, r .1 .1))
+read-machines-requires c κs =
+    let r = each-found _ _ (byteIn-each _ _ 1 17 2 (omega arith)) (told fieldFound (c .before .before .before .before .before .before .before .before .before .byte-in .ensures) (c .before .before .before .before .before .before .before .first .given .1)) in
+    let b = c .before .blank .ensures in
+    (recount _ _ 0 (b .1 .sound) (omega (arith, b .0 .1)), omega (arith, r .1 .1))
 
 at-file-end-requires : tie.Need-at-file-end-requires
 at-file-end-requires c κs = search needs
 
+first-rows-requires : tie.Need-first-rows-requires
+first-rows-requires c κs = c .before .before .before .before .read-machines .ensures .1 .few-rows
+
 returns-3 : tie.Need-returns-3
 returns-3 c = (
-      c .at-file-end .ensures _ ∙ file-read _ _ _ (told fieldFound (c  .before .before .before .before .before .before .before .before .before .before .before .before .byte-in .ensures) (c  .before .before .before .before .before .before .before .before .before .before .first .given .1)) _ _ _ _ (told fieldFound (c  .before .before .before .before .before .before .before .before .byte-in2 .ensures) (c  .before .before .before .before .before .before .second .given .1)) (c  .before .before .before .before .blank .ensures .1) (c  .before .before .read-machines .ensures .0),
-      c  .before .before .read-machines .ensures .1,
-    )
+  c .before .before .before .at-file-end .ensures _ ∙ file-read _ _ _ (told fieldFound (c .before .before .before .before .before .before .before .before .before .before .before .before .before .before .before .byte-in .ensures) (c .before .before .before .before .before .before .before .before .before .before .before .before .before .first .given .1)) _ _ _ _ (told fieldFound (c .before .before .before .before .before .before .before .before .before .before .before .byte-in2 .ensures) (c .before .before .before .before .before .before .before .before .before .second .given .1)) (c .before .before .before .before .before .before .before .blank .ensures .0 .0) (c .before .before .before .before .before .read-machines .ensures .0),
+  ready (c .before .before .before .before .before .read-machines .result .table) _ (c .before .before .before .before .before .read-machines .ensures .1) (c .first-rows .ensures),
+)
 
 pub decode-spec : {M : Type 1} → statement M
 decode-spec =
@@ -79,4 +86,5 @@ decode-spec =
     cast-read-machines
     read-machines-requires
     at-file-end-requires
+    first-rows-requires
     returns-3)

@@ -1,4 +1,4 @@
-use borrow.Author.Needs.{needs}
+-- `in_range` meets its contract: by its two tests.
 use borrow.Author.Tests.{lt-leb, le-leb}
 use Rattle.plant.proofs.in_range.Statement.{statement}
 use Rattle.plant.proofs.in_range.Tie as tie

@@ -1,3 +1,4 @@
+-- `is_map` meets its contract: by its three tests.
 use borrow.Author.Needs.{needs}
 use mathlib.Core.Path.{sym, _∙_}
 use borrow.Author.Tests.{lt-ltb, le-ltb, not-true, not-false}

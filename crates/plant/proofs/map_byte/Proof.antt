@@ -1,3 +1,4 @@
+-- `map_byte` meets its contract: what `byte_at` found, and what `is_map` says of it.
 use borrow.Author.Needs.{needs}
 use mathlib.Core.Path.{sym, _∙_}
 use Rattle.plant.specs.Reading.{mapByte}

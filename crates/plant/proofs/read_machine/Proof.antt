@@ -1,3 +1,4 @@
+-- `read_machine` meets its contract: what its parts found, put together by the laws of `readMachine`.
 use borrow.Author.Needs.{needs}
 use mathlib.Core.Path.{_∙_}
 use native.Mathlib.Omega.{arith}
@@ -44,20 +45,20 @@ returns-2 c =
 with-machine-requires : tie.Need-with-machine-requires
 with-machine-requires c κs = search needs
 
+cast-n : tie.Need-cast-n
+cast-n c = search needs
+
 sub-read-rows : tie.Need-sub-read-rows
-sub-read-rows c = each-found _ _ (rowsByte-each _ _ _) (told fieldFound (c .before .before .before .before .rows-byte .ensures) (c .before .before .second .given .1)) .0 .inside
+sub-read-rows c = each-found _ _ (rowsByte-each _ _ _) (told fieldFound (c .before .before .before .before .before .rows-byte .ensures) (c .before .before .before .second .given .1)) .0 .inside
 
 part-read-rows-start : tie.Need-part-read-rows-start
-part-read-rows-start c = each-found _ _ (rowsByte-each _ _ _) (told fieldFound (c .before .before .before .before .rows-byte .ensures) (c .before .before .second .given .1)) .0 .inside
+part-read-rows-start c = each-found _ _ (rowsByte-each _ _ _) (told fieldFound (c .before .before .before .before .before .rows-byte .ensures) (c .before .before .before .second .given .1)) .0 .inside
 
 part-read-rows-end : tie.Need-part-read-rows-end
 part-read-rows-end c = search needs
 
 cast-read-rows : tie.Need-cast-read-rows
 cast-read-rows c = search needs
-
-cast-read-rows-2 : tie.Need-cast-read-rows-2
-cast-read-rows-2 c = search needs
 
 read-rows-requires : tie.Need-read-rows-requires
 read-rows-requires c κs =
@@ -94,11 +95,11 @@ read-machine-spec =
     enum-known-second-2
     returns-2
     with-machine-requires
+    cast-n
     sub-read-rows
     part-read-rows-start
     part-read-rows-end
     cast-read-rows
-    cast-read-rows-2
     read-rows-requires
     moved-requires
     returns-3)

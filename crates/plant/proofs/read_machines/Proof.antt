@@ -1,3 +1,4 @@
+-- `read_machines` meets its contract: what is left to read after i machines gives what the whole gives.
 use borrow.Author.Needs.{needs}
 use Prim.Native.Nat.{ℕ, _-_, _≤_}
 use mathlib.Core.Path.{_≡_}

@@ -1,3 +1,4 @@
+-- `row_at` meets its contract: each return is `readRow`, rewritten by what the calls before it found.
 use borrow.Author.Needs.{needs}
 use Rattle.plant.specs.Reading.{readRow}
 use Rattle.plant.specs.Answers.{fieldFound, typeFound}

@@ -1,5 +1,5 @@
+-- `rows_byte` meets its contract: what `byte_at` found, and its one test; a byte is at most 255.
 use borrow.Author.Needs.{needs}
-use mathlib.Core.Path.{sym, _∙_}
 use Rattle.plant.specs.Reading.{rowsByte}
 use Rattle.plant.specs.Answers.{fieldFound}
 use Rattle.plant.proofs.Told.{told}

@@ -1,3 +1,4 @@
+-- `state_field` meets its contract: by whether the bit stands.
 use borrow.Author.Needs.{needs}
 use Rattle.plant.specs.Reading.{stateField}
 use Rattle.plant.proofs.state_field.Statement.{statement}

@@ -1,3 +1,4 @@
+-- `type_field` meets its contract: by whether the bit stands; a type below 64 stands in a column as itself.
 use borrow.Author.Needs.{needs}
 use Rattle.plant.specs.Reading.{typeField}
 use Rattle.plant.proofs.TypeLaws.{type-of-byte}

@@ -1,0 +1,287 @@
+"""Compare `read` and `decode` with a second reader, on whole, damaged and random files.
+
+The reader below was written from the scope document's section "The plant file" and its table of faults, in another
+style than the definitions: it reads a file with an iterator and raises the first fault. The crate `reading_probe`,
+made here outside of the repository, exports the two functions of crate plant; a C program reads files from its standard
+input and prints what they answer.
+
+    python3 tests/reading.py [SEED]
+"""
+import os
+import random
+import shutil
+import struct
+import subprocess
+import sys
+import tempfile
+
+ROOT = os.path.dirname(os.path.dirname(os.path.abspath(__file__)))
+FILES = 30000
+
+
+# ---- the second reader
+
+class Fault(Exception):
+    pass
+
+
+class Bytes:
+    def __init__(self, data):
+        self.data, self.at = data, 0
+
+    def next(self, accepts, number):
+        if self.at == len(self.data):
+            raise Fault(1, len(self.data))
+        b = self.data[self.at]
+        if not accepts(b):
+            raise Fault(number, self.at)
+        self.at += 1
+        return b
+
+
+def read_row(source, states, types, previous):
+    bits = source.next(lambda b: b >> 5 == 0 and b & 12 != 12, 4)
+    left = source.next(lambda b: b < states, 5) if bits & 1 else previous
+    entered = source.next(lambda b: b < states, 5) if bits & 2 else left
+    sent = source.next(lambda b: b < types, 6) if bits & 4 else None
+    taken = source.next(lambda b: b < types, 6) if bits & 8 else None
+    return left, entered, sent, taken, bool(bits & 16)
+
+
+def read_plant(data):
+    source = Bytes(data)
+    machines = source.next(lambda b: 1 <= b <= 16, 2)
+    types = source.next(lambda b: b <= 64, 2)
+    states, rows = [], []
+    for m in range(machines):
+        states.append(source.next(lambda b: 1 <= b <= 64, 3))
+        count = source.next(lambda b: len(rows) + b <= 1024, 7)
+        previous = 0
+        for _ in range(count):
+            row = read_row(source, states[-1], types, previous)
+            rows.append((m,) + row)
+            previous = row[0]
+    if source.at < len(data):
+        raise Fault(8, source.at)
+    return types, states, rows
+
+
+def expected(data):
+    """The line that the C program owes for a file: the answer of `read`, then a checksum of what `decode` holds."""
+    try:
+        types, states, rows = read_plant(data)
+    except Fault as fault:
+        return 'refused %d %d' % fault.args
+    first = [sum(1 for r in rows if r[0] < m) for m in range(17)]
+    numbers = states + first
+    for m, left, entered, sent, taken, progress in rows:
+        numbers += [m, left, entered, 64 if sent is None else sent, 64 if taken is None else taken, int(progress)]
+    total = 0
+    for x in numbers:
+        total = (total * 131 + x + 1) % 4294967291
+    return 'counts %d %d %d %d' % (len(states), types, len(rows), total)
+
+
+# ---- files
+
+def write_row(rng, states, types, previous):
+    bits = rng.choice([0, 16]) | rng.choice([0, 0, 1, 2, 3, 3])
+    if types:
+        bits |= rng.choice([0, 4, 8])
+    data = [bits]
+    if bits & 1:
+        previous = rng.randrange(states)
+        data.append(previous)
+    if bits & 2:
+        data.append(rng.randrange(states))
+    if bits & 12:
+        data.append(rng.randrange(types))
+    return data
+
+
+def whole_file(rng, largest):
+    machines, types = rng.randint(1, 16), rng.choice([0, 1, 2, 5, 64])
+    data, left = [machines, types], 1024
+    for _ in range(machines):
+        states, count = rng.choice([1, 2, 3, 64]), min(left, rng.randint(0, largest))
+        left -= count
+        data += [states, count]
+        for _ in range(count):
+            data += write_row(rng, states, types, 0)
+    return bytes(data)
+
+
+def damaged(rng, data):
+    data = bytearray(data)
+    for _ in range(rng.randint(1, 3)):
+        kind = rng.randrange(4)
+        if kind == 0 and data:
+            data[rng.randrange(len(data))] = rng.choice([0, 1, 2, 12, 16, 17, 31, 32, 63, 64, 65, 255, rng.randrange(256)])
+        elif kind == 1:
+            data = data[:rng.randint(0, len(data))]
+        elif kind == 2:
+            data.insert(rng.randint(0, len(data)), rng.randrange(256))
+        elif data:
+            del data[rng.randrange(len(data))]
+    return bytes(data)
+
+
+def shapes():
+    """One machine with 255 rows of each map byte, each with as many bytes as its bits ask for."""
+    for bits in range(256):
+        fields = [1] * sum(1 for v in (1, 2, 4, 8) if bits & v)
+        yield bytes([1, 2, 2, 255] + ([bits] + fields) * 255)
+
+
+def edges():
+    longest = [16, 64] + sum(([64, 64] + [31 - 8, 63, 63, 63] * 64 for _ in range(16)), [])
+    yield from (b'', b'\x00', b'\x01', b'\x11\x00', bytes([1, 65]), bytes([1, 0, 65, 0]), bytes([1, 0, 64, 0]), bytes([16, 64] + [64, 0] * 16))
+    yield bytes(longest)
+    yield bytes(longest) + b'\x00'
+    yield bytes(longest)[:-1]
+    yield bytes([5, 0] + ([1, 255] + [0] * 255) * 4 + [1, 4] + [0] * 4)
+    yield bytes([5, 0] + ([1, 255] + [0] * 255) * 4 + [1, 5] + [0] * 5)
+    yield bytes(65536)
+    yield bytes([1, 0, 1, 0]) + bytes(65532)
+    yield b'\xff' * 65536
+
+
+def files(rng):
+    yield from edges()
+    yield from shapes()
+    for _ in range(FILES):
+        kind = rng.randrange(10)
+        if kind == 0:
+            yield bytes(rng.choice([0, 1, 2, 3, 16, rng.randrange(256)]) for _ in range(rng.randint(0, 40)))
+        elif kind < 4:
+            yield whole_file(rng, rng.choice([2, 8, 80, 255]))
+        else:
+            yield damaged(rng, whole_file(rng, rng.choice([2, 8, 40])))
+
+
+# ---- the compiled reader
+
+PROBE = '''// Exports of crate plant, for a test.
+use plant::{Decoded, End, PlantTable, Reading};
+
+#[repr(C)]
+pub struct Counts {
+    pub refused: bool,
+    pub number: u8,
+    pub place: usize,
+    pub machines: usize,
+    pub types: u8,
+    pub rows: usize,
+}
+
+#[no_mangle]
+pub extern "C" fn probe_read(file: &[u8]) -> Counts {
+    let reading = plant::read(file);
+    match reading {
+        Reading::Refused(fault) => Counts { refused: true, number: fault.number, place: fault.place, machines: 0, types: 0, rows: 0 },
+        Reading::Counts { machines, types, rows } => Counts { refused: false, number: 0, place: 0, machines, types, rows },
+    }
+}
+
+#[repr(C)]
+pub struct Columns {
+    pub states: [u8; 16],
+    pub first: [u16; 17],
+    pub machine: [u8; 1024],
+    pub left: [u8; 1024],
+    pub entered: [u8; 1024],
+    pub sent: [u8; 1024],
+    pub taken: [u8; 1024],
+    pub progress: [bool; 1024],
+}
+
+#[no_mangle]
+pub extern "C" fn probe_columns(file: &[u8]) -> Columns {
+    let decoded = plant::decode(file);
+    let t = decoded.table;
+    let states = t.states;
+    let first = t.first;
+    let machine = t.machine;
+    let left = t.left;
+    let entered = t.entered;
+    let sent = t.sent;
+    let taken = t.taken;
+    let progress = t.progress;
+    Columns { states, first, machine, left, entered, sent, taken, progress }
+}
+'''
+
+DRIVER = '''#include <stdbool.h>
+#include <stdint.h>
+#include <stdio.h>
+#include <stdlib.h>
+typedef struct { bool refused; uint8_t number; size_t place, machines; uint8_t types; size_t rows; } Counts;
+typedef struct { uint8_t states[16]; uint16_t first[17]; uint8_t machine[1024], left[1024], entered[1024], sent[1024], taken[1024]; bool progress[1024]; } Columns;
+Counts probe_read(const uint8_t *file, size_t length);
+Columns probe_columns(const uint8_t *file, size_t length);
+static uint64_t total;
+static void add(unsigned x) { total = (total * 131 + x + 1) % 4294967291u; }
+int main(void) {
+    uint8_t head[4];
+    while (fread(head, 1, 4, stdin) == 4) {
+        size_t n = head[0] | head[1] << 8 | head[2] << 16;
+        uint8_t *file = malloc(n ? n : 1);
+        if (fread(file, 1, n, stdin) != n) return 1;
+        Counts c = probe_read(file, n);
+        if (c.refused) {
+            printf("refused %d %zu\\n", c.number, c.place);
+        } else {
+            Columns t = probe_columns(file, n);
+            total = 0;
+            for (size_t m = 0; m < c.machines; m++) add(t.states[m]);
+            for (size_t m = 0; m < 17; m++) add(t.first[m]);
+            for (size_t k = 0; k < c.rows; k++) {
+                add(t.machine[k]); add(t.left[k]); add(t.entered[k]); add(t.sent[k]); add(t.taken[k]); add(t.progress[k]);
+            }
+            printf("counts %zu %d %zu %llu\\n", c.machines, c.types, c.rows, (unsigned long long)total);
+        }
+        free(file);
+    }
+    return 0;
+}
+'''
+
+
+def build(folder):
+    """The C program over the compiled reader."""
+    for crate in ('livelock', 'plant'):
+        shutil.copytree(os.path.join(ROOT, 'crates', crate), os.path.join(folder, 'crates', crate))
+    os.makedirs(os.path.join(folder, 'crates', 'reading_probe', 'src'))
+    for path, text in (('crates/reading_probe/src/lib.rt', PROBE), ('crates.txt', 'livelock:\nplant: livelock\nreading_probe: plant\n'), ('driver.c', DRIVER)):
+        with open(os.path.join(folder, path), 'w', encoding='utf-8') as out:
+            out.write(text)
+    for command in (['rt', 'staticlib', 'reading_probe'],
+                    ['gcc', '-O2', '-Wall', '-Wextra', '-Werror', 'driver.c', '-Ltarget/staticlib', '-lreading_probe', '-o', 'driver']):
+        done = subprocess.run(command, cwd=folder, capture_output=True, text=True)
+        if done.returncode != 0:
+            sys.exit('reading.py: %s failed:\n%s' % (' '.join(command), (done.stdout + done.stderr)[-3000:]))
+    return os.path.join(folder, 'driver')
+
+
+def main():
+    seed = int(sys.argv[1]) if len(sys.argv) > 1 else 1906
+    cases = list(files(random.Random(seed)))
+    with tempfile.TemporaryDirectory() as folder:
+        driver = build(folder)
+        given = b''.join(struct.pack('<I', len(c)) + c for c in cases)
+        printed = subprocess.run([driver], input=given, capture_output=True, check=True).stdout.decode().split('\n')[:-1]
+    owed = [expected(c) for c in cases]
+    if len(printed) != len(owed):
+        sys.exit('reading.py: %d answers to %d files' % (len(printed), len(owed)))
+    for case, line, other in zip(cases, printed, owed):
+        if line != other:
+            sys.exit('reading.py: %s: %s, but the second reader says %s' % (case[:60].hex(' '), line, other))
+    met = sorted({int(line.split()[1]) for line in owed if line.startswith('refused')})
+    if met != list(range(1, 9)):
+        sys.exit('reading.py: only the faults %s were met' % met)
+    print('reading.py: seed %d: %d files, of which %d read; every number from 1 to 8 was met'
+          % (seed, len(cases), sum(line.startswith('counts') for line in owed)))
+
+
+if __name__ == '__main__':
+    main()
