@@ -17,7 +17,8 @@ use Rattle.livelock.specs.Plants.{Row, Plant, rowAt, rowCount, noRow}
 use Rattle.livelock.proofs.ListLaws.{all-weaken, all-at}
 use Rattle.livelock.proofs.SumLaws.{sum-next, sum-equal, sum-zero}
 use Rattle.plant.specs.Limits.{Ascending, WithinLimits}
-use Rattle.plant.specs.Tables.{oneIfBelow, countBefore, FirstRows, rowsBefore, rowOf, plantOf, Sound, Ready}
+use Rattle.plant.specs.Inner.Steps.{oneIfBelow, countBefore, FirstRows}
+use Rattle.plant.specs.Tables.{rowsBefore, rowOf, plantOf, Sound, Ready}
 use Rattle.plant.specs.declared.PlantTable.{PlantTable}
 use Rattle.plant.proofs.Bounds.{one-bit}
 

@@ -10,8 +10,8 @@ use Rattle.livelock.specs.Plants.{Plant}
 use Rattle.plant.specs.Found.{Found, found, fault, andThen, movedBy}
 use Rattle.plant.specs.Reading.{byteIn, withMachine, readRows, rowsByte, readMachine, readMachines}
 use Rattle.plant.specs.Limits.{Placed, at-the-end, within}
-use Rattle.plant.specs.Tables.{plantOf, Sound}
-use Rattle.plant.specs.Answers.{endFound, offsetOf, decodedFound}
+use Rattle.plant.specs.Tables.{plantOf, Sound, endFound, decodedFound}
+use Rattle.plant.specs.Inner.Steps.{offsetOf}
 use Rattle.plant.specs.declared.Decoded.{Decoded}
 use Rattle.plant.specs.declared.End.{End}
 use Rattle.plant.specs.declared.End.the-variants as Ends

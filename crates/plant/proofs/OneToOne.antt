@@ -1,7 +1,8 @@
 -- Different answers never mean the same.
 use mathlib.Core.Path.{_≡_, ap}
 use Rattle.livelock.specs.Plants.{Plant}
-use Rattle.plant.specs.Answers.{answerOf, endFound}
+use Rattle.plant.specs.Answers.{answerOf}
+use Rattle.plant.specs.Tables.{endFound}
 use Rattle.plant.specs.declared.Fault.{Fault}
 use Rattle.plant.specs.declared.End.{End}
 use Rattle.plant.specs.declared.End.the-variants as Ends

@@ -14,7 +14,8 @@ use Rattle.livelock.specs.Plants.{Row, rowAt, noRow}
 use Rattle.livelock.proofs.ListLaws.{all-below}
 use Rattle.livelock.proofs.Pigeonhole.{below-length}
 use Rattle.plant.specs.Reading.{withRow, withMachine}
-use Rattle.plant.specs.Tables.{typeOf, rowOf, plantOf, Sound, Grown}
+use Rattle.plant.specs.Tables.{typeOf, rowOf, plantOf, Sound}
+use Rattle.plant.specs.Inner.Steps.{Grown}
 use Rattle.plant.specs.declared.PlantTable.{PlantTable}
 
 -- ---- counts

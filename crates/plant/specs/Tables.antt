@@ -1,13 +1,18 @@
--- The plant that a decoded table holds.
+-- The decoded table of `decode`, and the plant that it holds.
 use mathlib.Core.Path.{_≡_}
 use mathlib.Core.Bool.{false, cond}
 use mathlib.Core.Option.{Option, none, some}
-use mathlib.Core.List.{List, map}
-use Prim.Native.Nat.{ℕ, _≤_, _<_}
+use mathlib.Core.List.{map}
+use Prim.Native.Nat.{ℕ, _≤_}
 use lib.ListN.{length, getD, take}
 use lib.Dec.{ltb}
 use Rattle.livelock.specs.Lists.{below, count}
 use Rattle.livelock.specs.Plants.{Row, Plant}
+use Rattle.plant.specs.Found.{Found, found}
+use Rattle.plant.specs.Answers.{faultFound}
+use Rattle.plant.specs.declared.End.{End}
+use Rattle.plant.specs.declared.End.the-variants as Ends
+use Rattle.plant.specs.declared.Decoded.{Decoded}
 use Rattle.plant.specs.declared.PlantTable.{PlantTable}
 
 -- The type that a number of a column stands for.
@@ -30,17 +35,14 @@ rowOf t k =
 abbrev pub plantOf : PlantTable → Plant
 plantOf t = record { types = t .types; states = take (t .machines) (t .states); rows = map (rowOf t) (below (t .rows)) }
 
--- 1 where a machine is before another, and how many of the first k entries of the machine column are before m.
-abbrev pub oneIfBelow : ℕ → ℕ → ℕ
-oneIfBelow a b = cond (ltb a b) 1 0
+-- Where reading ended, with the plant that was read.
+abbrev pub endFound : End → Plant → Found Plant
+endFound (Ends.At next) p = found p next
+endFound (Ends.Fault f) p = faultFound f
 
-unfoldable pub countBefore : List ℕ → ℕ → ℕ → ℕ
-countBefore machine m k = count (λ i. ltb (getD machine i 0) m) (below k)
-
--- The first n entries of `first` have these counts.
-pub record FirstRows (machine : List ℕ) (rows n : ℕ) (first : List ℕ) : Type 0 where
-  pub room : length first ≡ 17
-  pub at : (m : ℕ) → m < n → getD first m 0 ≡ countBefore machine m rows
+-- What `decode` found.
+abbrev pub decodedFound : Decoded → Found Plant
+decodedFound d = endFound (d .end) (plantOf (d .table))
 
 -- How many rows the machines before m have: the number of the first row of machine m.
 abbrev pub rowsBefore : Plant → ℕ → ℕ
@@ -59,13 +61,7 @@ pub record Sound (t : PlantTable) (machines : ℕ) : Type 0 where
   pub taken-room : length (t .taken) ≡ 1024
   pub progress-room : length (t .progress) ≡ 1024
 
--- What `decode` hands back: a table within the limits, with each machine's first row.
+-- What `decode` ensures of its table: it has room, and the number of each machine's first row.
 pub record Ready (t : PlantTable) : Type 0 where
   pub sound : Sound t 16
   pub first-row : (m : ℕ) → m ≤ 16 → getD (t .first) m 0 ≡ rowsBefore (plantOf t) m
-
--- A table of so many machines and rows that holds this plant.
-pub record Grown (t : PlantTable) (machines rows : ℕ) (p : Plant) : Type 0 where
-  pub sound : Sound t machines
-  pub counted : t .rows ≡ rows
-  pub holds : plantOf t ≡ p

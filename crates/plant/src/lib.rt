@@ -1,13 +1,13 @@
 // Reading plant files: the bytes are judged one by one, and the first fault met decides.
 ghost use mathlib.Core.Path.{_≡_};
 ghost use Prim.Native.Nat.{ℕ, _+_, _^_, _≤_, _<_};
-ghost use lib.ListN.{length};
 ghost use Rattle.livelock.specs.Plants.{Plant};
 ghost use Rattle.plant.specs.Found.{andThen, movedBy};
 ghost use Rattle.plant.specs.Reading.{byteAt, inRange, byteIn, hasBit, isMap, mapByte, stateField, typeField, readRow};
 ghost use Rattle.plant.specs.Reading.{noMachines, withMachine, readRows, rowsByte, readMachine, readMachines, fileEnd, readPlant};
-ghost use Rattle.plant.specs.Tables.{oneIfBelow, countBefore, FirstRows, plantOf, Sound, Ready, Grown};
-ghost use Rattle.plant.specs.Answers.{faultFound, fieldFound, typeFound, rowFound, endFound, offsetOf, decodedFound, answerOf, countsOf};
+ghost use Rattle.plant.specs.Inner.Steps.{oneIfBelow, countBefore, FirstRows, Grown, fieldFound, typeFound, rowFound, offsetOf};
+ghost use Rattle.plant.specs.Tables.{plantOf, Sound, Ready, endFound, decodedFound};
+ghost use Rattle.plant.specs.Answers.{faultFound, answerOf, countsOf};
 
 // A fault's number in document 01's table, and its place.
 pub struct Fault {

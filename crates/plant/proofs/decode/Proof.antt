@@ -2,7 +2,7 @@
 use borrow.Author.Needs.{needs}
 use mathlib.Core.Path.{_∙_}
 use native.Mathlib.Omega.{arith}
-use Rattle.plant.specs.Answers.{fieldFound}
+use Rattle.plant.specs.Inner.Steps.{fieldFound}
 use Rattle.plant.proofs.Told.{told}
 use Rattle.plant.proofs.Bounds.{each-found, byteIn-each}
 use Rattle.plant.proofs.TableLaws.{recount}

@@ -3,7 +3,7 @@ use borrow.Author.Needs.{needs}
 use mathlib.Core.Path.{_≡_, refl, subst}
 use Prim.Native.Nat.{ℕ, _-_, _≤_, zero-le}
 use native.Mathlib.Omega.{arith}
-use Rattle.plant.specs.Tables.{FirstRows}
+use Rattle.plant.specs.Inner.Steps.{FirstRows}
 use Rattle.plant.proofs.FirstRowLaws.{first-none, first-next}
 use Rattle.plant.proofs.first_rows.Statement.{statement}
 use Rattle.plant.proofs.first_rows.Tie as tie

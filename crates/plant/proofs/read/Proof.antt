@@ -1,8 +1,7 @@
 -- `read` meets its contract: what `decode` found, with the counts of its table.
 use borrow.Author.Needs.{needs}
 use mathlib.Core.Path.{sym}
-use Rattle.plant.specs.Tables.{plantOf}
-use Rattle.plant.specs.Answers.{endFound}
+use Rattle.plant.specs.Tables.{plantOf, endFound}
 use Rattle.plant.proofs.Told.{told}
 use Rattle.plant.proofs.PlantLaws.{counts-are}
 use Rattle.plant.proofs.read.Statement.{statement}

@@ -6,8 +6,7 @@ use mathlib.Core.List.{List}
 use native.Mathlib.Nat.{sub-zero}
 use native.Mathlib.Omega.{arith}
 use Rattle.plant.specs.Reading.{readMachines}
-use Rattle.plant.specs.Tables.{plantOf, Sound}
-use Rattle.plant.specs.Answers.{endFound}
+use Rattle.plant.specs.Tables.{plantOf, Sound, endFound}
 use Rattle.plant.specs.declared.PlantTable.{PlantTable}
 use Rattle.plant.proofs.Told.{told}
 use Rattle.plant.proofs.TableLaws.{more-machines, own-machines}

@@ -7,7 +7,7 @@ use native.Mathlib.Nat.{sub-zero}
 use native.Mathlib.Omega.{arith}
 use Rattle.plant.specs.Reading.{readRows}
 use Rattle.plant.specs.Tables.{plantOf, Sound}
-use Rattle.plant.specs.Answers.{rowFound}
+use Rattle.plant.specs.Inner.Steps.{rowFound}
 use Rattle.plant.specs.declared.PlantTable.{PlantTable}
 use Rattle.plant.proofs.Told.{told}
 use Rattle.plant.proofs.TableLaws.{with-row}

@@ -3,7 +3,7 @@ use borrow.Author.Needs.{needs}
 use mathlib.Core.Path.{_≡_, sym, ap, _∙_}
 use Prim.Native.Nat.{_-_, _≤_, zero-le}
 use native.Mathlib.Omega.{arith}
-use Rattle.plant.specs.Tables.{countBefore}
+use Rattle.plant.specs.Inner.Steps.{countBefore}
 use Rattle.plant.proofs.FirstRowLaws.{count-next, count-none, one-at-most}
 use lib.ListN.{getD}
 use Rattle.plant.proofs.rows_before.Statement.{statement}

@@ -1,7 +1,7 @@
 -- `rows_byte` meets its contract: what `byte_at` found, and its one test; a byte is at most 255.
 use borrow.Author.Needs.{needs}
 use Rattle.plant.specs.Reading.{rowsByte}
-use Rattle.plant.specs.Answers.{fieldFound}
+use Rattle.plant.specs.Inner.Steps.{fieldFound}
 use Rattle.plant.proofs.Told.{told}
 use Rattle.plant.proofs.ByteLaws.{byte-missing, byte-passes, byte-fails}
 use borrow.Author.Tests.{le-leb, lt-leb}
