@@ -57,7 +57,7 @@ def hold_map(path):
             continue
         for cell in cells[1:3]:
             for group in cell.split(';'):
-                place = re.search(r'\(([a-z_]+/(?:specs|proofs|src)/[A-Za-z_]+)\)', group)
+                place = re.search(r'\(([a-z_]+/(?:specs|proofs|src)/[A-Za-z_/]+)\)', group)
                 names = re.findall(r'`([^`]+)`', group)
                 if names and not place:
                     faults.append('%s:%d: no file is named for %s' % (path, number, ', '.join(names)))

@@ -18,7 +18,7 @@ Difference (pos d) a b = a ≡ b + d
 Difference (negsuc d) a b = b ≡ a + suc d
 
 -- Both numbers may grow, or shrink, by the same.
-difference-shift : (z : ℤ) (a b c d : ℕ) → a + d ≡ c + b → Difference z a b → Difference z c d
+pub difference-shift : (z : ℤ) (a b c d : ℕ) → a + d ≡ c + b → Difference z a b → Difference z c d
 difference-shift (pos x) a b c d e i = omega arith
 difference-shift (negsuc x) a b c d e i = omega arith
 

@@ -8,6 +8,7 @@ pub mod Walks
 pub mod Graphs
 pub mod Potentials
 pub mod Rounds
+pub mod Lengths
 pub mod Differences
 pub mod CycleWeights
 pub mod QuietGraphs

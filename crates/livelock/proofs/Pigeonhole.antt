@@ -2,14 +2,14 @@
 use mathlib.Core.Path.{_≡_, refl, _∙_}
 use mathlib.Core.Logic.{_≢_}
 use mathlib.Core.Bool.{Bool, true, false, cond}
-use mathlib.Core.List.{List, [], _∷_}
+use mathlib.Core.List.{List, [], _∷_, map}
 use Prim.Native.Nat.{ℕ, zero, suc, _+_, _≤_, _<_}
 use native.Mathlib.Omega.{arith}
-use lib.ListN.{length, length-append}
+use lib.ListN.{length, length-append, length-map}
 use lib.Dec.{eqb}
 use borrow.Author.Tests.{eqb-true, ne-eqb}
 use Rattle.livelock.specs.Lists.{below, sum, count, All, Distinct}
-use Rattle.livelock.proofs.ListLaws.{all-weaken, all-always}
+use Rattle.livelock.proofs.ListLaws.{all-weaken, all-always, all-of-map}
 use Rattle.livelock.proofs.SumLaws.{sum-equal, sum-mono, sum-zero, sum-ones, sum-swap, sum-single}
 
 pub below-length : (n : ℕ) → length (below n) ≡ n
@@ -52,3 +52,7 @@ pigeonhole n xs d h =
   where
     one-number : All (λ x. sum (λ i. cond (eqb i x) 1 0) (below n) ≡ 1) xs
     one-number = all-weaken (λ x. x < n) _ (λ x l. sum-single (λ i v. v) (λ i. refl) x n l) xs h
+
+-- So edges that leave no state twice number at most as many as there are states.
+pub left-once : (src : ℕ → ℕ) (N : ℕ) (es : List ℕ) → Distinct (map src es) → All (λ e. src e < N) es → length es ≤ N
+left-once src N es once within = rw (← length-map es src) (pigeonhole N (map src es) once (all-of-map (λ s. s < N) src es within))

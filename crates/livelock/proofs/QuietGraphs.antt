@@ -1,26 +1,25 @@
 -- The quiet rows of one machine as a graph, in which a simple cycle is longer than 0 exactly when it weighs zero or more.
 use mathlib.Core.Path.{_≡_, subst}
-use mathlib.Core.Logic.{_↔_}
+use mathlib.Core.Logic.{_↔_, Iff·trans}
 use mathlib.Core.Bool.{false, _&&_}
-use mathlib.Core.List.{List, map}
-use Prim.Native.Nat.{ℕ, suc, _+_, _*_, _≤_, _<_}
-use native.Mathlib.Nat.{le-of-suc-le-suc, mul-le-mul-left, lt-of-mul-lt-mul-left}
+use mathlib.Core.List.{List}
+use Prim.Native.Nat.{ℕ, _+_, _*_, _≤_, _<_}
 use native.Mathlib.Omega.{arith}
-use lib.ListN.{length, getD, length-map}
+use lib.ListN.{length, getD}
 use lib.Dec.{eqb}
 use lib.IntN.{pos}
 use lib.Signed.{_≤ℤ_}
-use Rattle.livelock.specs.Lists.{sum}
 use Rattle.livelock.specs.Plants.{Plant, rowAt, rowCount, machineCount, stateCount, hasProgress, isQuiet, WellFormed}
 use Rattle.livelock.specs.Cycles.{leaves, enters, RowOf, firstLeft, SimpleCycle, Quiet}
 use Rattle.livelock.specs.Weights.{cycleWeight}
 use Rattle.livelock.specs.Figures.{mostStates}
-use Rattle.livelock.proofs.ListLaws.{all-weaken, all-both, all-at, all-of-map}
-use Rattle.livelock.proofs.SumLaws.{sum-add, sum-ones, sum-times, greatest-below}
-use Rattle.livelock.proofs.Pigeonhole.{pigeonhole}
+use Rattle.livelock.proofs.ListLaws.{all-weaken, all-always, all-both, all-at}
+use Rattle.livelock.proofs.SumLaws.{greatest-below}
+use Rattle.livelock.proofs.Pigeonhole.{left-once}
 use Rattle.livelock.proofs.Tests.{both-iff, equal-iff, not-iff}
 use Rattle.livelock.proofs.Walks.{walk-first}
 use Rattle.livelock.proofs.Graphs.{Graph, IsEdge, Within, Cycle, Positive}
+use Rattle.livelock.proofs.Lengths.{lengths-iff}
 use Rattle.livelock.proofs.CycleWeights.{sentWeight, takenWeight, row-fits, zero-or-more-iff}
 
 -- The edges are the quiet rows of machine m. Row k has the length 1 + n × (weight sent − weight taken).
@@ -83,10 +82,7 @@ module _ (P : Plant) (wf : WellFormed P) (m : ℕ) where
 
   -- A simple cycle has no more rows than its machine has states, since it leaves each state once at most.
   pub cycle-length : (c : List ℕ) → SimpleCycle P m c → length c ≤ stateCount P m
-  cycle-length c s =
-      rw
-      (← length-map c (leaves P))
-      (pigeonhole (stateCount P m) (map (leaves P) c) (s .once) (all-of-map _ (leaves P) c (all-weaken (RowOf P m) _ (λ k r. row-within k r .0) c (s .of-machine))))
+  cycle-length c s = left-once (leaves P) (stateCount P m) c (s .once) (all-weaken (RowOf P m) _ (λ k r. row-within k r .0) c (s .of-machine))
 
   -- The machine of a simple cycle is one of the plant's.
   pub cycle-machine : (c : List ℕ) → SimpleCycle P m c → m < machineCount P
@@ -100,25 +96,11 @@ most-states P m l = omega (arith, greatest-below (stateCount P) (machineCount P)
 
 -- ---- lengths
 
--- A quiet simple cycle of k rows has the length k + n × its weight, and 1 ≤ k ≤ n.
--- So the length is at least 1 if the weight is zero or more, and at most n − n = 0 if the weight is below zero.
-module _ (P : Plant) (wf : WellFormed P) (ws : List ℕ) (m : ℕ) (c : List ℕ) (s : SimpleCycle P m c) where
-  total-plus : sum (quietGraph P ws m .plus) c ≡ length c + mostStates P * sum (sentWeight P ws) c
-  total-plus = omega (arith, sum-add (λ k. 1) (λ k. mostStates P * sentWeight P ws k) c, sum-ones c, sum-times (mostStates P) (sentWeight P ws) c)
-
-  total-minus : sum (quietGraph P ws m .minus) c ≡ mostStates P * sum (takenWeight P ws) c
-  total-minus = sum-times (mostStates P) (takenWeight P ws) c
-
-  at-most : length c ≤ mostStates P
-  at-most = omega (arith, cycle-length P wf m c s, most-states P m (cycle-machine P wf m c s))
-
-  not-lighter : Positive (quietGraph P ws m) c → sum (takenWeight P ws) c ≤ sum (sentWeight P ws) c
-  not-lighter h =
-      let l : mostStates P * sum (takenWeight P ws) c < mostStates P * suc (sum (sentWeight P ws) c) = omega (arith, total-plus, total-minus, at-most) in
-      le-of-suc-le-suc (lt-of-mul-lt-mul-left (mostStates P) l)
-
-  longer : sum (takenWeight P ws) c ≤ sum (sentWeight P ws) c → Positive (quietGraph P ws m) c
-  longer h = omega (arith, total-plus, total-minus, mul-le-mul-left (mostStates P) h, s .non-empty)
-
-  pub positive-iff : Positive (quietGraph P ws m) c ↔ (pos 0 ≤ℤ cycleWeight P ws c)
-  positive-iff = let z = zero-or-more-iff P wf ws c in (λ h. z .1 (not-lighter h), λ h. longer (z .0 h))
+-- A quiet simple cycle has at most n rows, so it is longer than 0 exactly when it weighs zero or more.
+pub positive-iff : (P : Plant) → WellFormed P → (ws : List ℕ) (m : ℕ) (c : List ℕ) → SimpleCycle P m c → Positive (quietGraph P ws m) c ↔ (pos 0 ≤ℤ cycleWeight P ws c)
+positive-iff P wf ws m c s =
+    let z = zero-or-more-iff P wf ws c in
+    let few : length c ≤ mostStates P = omega (arith, cycle-length P wf m c s, most-states P m (cycle-machine P wf m c s)) in
+    Iff·trans
+    (lengths-iff (mostStates P) (sentWeight P ws) (takenWeight P ws) (quietGraph P ws m .plus) (quietGraph P ws m .minus) c (all-always _ (λ k. omega arith) c) (s .non-empty) few)
+    (z .1, z .0)

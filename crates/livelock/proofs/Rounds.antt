@@ -13,7 +13,7 @@ use Rattle.livelock.proofs.Graphs.{Graph, Within, PositiveCycle, via, v
 use Rattle.livelock.proofs.Potentials.{Potential, no-longer-or-positive}
 
 -- The length along an edge asks for f only at the edge's end.
-via-equal : (g : Graph) (f h : ℕ → ℕ) (s e : ℕ) → (g .counts e ≡ true → f (g .dst e) ≡ h (g .dst e)) → via g f s e ≡ via g h s e
+pub via-equal : (g : Graph) (f h : ℕ → ℕ) (s e : ℕ) → (g .counts e ≡ true → f (g .dst e) ≡ h (g .dst e)) → via g f s e ≡ via g h s e
 unfolding via
 via-equal g f h s e q = go (g .counts e) refl
   where

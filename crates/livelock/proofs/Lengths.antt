@@ -1,0 +1,33 @@
+-- Lengths 1 + n × weight: at most n edges together are longer than 0 exactly when they weigh zero or more. Nothing here speaks of plants.
+use mathlib.Core.Path.{_≡_}
+use mathlib.Core.Logic.{_↔_}
+use mathlib.Core.List.{List, [], _∷_}
+use Prim.Native.Nat.{ℕ, suc, _+_, _*_, _≤_, _<_}
+use native.Mathlib.Nat.{le-of-suc-le-suc, mul-le-mul-left, lt-of-mul-lt-mul-left}
+use native.Mathlib.Omega.{arith}
+use lib.ListN.{length}
+use Rattle.livelock.specs.Lists.{sum, All}
+
+-- Edge e weighs up e − down e, and its length is plus e − minus e.
+module _ (n : ℕ) (up down plus minus : ℕ → ℕ) where
+  -- The length is 1 + n × weight.
+  abbrev pub Lengthens : ℕ → Type 0
+  Lengthens e = plus e + n * down e ≡ 1 + n * up e + minus e
+
+  -- k edges together are k + n × weight long.
+  total : (es : List ℕ) → All Lengthens es → sum plus es + n * sum down es ≡ length es + n * sum up es + sum minus es
+  unfolding sum All
+  total [] h = omega arith
+  total (e ∷ es) h = omega (arith, h .0, total es (h .1))
+
+  -- With 1 ≤ k ≤ n the length is at least 1 if the weight is zero or more, and at most n − n = 0 if the weight is below zero.
+  pub lengths-iff : (es : List ℕ) → All Lengthens es → 0 < length es → length es ≤ n → (sum minus es < sum plus es) ↔ (sum down es ≤ sum up es)
+  lengths-iff es h some few = (not-lighter, longer)
+    where
+      not-lighter : sum minus es < sum plus es → sum down es ≤ sum up es
+      not-lighter p =
+          let l : n * sum down es < n * suc (sum up es) = omega (arith, total es h) in
+          le-of-suc-le-suc (lt-of-mul-lt-mul-left n l)
+
+      longer : sum down es ≤ sum up es → sum minus es < sum plus es
+      longer p = omega (arith, total es h, mul-le-mul-left n p)

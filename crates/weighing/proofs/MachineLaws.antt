@@ -1,0 +1,285 @@
+-- Laws of one machine of a decoded table: its rows, its edge list, and the cycles of both.
+use mathlib.Core.Path.{_≡_, refl, sym, ap, _∙_, subst}
+use mathlib.Core.Bool.{false, cond}
+use mathlib.Core.Option.{Option, none, some}
+use mathlib.Core.List.{List, [], _∷_, map}
+use Prim.Native.Nat.{ℕ, _+_, _≤_, _<_}
+use native.Mathlib.Decide.{ℕ-discrete, decLt}
+use native.Mathlib.Omega.{arith}
+use lib.ListN.{length, getD, length-map}
+use lib.Dec.{ltb, eqb}
+use lib.IntN.{ℤ, pos, _-ℤ_}
+use lib.Signed.{_<ℤ_, _≤ℤ_}
+use borrow.Author.Tests.{lt-ltb, le-ltb, eq-eqb, ne-eqb}
+use Rattle.livelock.specs.Lists.{sum, count, All, Distinct}
+use Rattle.livelock.specs.Plants.{Row, Plant, rowAt, rowCount, stateCount, hasProgress, WellFormed}
+use Rattle.livelock.specs.Cycles.{Walk, leaves, enters, RowOf, firstLeft, SimpleCycle, Quiet}
+use Rattle.livelock.specs.Weights.{cycleWeight}
+use Rattle.livelock.proofs.ListLaws.{all-weaken, all-always, all-both, all-at, all-of-map}
+use Rattle.livelock.proofs.SumLaws.{sum-mono, sum-ones}
+use Rattle.livelock.proofs.Walks.{walk-first}
+use Rattle.livelock.proofs.Graphs.{Graph, Cycle}
+use Rattle.livelock.proofs.Differences.{Difference, difference-minus}
+use Rattle.livelock.proofs.CycleWeights.{messageWeight, sentWeight, takenWeight, below-zero-iff, zero-or-more-iff}
+use Rattle.livelock.proofs.QuietGraphs.{QuietRowOf, row-within}
+use Rattle.plant.specs.Tables.{plantOf, rowsBefore, Ready}
+use Rattle.plant.specs.Limits.{WithinLimits}
+use Rattle.plant.specs.declared.PlantTable.{PlantTable}
+use Rattle.plant.proofs.Bounds.{one-bit}
+use Rattle.plant.proofs.TableLaws.{row-is, rows-so-far, machines-so-far}
+use Rattle.plant.proofs.FirstRowLaws.{row-of-machine}
+use Rattle.weighing.specs.declared.edges.Edges.{Edges}
+use Rattle.weighing.specs.Inner.Signs.{rise, fall}
+use Rattle.weighing.specs.Inner.Edges.{columnsOf, Has, Listed}
+use Rattle.weighing.specs.Inner.Rounds.{edgeGraph, EdgesIn, AllBelowZero}
+use Rattle.weighing.proofs.SignLaws.{rise-fall, rise-at-most, fall-at-most, difference-same}
+
+-- ---- counting rows
+
+-- A machine is before m + 1 if it is before m or is m.
+one-machine-more : (a m : ℕ) → cond (ltb a (m + 1)) 1 0 ≡ cond (ltb a m) 1 0 + cond (eqb a m) 1 0
+one-machine-more a m = go (decLt a m) (ℕ-discrete a m)
+  where
+    go : Dec (a < m) → Dec (a ≡ m) → cond (ltb a (m + 1)) 1 0 ≡ cond (ltb a m) 1 0 + cond (eqb a m) 1 0
+    go (yes l) (yes e) = absurd (omega arith)
+    go (yes l) (no e) = simp (lt-ltb a (m + 1) (omega arith), lt-ltb a m l, ne-eqb a m e)
+    go (no l) (yes e) = simp (lt-ltb a (m + 1) (omega arith), le-ltb a m (omega arith), eq-eqb a m e)
+    go (no l) (no e) = simp (le-ltb a (m + 1) (omega arith), le-ltb a m (omega arith), ne-eqb a m e)
+
+-- The rows of the machines before m + 1 are those of the machines before m and those of m.
+rows-of-next : (m : ℕ) (rs : List Row) → count (λ r. ltb (r .machine) (m + 1)) rs ≡ count (λ r. ltb (r .machine) m) rs + count (λ r. eqb (r .machine) m) rs
+unfolding sum
+rows-of-next m [] = refl
+rows-of-next m (r ∷ rs) = omega (arith, one-machine-more (r .machine) m, rows-of-next m rs)
+
+-- The machines before m have no more rows than the plant.
+rows-before-bound : (p : Plant) (m : ℕ) → rowsBefore p m ≤ rowCount p
+rows-before-bound p m =
+    omega (arith, sum-mono (λ (r : Row). cond (ltb (r .machine) m) 1 0) (λ r. 1) (p .rows) (all-always _ (λ r. one-bit (ltb (r .machine) m)) (p .rows)), sum-ones (p .rows))
+
+-- ---- edges and rows
+
+-- An edge from a to b of weight w is quiet row j of machine m.
+pub record RowEdge (P : Plant) (ws : List ℕ) (m j a b : ℕ) (w : ℤ) : Type 0 where
+  pub row : QuietRowOf P m j
+  pub left : a ≡ leaves P j
+  pub entered : b ≡ enters P j
+  pub weighs : w ≡ pos (sentWeight P ws j) -ℤ pos (takenWeight P ws j)
+
+-- Where no weight is above 65,535, no message's is.
+message-light : (ws : List ℕ) → ((i : ℕ) → getD ws i 0 ≤ 65535) → (o : Option ℕ) → messageWeight ws o ≤ 65535
+message-light ws light none = omega arith
+message-light ws light (some t) = light t
+
+-- Each of the edges e is a quiet row of machine m.
+module _ (P : Plant) (formed : WellFormed P) (ws : List ℕ) (m : ℕ) (e : Edges)
+    (each : (i : ℕ) → i < e .count → RowEdge P ws m (getD (e .row) i 0) (getD (e .from) i 0) (getD (e .to) i 0) (getD (e .weight) i (pos 0))) where
+  -- The row of edge i.
+  abbrev rowOfEdge : ℕ → ℕ
+  rowOfEdge i = getD (e .row) i 0
+
+  -- The edges as a graph.
+  abbrev graph : Graph
+  graph = edgeGraph (e .count) (e .from) (e .to) (e .weight)
+
+  -- A list of edges.
+  abbrev AllEdges : List ℕ → Type 0
+  AllEdges es = All (λ i. i < e .count) es
+
+  -- ---- bounds
+
+  -- No edge's rise is above 65,535,
+  rise-light : ((i : ℕ) → getD ws i 0 ≤ 65535) → (i : ℕ) → i < e .count → rise (getD (e .weight) i (pos 0)) ≤ 65535
+  rise-light light i l =
+      let a = sentWeight P ws (rowOfEdge i) in
+      let b = takenWeight P ws (rowOfEdge i) in
+      rw (each i l .weighs) (omega (arith, rise-at-most (pos a -ℤ pos b) a b (difference-minus a b), message-light ws light (rowAt P (rowOfEdge i) .sent)))
+
+  -- and no edge's fall.
+  fall-light : ((i : ℕ) → getD ws i 0 ≤ 65535) → (i : ℕ) → i < e .count → fall (getD (e .weight) i (pos 0)) ≤ 65535
+  fall-light light i l =
+      let a = sentWeight P ws (rowOfEdge i) in
+      let b = takenWeight P ws (rowOfEdge i) in
+      rw (each i l .weighs) (omega (arith, fall-at-most (pos a -ℤ pos b) a b (difference-minus a b), message-light ws light (rowAt P (rowOfEdge i) .taken)))
+
+  -- The edges lead between states of the machine, and none weighs more than 65,535 either way.
+  edges-in : ((i : ℕ) → getD ws i 0 ≤ 65535) → (1 ≤ stateCount P m) × (stateCount P m ≤ 64) → e .count ≤ 256 → EdgesIn (stateCount P m) (e .count) 65535 (e .from) (e .to) (e .weight)
+  edges-in light states few =
+      record {
+        some-state = states .0;
+        states-in = states .1;
+        few = few;
+        from-in = λ i l. rw (each i l .left) (row-within P formed m (rowOfEdge i) (each i l .row .0) .0);
+        to-in = λ i l. rw (each i l .entered) (row-within P formed m (rowOfEdge i) (each i l .row .0) .1);
+        rise-in = rise-light light;
+        fall-in = fall-light light;
+      }
+
+  -- ---- lists of edges and lists of rows
+
+  -- What the row sends and the edge's fall are together what the row takes and the edge's rise.
+  same-weight : (i : ℕ) → i < e .count → rise (getD (e .weight) i (pos 0)) + takenWeight P ws (rowOfEdge i) ≡ sentWeight P ws (rowOfEdge i) + fall (getD (e .weight) i (pos 0))
+  same-weight i l =
+      let a = sentWeight P ws (rowOfEdge i) in
+      let b = takenWeight P ws (rowOfEdge i) in
+      let w = getD (e .weight) i (pos 0) in
+      difference-same w (rise w) (fall w) a b (rise-fall w) (subst (λ (z : ℤ). Difference z a b) (sym (each i l .weighs)) (difference-minus a b))
+
+  -- So it is for lists.
+  same-weights : (es : List ℕ) → AllEdges es → sum (graph .plus) es + sum (takenWeight P ws) (map rowOfEdge es) ≡ sum (sentWeight P ws) (map rowOfEdge es) + sum (graph .minus) es
+  unfolding All sum
+  same-weights [] u = refl
+  same-weights (i ∷ es) u = omega (arith, same-weight i (u .0), same-weights es (u .1))
+
+  -- The rows leave the states that the edges leave.
+  same-left : (es : List ℕ) → AllEdges es → map (graph .src) es ≡ map (leaves P) (map rowOfEdge es)
+  unfolding All
+  same-left [] u = refl
+  same-left (i ∷ es) u = rw (each i (u .0) .left, same-left es (u .1))
+
+  -- A walk over the edges is one over their rows,
+  rows-walk : (s t : ℕ) (es : List ℕ) → AllEdges es → Walk (graph .src) (graph .dst) s es t → Walk (leaves P) (enters P) s (map rowOfEdge es) t
+  unfolding All Walk
+  rows-walk s t [] u w = w
+  rows-walk s t (i ∷ es) u w = (
+    sym (each i (u .0) .left) ∙ w .0,
+    subst (λ (x : ℕ). Walk (leaves P) (enters P) x (map rowOfEdge es) t) (each i (u .0) .entered) (rows-walk (getD (e .to) i 0) t es (u .1) (w .1)),
+  )
+
+  -- and the other way.
+  edges-walk : (s t : ℕ) (es : List ℕ) → AllEdges es → Walk (leaves P) (enters P) s (map rowOfEdge es) t → Walk (graph .src) (graph .dst) s es t
+  unfolding All Walk
+  edges-walk s t [] u w = w
+  edges-walk s t (i ∷ es) u w = (
+    each i (u .0) .left ∙ w .0,
+    edges-walk (getD (e .to) i 0) t es (u .1) (subst (λ (x : ℕ). Walk (leaves P) (enters P) x (map rowOfEdge es) t) (sym (each i (u .0) .entered)) (w .1)),
+  )
+
+  -- What holds of the row of each edge holds of each row of a list of edges.
+  all-rows : (F : ℕ → Type 0) → ((i : ℕ) → i < e .count → F (rowOfEdge i)) → (es : List ℕ) → AllEdges es → All F (map rowOfEdge es)
+  all-rows F f es u = all-of-map F rowOfEdge es (all-weaken (λ i. i < e .count) (λ i. F (rowOfEdge i)) f es u)
+
+  -- ---- cycles
+
+  -- Edges whose rows are a simple cycle are one.
+  edges-cycle : (es : List ℕ) → AllEdges es → SimpleCycle P m (map rowOfEdge es) → Cycle graph es
+  edges-cycle es u s =
+      record {
+        non-empty = subst (λ (n : ℕ). 0 < n) (length-map es rowOfEdge) (s .non-empty);
+        edges = all-weaken (λ i. i < e .count) _ (λ i l. (l, refl)) es u;
+        at = firstLeft P (map rowOfEdge es);
+        closed = edges-walk (firstLeft P (map rowOfEdge es)) (firstLeft P (map rowOfEdge es)) es u (s .closed);
+        once = subst Distinct (sym (same-left es u)) (s .once);
+      }
+
+  -- Where every cycle of the edges is below zero, a simple cycle that is the rows of edges weighs below zero.
+  edges-pass : AllBelowZero graph → (es : List ℕ) → AllEdges es → SimpleCycle P m (map rowOfEdge es) → cycleWeight P ws (map rowOfEdge es) <ℤ pos 0
+  edges-pass h es u s = below-zero-iff P formed ws (map rowOfEdge es) .1 (omega (arith, h es (edges-cycle es u s), same-weights es u))
+
+  -- The rows of a cycle of edges are a quiet simple cycle, which weighs zero or more if that does.
+  cycle-fails : (es : List ℕ) → Cycle graph es → sum (graph .minus) es ≤ sum (graph .plus) es
+      → SimpleCycle P m (map rowOfEdge es) × Quiet P (map rowOfEdge es) × (pos 0 ≤ℤ cycleWeight P ws (map rowOfEdge es))
+  cycle-fails es c h =
+      let u : AllEdges es = all-weaken _ (λ i. i < e .count) (λ i x. x .0) es (c .edges) in
+      let some : 0 < length (map rowOfEdge es) = subst (λ (n : ℕ). 0 < n) (sym (length-map es rowOfEdge)) (c .non-empty) in (
+        record {
+          non-empty = some;
+          of-machine = all-rows (RowOf P m) (λ i l. each i l .row .0) es u;
+          closed = walk-first (leaves P) (enters P) (c .at) (map rowOfEdge es) some (rows-walk (c .at) (c .at) es u (c .closed));
+          once = subst Distinct (same-left es u) (c .once);
+        },
+        all-rows (λ j. hasProgress (rowAt P j) ≡ false) (λ i l. each i l .row .1) es u,
+        zero-or-more-iff P formed ws (map rowOfEdge es) .1 (omega (arith, h, same-weights es u)),
+      )
+
+  -- And each such row is one of the edges.
+  module _ (every : (j : ℕ) → QuietRowOf P m j → Has e j) where
+    -- Edges whose rows the list c has.
+    record EdgesFor (c : List ℕ) : Type 0 where
+      edges : List ℕ
+      within : AllEdges edges
+      are : map rowOfEdge edges ≡ c
+
+    -- Every list of quiet rows of the machine has them.
+    edges-for : (c : List ℕ) → All (QuietRowOf P m) c → EdgesFor c
+    unfolding All
+    edges-for [] u = record { edges = []; within = tt; are = refl }
+    edges-for (j ∷ c) u =
+        let first = every j (u .0) in
+        let rest = edges-for c (u .1) in
+        record { edges = first .place ∷ rest .edges; within = (first .within, rest .within); are = rw (first .is, rest .are) }
+
+    -- Where every cycle of the edges is below zero, every quiet simple cycle is.
+    cycles-pass : AllBelowZero graph → (c : List ℕ) → SimpleCycle P m c → Quiet P c → cycleWeight P ws c <ℤ pos 0
+    cycles-pass h c s q =
+        let f = edges-for c (all-both (RowOf P m) _ c (s .of-machine) q) in
+        subst (λ (x : List ℕ). SimpleCycle P m x → cycleWeight P ws x <ℤ pos 0) (f .are) (edges-pass h (f .edges) (f .within)) s
+
+-- ---- a decoded table
+
+module _ (t : PlantTable) (ready : Ready t) (limits : WithinLimits (plantOf t)) where
+  -- The rows of machine m, for its edge list.
+  pub rows-from : (m : ℕ) → m < 16
+      → (getD (t .first) m 0 ≤ getD (t .first) (m + 1) 0) × (getD (t .first) (m + 1) 0 ≤ 1024) × (getD (t .first) (m + 1) 0 ≤ getD (t .first) m 0 + 255)
+  rows-from m l =
+      let low = ready .first-row m (omega arith) in
+      let high = ready .first-row (m + 1) (omega arith) in
+      let next = rows-of-next m (plantOf t .rows) in
+      let each = limits .rows-each m in (
+        omega (arith, low, high, next),
+        omega (arith, high, rows-before-bound (plantOf t) (m + 1), limits .rows-in-all),
+        omega (arith, low, high, next, each),
+      )
+
+  module _ (ws : List ℕ) (m : ℕ) (within : m < t .machines) (e : Edges) (listed : Listed (columnsOf t) ws (getD (t .first) m 0) (getD (t .first) (m + 1) 0) e) where
+    -- The machine is one of the sixteen that a table has room for.
+    in-sixteen : m < 16
+    in-sixteen = omega (arith, ready .sound .few-machines)
+
+    -- The edges are listed from the machine's first row
+    low-is : getD (t .first) m 0 ≡ rowsBefore (plantOf t) m
+    low-is = ready .first-row m (omega (arith, in-sixteen))
+
+    -- up to the next machine's.
+    high-is : getD (t .first) (m + 1) 0 ≡ rowsBefore (plantOf t) (m + 1)
+    high-is = ready .first-row (m + 1) (omega (arith, in-sixteen))
+
+    -- Each edge is a quiet row of the machine,
+    pub edge-row : (i : ℕ) → i < e .count → RowEdge (plantOf t) ws m (getD (e .row) i 0) (getD (e .from) i 0) (getD (e .to) i 0) (getD (e .weight) i (pos 0))
+    unfolding hasProgress
+    edge-row i l =
+        let x = listed .each i l in
+        let j = getD (e .row) i 0 in
+        let there : j < rowCount (plantOf t) = omega (arith, x .below-high, high-is, rows-before-bound (plantOf t) (m + 1)) in
+        let is = row-is t j (omega (arith, there, rows-so-far t)) in
+        record {
+          row = ((there, row-of-machine (plantOf t) limits m j there .1 (omega (arith, x .from-low, low-is), omega (arith, x .below-high, high-is))), ap (λ (r : Row). r .progress) is ∙ x .quiet);
+          left = x .left ∙ sym (ap (λ (r : Row). r .left) is);
+          entered = x .entered ∙ sym (ap (λ (r : Row). r .entered) is);
+          weighs = rw is (x .weighs);
+        }
+
+    -- and each of these is an edge.
+    pub row-edge : (j : ℕ) → QuietRowOf (plantOf t) m j → Has e j
+    unfolding hasProgress
+    row-edge j r =
+        let between = row-of-machine (plantOf t) limits m j (r .0 .0) .0 (r .0 .1) in
+        let is = row-is t j (omega (arith, r .0 .0, rows-so-far t)) in
+        listed .every j (omega (arith, between .0, low-is)) (omega (arith, between .1, high-is)) (sym (ap (λ (r : Row). r .progress) is) ∙ r .1)
+
+    -- The edges are within the limits that deciding and searching ask for.
+    pub machine-edges : ((i : ℕ) → getD ws i 0 ≤ 65535) → EdgesIn (stateCount (plantOf t) m) (e .count) 65535 (e .from) (e .to) (e .weight)
+    machine-edges light =
+        edges-in (plantOf t) (limits .formed) ws m e edge-row light
+        (all-at (λ n. (1 ≤ n) × (n ≤ 64)) 0 (plantOf t .states) (limits .states) m (omega (arith, machines-so-far t 16 (ready .sound) (omega arith))))
+        (omega (arith, listed .few, rows-from m in-sixteen .2))
+
+    -- Where every cycle of the edges is below zero, every quiet simple cycle of the machine is.
+    pub machine-passes : AllBelowZero (edgeGraph (e .count) (e .from) (e .to) (e .weight)) → (c : List ℕ) → SimpleCycle (plantOf t) m c → Quiet (plantOf t) c → cycleWeight (plantOf t) ws c <ℤ pos 0
+    machine-passes = cycles-pass (plantOf t) (limits .formed) ws m e edge-row row-edge
+
+    -- The rows of a cycle of edges that is zero or more are a quiet simple cycle of the machine that weighs zero or more.
+    pub machine-fails : (es : List ℕ) → Cycle (edgeGraph (e .count) (e .from) (e .to) (e .weight)) es
+        → sum (edgeGraph (e .count) (e .from) (e .to) (e .weight) .minus) es ≤ sum (edgeGraph (e .count) (e .from) (e .to) (e .weight) .plus) es
+        → SimpleCycle (plantOf t) m (map (λ i. getD (e .row) i 0) es) × Quiet (plantOf t) (map (λ i. getD (e .row) i 0) es) × (pos 0 ≤ℤ cycleWeight (plantOf t) ws (map (λ i. getD (e .row) i 0) es))
+    machine-fails = cycle-fails (plantOf t) (limits .formed) ws m e edge-row

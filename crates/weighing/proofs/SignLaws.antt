@@ -1,0 +1,66 @@
+-- Laws of signed numbers, for code that keeps them in 64 bits.
+use mathlib.Core.Path.{_≡_, sym}
+use mathlib.Core.Bool.{true, false, false≢true}
+use Prim.Native.Nat.{ℕ, _+_, _-_, _*_, _^_, _≤_, _<_}
+use native.Mathlib.Omega.{arith}
+use lib.Dec.{T}
+use lib.IntN.{ℤ, pos, negsuc, natAbs, _+ℤ_, _*ℤ_}
+use lib.Signed.{leZ, nonNeg}
+use mir.Syntax.{w64}
+use mir.Val.{SFits}
+use borrow.Author.Tests.{leb-true, leb-false}
+use Rattle.livelock.proofs.Differences.{Difference, difference-shift, difference-plus, difference-times}
+use Rattle.weighing.specs.Inner.Signs.{rise, fall}
+
+-- A signed number is its rise less its fall.
+pub rise-fall : (z : ℤ) → Difference z (rise z) (fall z)
+unfolding rise fall
+rise-fall (pos d) = omega arith
+rise-fall (negsuc d) = omega arith
+
+-- The rise is the least that a difference can be taken from, and the fall the least that can be taken.
+pub rise-at-most : (z : ℤ) (a b : ℕ) → Difference z a b → rise z ≤ a
+unfolding rise
+rise-at-most (pos d) a b i = omega arith
+rise-at-most (negsuc d) a b i = omega arith
+
+pub fall-at-most : (z : ℤ) (a b : ℕ) → Difference z a b → fall z ≤ b
+unfolding fall
+fall-at-most (pos d) a b i = omega arith
+fall-at-most (negsuc d) a b i = omega arith
+
+-- Two ways to write one difference.
+pub difference-same : (z : ℤ) (a b c d : ℕ) → Difference z a b → Difference z c d → a + d ≡ c + b
+difference-same (pos x) a b c d i j = omega arith
+difference-same (negsuc x) a b c d i j = omega arith
+
+-- What is the difference of two small numbers fits 64 bits.
+pub difference-fits : (z : ℤ) (a b : ℕ) → Difference z a b → a + b < 2 ^ 63 → SFits w64 z
+difference-fits (pos d) a b i h = record { sfits = omega arith }
+difference-fits (negsuc d) a b i h = record { sfits = omega arith }
+
+-- a − b is at most n,
+pub difference-at-most : (z : ℤ) (a b n : ℕ) → Difference z a b → leZ z (pos n) ≡ true → a ≤ n + b
+difference-at-most (pos d) a b n i h = omega (arith, leb-true d n h)
+difference-at-most (negsuc d) a b n i h = omega arith
+
+-- or above it.
+pub difference-above : (z : ℤ) (a b n : ℕ) → Difference z a b → leZ z (pos n) ≡ false → n + b < a
+difference-above (pos d) a b n i h = omega (arith, leb-false d n h)
+difference-above (negsuc d) a b n i h = absurd (false≢true (sym h))
+
+-- A difference that is not negative, as a natural number.
+pub difference-natural : (z : ℤ) (a b : ℕ) → Difference z a b → b ≤ a → T (nonNeg z) × (natAbs z ≡ a - b)
+difference-natural (pos d) a b i h = (tt, omega arith)
+difference-natural (negsuc d) a b i h = absurd (omega arith)
+
+-- A number and a signed one.
+pub difference-sum-of : (n : ℕ) (z : ℤ) → Difference (pos n +ℤ z) (rise z + n) (fall z)
+difference-sum-of n z =
+    difference-shift (pos n +ℤ z) (n + rise z) (0 + fall z) (rise z + n) (fall z) (omega arith) (difference-plus (pos n) z n 0 (rise z) (fall z) (omega arith) (rise-fall z))
+
+-- 1 + n × z.
+pub difference-length : (n : ℕ) (z : ℤ) → Difference (pos 1 +ℤ pos n *ℤ z) (1 + n * rise z) (n * fall z)
+difference-length n z =
+    difference-shift (pos 1 +ℤ pos n *ℤ z) (1 + n * rise z) (0 + n * fall z) (1 + n * rise z) (n * fall z) (omega arith)
+    (difference-plus (pos 1) (pos n *ℤ z) 1 0 (n * rise z) (n * fall z) (omega arith) (difference-times n z (rise z) (fall z) (rise-fall z)))

@@ -1,0 +1,140 @@
+use mathlib.Core.Bool.{false}
+use Prim.Native.Nat.{_-_, _≤_}
+use native.Mathlib.Nat.{le-refl}
+use native.Mathlib.Omega.{arith}
+use lib.ListN.{getD}
+use mir.Syntax.{w64}
+use mir.Facts.{toZ-ofZ}
+use Rattle.weighing.specs.Inner.Edges.{Listed}
+use Rattle.weighing.proofs.ListedLaws.{none-listed, one-at-most, next-listed, all-listed}
+use borrow.Author.Needs.{needs}
+use Rattle.weighing.proofs.edges.edges_of.Statement.{statement}
+use Rattle.weighing.proofs.edges.edges_of.Tie as tie
+
+abbrev Inv-loop : tie.InvT-loop
+Inv-loop left entered sent taken progress low high weights e₀ k₀ e k = (low ≤ k) × (k ≤ high) × Listed (record { left = left; entered = entered; sent = sent; taken = taken; progress = progress }) weights low k e
+
+abbrev μ-loop : tie.MeasureT-loop
+μ-loop left entered sent taken progress low high weights e₀ k₀ e k = high - k
+
+no-edges-requires : tie.Need-no-edges-requires Inv-loop μ-loop
+no-edges-requires c κs = tt
+
+loop-holds : tie.Need-loop-holds Inv-loop μ-loop
+loop-holds c = (le-refl _, c .before .before .pre .1, none-listed _ _ _ (c .no-edges .result) (c .no-edges .ensures))
+
+element-copy-out-row-weight : tie.Need-element-copy-out-row-weight Inv-loop μ-loop
+element-copy-out-row-weight c = search needs
+
+element-copy-out-row-weight-2 : tie.Need-element-copy-out-row-weight-2 Inv-loop μ-loop
+element-copy-out-row-weight-2 c = search needs
+
+row-weight-requires : tie.Need-row-weight-requires Inv-loop μ-loop
+row-weight-requires c κs = tt
+
+element-copy-out-e : tie.Need-element-copy-out-e Inv-loop μ-loop
+element-copy-out-e c = search needs
+
+element-write-e : tie.Need-element-write-e Inv-loop μ-loop
+element-write-e c =
+    let few = c .before .before .before .before .before .loop .inv .2 .few in
+    let l = c .before .before .before .before .loop-test .taken in
+    omega (arith, c .before .before .before .before .before .before .before .before .pre .2)
+
+element-copy-out-e-2 : tie.Need-element-copy-out-e-2 Inv-loop μ-loop
+element-copy-out-e-2 c = search needs
+
+element-write-e-2 : tie.Need-element-write-e-2 Inv-loop μ-loop
+element-write-e-2 c =
+    let few = c .before .before .before .before .before .before .loop .inv .2 .few in
+    let l = c .before .before .before .before .before .loop-test .taken in
+    omega (arith, c .before .before .before .before .before .before .before .before .before .pre .2)
+
+mul-weight : tie.Need-mul-weight Inv-loop μ-loop
+mul-weight c =
+    let few = c .before .before .before .before .before .before .loop .inv .2 .few in
+    let l = c .before .before .before .before .before .loop-test .taken in
+    record { fits = omega (arith, c .before .before .before .before .before .before .before .before .before .pre .2) }
+
+element-set-from-weight : tie.Need-element-set-from-weight Inv-loop μ-loop
+element-set-from-weight c =
+    let few = c .before .before .before .before .before .before .loop .inv .2 .few in
+    let l = c .before .before .before .before .before .loop-test .taken in
+    omega (arith, c .before .before .before .before .before .before .before .before .before .pre .2)
+
+cast-e : tie.Need-cast-e Inv-loop μ-loop
+cast-e c = search needs
+
+mul-e : tie.Need-mul-e Inv-loop μ-loop
+mul-e c =
+    let few = c .before .before .before .before .before .before .loop .inv .2 .few in
+    let l = c .before .before .before .before .before .loop-test .taken in
+    record { fits = omega (arith, c .before .before .before .before .before .before .before .before .before .pre .2) }
+
+element-write-e-3 : tie.Need-element-write-e-3 Inv-loop μ-loop
+element-write-e-3 c =
+    let few = c .before .before .before .before .before .before .loop .inv .2 .few in
+    let l = c .before .before .before .before .before .loop-test .taken in
+    omega (arith, c .before .before .before .before .before .before .before .before .before .pre .2)
+
+element-copy-out-one-if-quiet : tie.Need-element-copy-out-one-if-quiet Inv-loop μ-loop
+element-copy-out-one-if-quiet c = search needs
+
+one-if-quiet-requires : tie.Need-one-if-quiet-requires Inv-loop μ-loop
+one-if-quiet-requires c κs = tt
+
+add-e : tie.Need-add-e Inv-loop μ-loop
+add-e c =
+    let few = c .before .before .before .before .before .before .before .before .loop .inv .2 .few in
+    let l = c .before .before .before .before .before .before .before .loop-test .taken in
+    let one = one-at-most _ (getD (c .before .before .before .before .before .before .before .before .before .before .before .args .progress .now) (c .before .before .before .before .before .before .before .before .loop .k) false) (c .one-if-quiet .ensures) in
+    record { fits = omega (arith, c .before .before .before .before .before .before .before .before .before .before .before .pre .2) }
+
+add-k : tie.Need-add-k Inv-loop μ-loop
+add-k c = search needs
+
+loop-less : tie.Need-loop-less Inv-loop μ-loop
+loop-less c = search needs
+
+loop-again : tie.Need-loop-again Inv-loop μ-loop
+loop-again c =
+    let A = c .before .before .before .before .before .before .before .before .before .before .before .args in
+    let before = c .before .before .before .before .before .before .before .before .loop in
+    let l = c .before .before .before .before .before .before .before .loop-test .taken in
+    let weight = c .before .before .before .before .row-weight in (
+      omega (arith, before .inv .0),
+      omega (arith, l),
+      rw (toZ-ofZ {w = w64} {z = weight .result} (record { sfits = weight .ok }))
+          (next-listed (record { left = A .left .now; entered = A .entered .now; sent = A .sent .now; taken = A .taken .now; progress = A .progress .now }) (A .weights .now) (A .low) (before .k) (before .e) (before .inv .2) (before .inv .0) (omega (arith, l, c .before .before .before .before .before .before .before .before .before .before .before .pre .2)) (weight .result) (weight .ensures) (c .one-if-quiet .result) (c .one-if-quiet .ensures)),
+    )
+
+returns : tie.Need-returns Inv-loop μ-loop
+returns c = all-listed _ _ _ (c .before .loop .k) _ _ (omega (arith, c .before .loop .inv .1)) (c .before .loop .inv .2)
+
+pub edges-of-spec : {M : Type 1} → statement M
+edges-of-spec =
+    tie.close
+    (tie.spec
+    Inv-loop
+    μ-loop
+    no-edges-requires
+    loop-holds
+    element-copy-out-row-weight
+    element-copy-out-row-weight-2
+    row-weight-requires
+    element-copy-out-e
+    element-write-e
+    element-copy-out-e-2
+    element-write-e-2
+    mul-weight
+    element-set-from-weight
+    cast-e
+    mul-e
+    element-write-e-3
+    element-copy-out-one-if-quiet
+    one-if-quiet-requires
+    add-e
+    add-k
+    loop-less
+    loop-again
+    returns)

@@ -1,0 +1,60 @@
+use mathlib.Core.Path.{_≡_, _∙_}
+use mathlib.Core.Bool.{true, false}
+use Prim.Native.Nat.{ℕ, _+_, _≤_}
+use native.Mathlib.Omega.{arith}
+use lib.IntN.{ℤ, pos, _+ℤ_}
+use lib.Signed.{leZ}
+use mir.Syntax.{w64}
+use mir.Val.{SFits, toZ, ofZ}
+use mir.Facts.{toZ-pos, toZ-ofZ}
+use Rattle.weighing.specs.Inner.Signs.{rise, fall}
+use Rattle.weighing.proofs.SignLaws.{difference-fits, difference-at-most, difference-above, difference-natural, difference-sum-of}
+use Rattle.weighing.proofs.relaxing.raised.Statement.{statement}
+use Rattle.weighing.proofs.relaxing.raised.Tie as tie
+
+-- The sum along an edge fits 64 bits, so the code's number is the sum itself.
+module _ (next : ℕ) (length : ℤ) (low : next ≤ 2199023255552) (up : rise length ≤ 4194304) (down : fall length ≤ 4194304) where
+  along-fits : SFits w64 (pos next +ℤ length)
+  along-fits = difference-fits (pos next +ℤ length) (rise length + next) (fall length) (difference-sum-of next length) (omega arith)
+
+  along-is : SFits w64 length → toZ w64 (ofZ w64 (toZ w64 next +ℤ toZ w64 (ofZ w64 length))) ≡ pos next +ℤ length
+  along-is fits = rw (toZ-pos w64 {n = next} (omega arith), toZ-ofZ fits) (toZ-ofZ along-fits)
+
+cast-along : tie.Need-cast-along
+cast-along c = record { sfits = omega (arith, c .pre .1) }
+
+add-along : tie.Need-add-along
+add-along c =
+    rw (toZ-pos w64 {n = c .args .next} (omega (arith, c .pre .1)), toZ-ofZ (c .fits .length))
+    (along-fits (c .args .next) (c .args .length) (c .pre .1) (c .pre .2) (c .pre .3))
+
+cast-if1 : tie.Need-cast-if1
+cast-if1 c = record { sfits = omega (arith, c .pre .0) }
+
+cast-result : tie.Need-cast-result
+cast-result c =
+    let a = c .before .args in
+    let e = along-is (a .next) (a .length) (c .before .pre .1) (c .before .pre .2) (c .before .pre .3) (c .before .fits .length) in
+    let over : leZ (pos (a .next) +ℤ a .length) (pos (a .at)) ≡ false = rw (e, toZ-pos w64 {n = a .at} (omega (arith, c .before .pre .0))) at (c .if1 .left) in
+    let above = difference-above (pos (a .next) +ℤ a .length) (rise (a .length) + a .next) (fall (a .length)) (a .at) (difference-sum-of (a .next) (a .length)) over in
+    let natural = difference-natural (pos (a .next) +ℤ a .length) (rise (a .length) + a .next) (fall (a .length)) (difference-sum-of (a .next) (a .length)) (omega arith) in
+    rw e (natural .0, record { fits = omega (arith, natural .1, c .before .pre .1, c .before .pre .2) })
+
+returns : tie.Need-returns
+returns c =
+    let a = c .before .args in
+    let e = along-is (a .next) (a .length) (c .before .pre .1) (c .before .pre .2) (c .before .pre .3) (c .before .fits .length) in
+    let under : leZ (pos (a .next) +ℤ a .length) (pos (a .at)) ≡ true = rw (e, toZ-pos w64 {n = a .at} (omega (arith, c .before .pre .0))) at (c .if1 .taken) in
+    omega (arith, difference-at-most (pos (a .next) +ℤ a .length) (rise (a .length) + a .next) (fall (a .length)) (a .at) (difference-sum-of (a .next) (a .length)) under)
+
+returns-2 : tie.Need-returns-2
+returns-2 c =
+    let a = c .before .args in
+    let e = along-is (a .next) (a .length) (c .before .pre .1) (c .before .pre .2) (c .before .pre .3) (c .before .fits .length) in
+    let over : leZ (pos (a .next) +ℤ a .length) (pos (a .at)) ≡ false = rw (e, toZ-pos w64 {n = a .at} (omega (arith, c .before .pre .0))) at (c .if1 .left) in
+    let above = difference-above (pos (a .next) +ℤ a .length) (rise (a .length) + a .next) (fall (a .length)) (a .at) (difference-sum-of (a .next) (a .length)) over in
+    let natural = difference-natural (pos (a .next) +ℤ a .length) (rise (a .length) + a .next) (fall (a .length)) (difference-sum-of (a .next) (a .length)) (omega arith) in
+    rw e (natural .1 ∙ omega arith)
+
+pub raised-spec : {M : Type 1} → statement M
+raised-spec = tie.close (tie.spec cast-along add-along cast-if1 cast-result returns returns-2)

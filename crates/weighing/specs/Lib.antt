@@ -1,0 +1,2 @@
+-- Definitions for weighing.
+pub mod Inner
