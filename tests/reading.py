@@ -1,21 +1,14 @@
 """Compare `read` and `decode` with a second reader, on whole, damaged and random files.
 
 The reader below was written from the scope document's section "The plant file" and its table of faults, in another
-style than the definitions: it reads a file with an iterator and raises the first fault. The crate `reading_probe`,
-made here outside of the repository, exports the two functions of crate plant; a C program reads files from its standard
-input and prints what they answer.
-
-    python3 tests/reading.py [SEED]
+style than the definitions: it reads a file with an iterator and raises the first fault. The C program reads files from
+its standard input and prints what the two functions answer. `tests/compiled.py` runs it.
 """
-import os
 import random
-import shutil
 import struct
 import subprocess
 import sys
-import tempfile
 
-ROOT = os.path.dirname(os.path.dirname(os.path.abspath(__file__)))
 FILES = 30000
 
 
@@ -161,7 +154,7 @@ def files(rng):
 
 # ---- the compiled reader
 
-PROBE = '''// Exports of crate plant, for a test.
+PROBE = '''
 use plant::{Decoded, End, PlantTable, Reading};
 
 #[repr(C)]
@@ -247,29 +240,10 @@ int main(void) {
 '''
 
 
-def build(folder):
-    """The C program over the compiled reader."""
-    for crate in ('livelock', 'plant'):
-        shutil.copytree(os.path.join(ROOT, 'crates', crate), os.path.join(folder, 'crates', crate))
-    os.makedirs(os.path.join(folder, 'crates', 'reading_probe', 'src'))
-    for path, text in (('crates/reading_probe/src/lib.rt', PROBE), ('crates.txt', 'livelock:\nplant: livelock\nreading_probe: plant\n'), ('driver.c', DRIVER)):
-        with open(os.path.join(folder, path), 'w', encoding='utf-8') as out:
-            out.write(text)
-    for command in (['rt', 'staticlib', 'reading_probe'],
-                    ['gcc', '-O2', '-Wall', '-Wextra', '-Werror', 'driver.c', '-Ltarget/staticlib', '-lreading_probe', '-o', 'driver']):
-        done = subprocess.run(command, cwd=folder, capture_output=True, text=True)
-        if done.returncode != 0:
-            sys.exit('reading.py: %s failed:\n%s' % (' '.join(command), (done.stdout + done.stderr)[-3000:]))
-    return os.path.join(folder, 'driver')
-
-
-def main():
-    seed = int(sys.argv[1]) if len(sys.argv) > 1 else 1906
+def compare(driver, seed):
     cases = list(files(random.Random(seed)))
-    with tempfile.TemporaryDirectory() as folder:
-        driver = build(folder)
-        given = b''.join(struct.pack('<I', len(c)) + c for c in cases)
-        printed = subprocess.run([driver], input=given, capture_output=True, check=True).stdout.decode().split('\n')[:-1]
+    given = b''.join(struct.pack('<I', len(c)) + c for c in cases)
+    printed = subprocess.run([driver], input=given, capture_output=True, check=True).stdout.decode().split('\n')[:-1]
     owed = [expected(c) for c in cases]
     if len(printed) != len(owed):
         sys.exit('reading.py: %d answers to %d files' % (len(printed), len(owed)))
@@ -281,7 +255,3 @@ def main():
         sys.exit('reading.py: only the faults %s were met' % met)
     print('reading.py: seed %d: %d files, of which %d read; every number from 1 to 8 was met'
           % (seed, len(cases), sum(line.startswith('counts') for line in owed)))
-
-
-if __name__ == '__main__':
-    main()

@@ -1,6 +1,7 @@
 -- Laws of one machine of a decoded table: its rows, its edge list, and the cycles of both.
 use mathlib.Core.Path.{_≡_, refl, sym, ap, _∙_, subst}
-use mathlib.Core.Bool.{false, cond}
+use mathlib.Core.Logic.{_↔_}
+use mathlib.Core.Bool.{Bool, true, false, cond, false≢true}
 use mathlib.Core.Option.{Option, none, some}
 use mathlib.Core.List.{List, [], _∷_, map}
 use Prim.Native.Nat.{ℕ, _+_, _≤_, _<_}
@@ -9,7 +10,7 @@ use native.Mathlib.Omega.{arith}
 use lib.ListN.{length, getD, length-map}
 use lib.Dec.{ltb, eqb}
 use lib.IntN.{ℤ, pos, _-ℤ_}
-use lib.Signed.{_<ℤ_, _≤ℤ_}
+use lib.Signed.{_<ℤ_, _≤ℤ_, clashℤ}
 use borrow.Author.Tests.{lt-ltb, le-ltb, eq-eqb, ne-eqb}
 use Rattle.livelock.specs.Lists.{sum, count, All, Distinct}
 use Rattle.livelock.specs.Plants.{Row, Plant, rowAt, rowCount, stateCount, hasProgress, WellFormed}
@@ -31,7 +32,7 @@ use Rattle.plant.proofs.FirstRowLaws.{row-of-machine}
 use Rattle.weighing.specs.declared.edges.Edges.{Edges}
 use Rattle.weighing.specs.Inner.Signs.{rise, fall}
 use Rattle.weighing.specs.Inner.Edges.{columnsOf, Has, Listed}
-use Rattle.weighing.specs.Inner.Rounds.{edgeGraph, EdgesIn, AllBelowZero}
+use Rattle.weighing.specs.Inner.Rounds.{edgeGraph, EdgesIn, AllBelowZero, Decided}
 use Rattle.weighing.proofs.SignLaws.{rise-fall, rise-at-most, fall-at-most, difference-same}
 
 -- ---- counting rows
@@ -283,3 +284,11 @@ module _ (t : PlantTable) (ready : Ready t) (limits : WithinLimits (plantOf t)) 
         → sum (edgeGraph (e .count) (e .from) (e .to) (e .weight) .minus) es ≤ sum (edgeGraph (e .count) (e .from) (e .to) (e .weight) .plus) es
         → SimpleCycle (plantOf t) m (map (λ i. getD (e .row) i 0) es) × Quiet (plantOf t) (map (λ i. getD (e .row) i 0) es) × (pos 0 ≤ℤ cycleWeight (plantOf t) ws (map (λ i. getD (e .row) i 0) es))
     machine-fails = cycle-fails (plantOf t) (limits .formed) ws m e edge-row
+
+    -- What `decide` says of the edges, it says of the machine: true exactly when every quiet simple cycle weighs below zero.
+    pub machine-decided : (b : Bool) → Decided (edgeGraph (e .count) (e .from) (e .to) (e .weight)) b
+        → (b ≡ true) ↔ ((c : List ℕ) → SimpleCycle (plantOf t) m c → Quiet (plantOf t) c → cycleWeight (plantOf t) ws c <ℤ pos 0)
+    machine-decided true d = (λ q. machine-passes d, λ p. refl)
+    machine-decided false d =
+        let x = machine-fails (d .0) (d .1) (d .2) in
+        (λ q. absurd (false≢true q), λ p. absurd (clashℤ (p (map (λ i. getD (e .row) i 0) (d .0)) (x .0) (x .1)) (x .2)))

@@ -4,3 +4,4 @@ pub mod Edges
 pub mod Rounds
 pub mod Searches
 pub mod FigureSums
+pub mod Checks

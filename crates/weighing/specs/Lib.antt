@@ -1,2 +1,4 @@
--- Definitions for weighing.
+-- What weighing says and owes.
+pub mod Answers
+pub mod Weighing
 pub mod Inner

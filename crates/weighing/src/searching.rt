@@ -7,6 +7,7 @@ ghost use Rattle.livelock.specs.Lists.{below, greatest};
 ghost use Rattle.livelock.proofs.Graphs.{via};
 ghost use Rattle.weighing.specs.Inner.Rounds.{edgeGraph, EdgesIn, Low, SomeZeroOrMore};
 ghost use Rattle.weighing.specs.Inner.Searches.{origin, Exactly, LeastFrom, Least, FirstEdge, Written};
+ghost use Rattle.weighing.specs.Inner.Checks.{ShownRows};
 use crate::relaxing::raised;
 use crate::relaxing::round;
 use crate::relaxing::wide;
@@ -166,4 +167,24 @@ pub fn write_cycle(
         value = table[s];
         i += 1;
     }
+}
+
+// Finds a cycle with the fewest edges and writes its rows; hands back how many they are.
+pub fn show(
+    from: &[u8; 256],
+    to: &[u8; 256],
+    weight: &[i64; 256],
+    row: &[u16; 256],
+    count: usize,
+    states: usize,
+    cycle: &mut [u16],
+) -> usize
+    requires { ⌜ EdgesIn states count 65535 (now from) (now to) (now weight) × SomeZeroOrMore (edgeGraph count (now from) (now to) (now weight)) × (64 ≤ length (now cycle)) ⌝ }
+    ensures { λ r. ⌜ ShownRows (edgeGraph count (now (from .entry)) (now (to .entry)) (now (weight .entry))) states (now (row .entry)) r (now (cycle .entry)) (now (cycle .exit)) ⌝ }
+{
+    let found = least(from, to, weight, count, states);
+    let start = found.start;
+    let k = found.length;
+    write_cycle(from, to, weight, row, count, states, start, k, cycle);
+    k
 }

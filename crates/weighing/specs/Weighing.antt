@@ -1,0 +1,65 @@
+-- What weighing owes (document 01, "Cycles and weighing" and "Where each fault is found", 9 to 11; demands 2 and 3).
+use mathlib.Core.Path.{_≡_}
+use mathlib.Core.Bool.{cond}
+use mathlib.Core.List.{List, [], _∷_, _++_}
+use Prim.Native.Nat.{ℕ, suc, _≤_}
+use lib.ListN.{length, drop}
+use lib.Dec.{eqb, ltb}
+use Rattle.livelock.specs.Plants.{Plant}
+use Rattle.livelock.specs.Runs.{Configuration, Event, quietRows, progressRows}
+use Rattle.livelock.specs.Weights.{Passes, FailingCycle}
+use Rattle.livelock.specs.Figures.{base, mostStates, perProgress, ceilingOf}
+use Rattle.plant.specs.Found.{Found, found, fault, andThen}
+use Rattle.plant.specs.Reading.{readPlant}
+use Rattle.weighing.specs.Answers.{Answer, passed, cycle, refused}
+
+-- "weights | 10 | above 1,000 | index": the index of the first weight above 1,000, or the length if none is.
+unfoldable pub firstAbove : List ℕ → ℕ
+firstAbove [] = 0
+firstAbove (w ∷ ws) = cond (ltb 1000 w) 0 (suc (firstAbove ws))
+
+-- "lent cycle list (weighing) | 11 | shorter than 64 | 0".
+unfoldable pub checkedRoom : ℕ → Plant → ℕ → Found Plant
+checkedRoom room P end = cond (ltb room 64) (fault 11 0) (found P end)
+
+-- "weights | 10 | above 1,000 | index", then 11.
+unfoldable pub checkedSizes : List ℕ → ℕ → Plant → ℕ → Found Plant
+checkedSizes ws room P end = cond (ltb (firstAbove ws) (length ws)) (fault 10 (firstAbove ws)) (checkedRoom room P end)
+
+-- "weights | 9 | not one for each type | 0", then 10 and 11.
+unfoldable pub checked : List ℕ → ℕ → Plant → ℕ → Found Plant
+checked ws room P end = cond (eqb (length ws) (P .types)) (checkedSizes ws room P end) (fault 9 0)
+
+-- "File first, then downward as each call reads its parts; weighing checks 9, 10, 11": the plant to weigh, or the fault.
+abbrev pub judged : List ℕ → List ℕ → ℕ → Found Plant
+judged file ws room = andThen (readPlant file) (checked ws room)
+
+-- Demand 3: "the quiet rows that happen number at most F + n × W + G × g", for every list of events, from any states and any contents.
+abbrev pub Bounded : Plant → List ℕ → Type 0
+Bounded P ws = (c : Configuration) (events : List Event) → quietRows P c events ≤ ceilingOf P ws (c .content) (progressRows P c events)
+
+-- "Passing hands back F, n and G as in the mission"; "On passing, the whole list does" keep its contents; and the bound holds.
+pub record OnPassing (P : Plant) (ws before after : List ℕ) (a : Answer) : Type 0 where
+  pub figures : a ≡ passed (base P ws) (mostStates P) (perProgress P ws)
+  pub whole-kept : after ≡ before
+  pub bounded : Bounded P ws
+
+-- "Otherwise the rows of one quiet simple cycle weighing zero or more fill the front of a second lent list, and their count is handed back.
+-- Which one is free; its later entries keep their contents."
+pub record OnFailing (P : Plant) (ws before after : List ℕ) (a : Answer) : Type 0 where
+  pub rows : List ℕ
+  pub fails : FailingCycle P ws rows
+  pub few : length rows ≤ 64
+  pub count : a ≡ cycle (length rows)
+  pub shown : after ≡ rows ++ drop (length rows) before
+
+-- "Every lent list keeps its contents."
+pub record OnFault (number place : ℕ) (before after : List ℕ) (a : Answer) : Type 0 where
+  pub refusal : a ≡ refused number place
+  pub kept : after ≡ before
+
+-- What is owed, by the input alone: for a fault its number and place; for a plant, one thing if the weights pass and another if they do not.
+pub data Owed (ws before after : List ℕ) (a : Answer) : Found Plant → Type 0 where
+  for-fault : {number place : ℕ} → OnFault number place before after a → Owed ws before after a (fault number place)
+  for-plant : {P : Plant} {end : ℕ} → (Passes P ws → OnPassing P ws before after a) → ((Passes P ws → ⊥) → OnFailing P ws before after a)
+      → Owed ws before after a (found P end)

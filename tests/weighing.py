@@ -1,0 +1,249 @@
+"""Compare `weigh` with a second implementation, on random plants and weights.
+
+The second one was written from the scope document, in another way than the proved code: it reads with the second reader
+of reading.py and finds the greatest mean weight of a machine's quiet cycles (Karp's algorithm, in fractions); weights
+pass when every mean is below zero. On small machines it also goes through all simple cycles. A cycle that is shown is
+held to the words of the scope document. For weights that pass, random runs that put progress off are held to the bound.
+
+`tests/compiled.py` runs it.
+"""
+import random
+import struct
+import subprocess
+import sys
+from fractions import Fraction
+
+import reading
+
+CASES = 20000
+
+
+# ---- the second implementation
+
+def row_weight(row, weights):
+    _, _, _, sent, taken, _ = row
+    return (weights[sent] if sent is not None else 0) - (weights[taken] if taken is not None else 0)
+
+
+def quiet_edges(plant, m, weights):
+    _, _, rows = plant
+    return [(r[1], r[2], row_weight(r, weights)) for r in rows if r[0] == m and not r[5]]
+
+
+def greatest_mean(states, edges):
+    """Karp: the greatest mean weight of a cycle, or None without one."""
+    best = None
+    walks = [[0] * states]
+    for k in range(states):
+        new = [None] * states
+        for a, b, w in edges:
+            if walks[k][a] is not None and (new[b] is None or walks[k][a] + w > new[b]):
+                new[b] = walks[k][a] + w
+        walks.append(new)
+    for s in range(states):
+        if walks[states][s] is None:
+            continue
+        least = min(Fraction(walks[states][s] - walks[k][s], states - k) for k in range(states) if walks[k][s] is not None)
+        best = least if best is None else max(best, least)
+    return best
+
+
+def cycles(states, edges):
+    """The weights of all simple cycles, each from its lowest state."""
+    def extend(start, at, left, weight):
+        for a, b, w in edges:
+            if a != at:
+                continue
+            if b == start:
+                yield weight + w
+            elif b > start and b not in left:
+                yield from extend(start, b, left | {b}, weight + w)
+    for s in range(states):
+        yield from extend(s, s, {s}, 0)
+
+
+def passes(plant, weights):
+    _, states, _ = plant
+    for m, n in enumerate(states):
+        edges = quiet_edges(plant, m, weights)
+        mean = greatest_mean(n, edges)
+        if n <= 4 and len(edges) <= 8:
+            greatest = max(cycles(n, edges), default=None)
+            if (greatest is None or greatest < 0) != (mean is None or mean < 0):
+                sys.exit('weighing.py: the two ways to judge a machine differ')
+        if mean is not None and mean >= 0:
+            return False
+    return True
+
+
+def figures(plant, weights):
+    _, states, _ = plant
+    n, less, w = max(states), sum(s - 1 for s in states), max(weights, default=0)
+    return less + n * w * less, n, n - 1 + n * n * w
+
+
+def is_failing_cycle(plant, weights, shown):
+    _, _, rows = plant
+    if not shown or any(k >= len(rows) for k in shown):
+        return False
+    cycle = [rows[k] for k in shown]
+    return (len({r[0] for r in cycle}) == 1
+            and all(r[2] == cycle[(i + 1) % len(cycle)][1] for i, r in enumerate(cycle))
+            and len({r[1] for r in cycle}) == len(cycle)
+            and not any(r[5] for r in cycle)
+            and sum(row_weight(r, weights) for r in cycle) >= 0)
+
+
+def judge(data, weights, room, before, line):
+    """What is wrong with an answer, or None. The line has the answer and then the lent list afterwards."""
+    words = line.split()
+    answer, after = words[:words.index(':')], [int(x) for x in words[words.index(':') + 1:]]
+    try:
+        plant = reading.read_plant(data)
+        if len(weights) != plant[0]:
+            raise reading.Fault(9, 0)
+        for i, w in enumerate(weights):
+            if w > 1000:
+                raise reading.Fault(10, i)
+        if room < 64:
+            raise reading.Fault(11, 0)
+    except reading.Fault as fault:
+        if answer != ['refused'] + [str(x) for x in fault.args] or after != before:
+            return 'refused %d %d, list kept' % fault.args
+        return None
+    if passes(plant, weights):
+        owed = 'passed %d %d %d' % figures(plant, weights)
+        return None if ' '.join(answer) == owed and after == before else owed + ', list kept'
+    k = int(answer[1]) if answer[0] == 'cycle' else 0
+    if answer[0] == 'cycle' and 1 <= k <= 64 and is_failing_cycle(plant, weights, after[:k]) and after[k:] == before[k:]:
+        return None
+    return 'a quiet simple cycle of weight zero or more, the rest of the list kept'
+
+
+# ---- runs
+
+def longest_run(rng, plant, weights, steps):
+    """Quiet rows and progress rows of a run that takes a quiet row wherever one can happen, and the bound."""
+    types, states, rows = plant
+    f, n, g = figures(plant, weights)
+    content = [rng.randrange(4) for _ in range(types)]
+    bound = f + n * sum(w * c for w, c in zip(weights, content))
+    state, quiet, progress = [rng.randrange(s) for s in states], 0, 0
+    for _ in range(steps):
+        can = [r for r in rows if state[r[0]] == r[1] and (r[4] is None or content[r[4]])]
+        if not can:
+            break
+        row = rng.choice([r for r in can if not r[5]] or can)
+        state[row[0]] = row[2]
+        if row[3] is not None:
+            content[row[3]] += 1
+        if row[4] is not None:
+            content[row[4]] -= 1
+        quiet, progress = quiet + (not row[5]), progress + row[5]
+        if quiet > bound + g * progress:
+            sys.exit('weighing.py: %d quiet rows and %d others, but the bound is %d' % (quiet, progress, bound + g * progress))
+    return quiet, bound + g * progress
+
+
+# ---- cases
+
+def plant_file(rng):
+    machines, types = rng.choice([1, 1, 2, 3, 5]), rng.choice([0, 1, 2, 3, 8])
+    data = [machines, types]
+    for _ in range(machines):
+        states = rng.choice([1, 2, 3, 4, 9, 64])
+        count = rng.choice([0, 1, 2, 4, 8, 30])
+        data += [states, count]
+        for _ in range(count):
+            bits = 3 | (16 if rng.random() < 0.25 else 0) | (rng.choice([0, 4, 8, 8]) if types else 0)
+            data += [bits, rng.randrange(states), rng.randrange(states)] + ([rng.randrange(types)] if bits & 12 else [])
+    return bytes(data)
+
+
+def cases(rng):
+    for _ in range(CASES):
+        data = plant_file(rng)
+        if rng.random() < 0.05:
+            data = reading.damaged(rng, data)
+        try:
+            types = reading.read_plant(data)[0]
+        except reading.Fault:
+            types = rng.randrange(4)
+        types += rng.choice([0] * 30 + [1])
+        largest = rng.choice([1, 3, 1000, 1000])
+        weights = [rng.randint(0, largest) for _ in range(types)]
+        if weights and rng.random() < 0.03:
+            weights[rng.randrange(types)] = rng.choice([1000, 1001, 65535])
+        room = rng.choice([64, 64, 64, 65, 70, 63, 0]) if rng.random() < 0.2 else 64
+        yield data, weights, room, [rng.randrange(65536) for _ in range(room)]
+
+
+PROBE = '''
+use weighing::Weighed;
+
+#[repr(C)]
+pub struct Weighing {
+    pub kind: u8,
+    pub first: u64,
+    pub second: u64,
+    pub third: u64,
+}
+
+#[no_mangle]
+pub extern "C" fn probe_weigh(file: &[u8], weights: &[u16], cycle: &mut [u16]) -> Weighing {
+    let answer = weighing::weigh(file, weights, cycle);
+    match answer {
+        Weighed::Passed { base, states, progress } => Weighing { kind: 0, first: base, second: states, third: progress },
+        Weighed::Cycle { rows } => Weighing { kind: 1, first: rows as u64, second: 0, third: 0 },
+        Weighed::Refused(fault) => Weighing { kind: 2, first: fault.number as u64, second: fault.place as u64, third: 0 },
+    }
+}
+'''
+
+DRIVER = '''#include <stdint.h>
+#include <stdio.h>
+#include <stdlib.h>
+typedef struct { uint8_t kind; uint64_t first, second, third; } Weighing;
+Weighing probe_weigh(const uint8_t *file, size_t length, const uint16_t *weights, size_t count, uint16_t *cycle, size_t room);
+int main(void) {
+    uint32_t head[3];
+    while (fread(head, 4, 3, stdin) == 3) {
+        uint8_t *file = malloc(head[0] + 1);
+        uint16_t *weights = malloc(2 * head[1] + 2), *cycle = malloc(2 * head[2] + 2);
+        if (fread(file, 1, head[0], stdin) != head[0] || fread(weights, 2, head[1], stdin) != head[1] || fread(cycle, 2, head[2], stdin) != head[2]) return 1;
+        Weighing w = probe_weigh(file, head[0], weights, head[1], cycle, head[2]);
+        if (w.kind == 0) printf("passed %llu %llu %llu", (unsigned long long)w.first, (unsigned long long)w.second, (unsigned long long)w.third);
+        if (w.kind == 1) printf("cycle %llu", (unsigned long long)w.first);
+        if (w.kind == 2) printf("refused %llu %llu", (unsigned long long)w.first, (unsigned long long)w.second);
+        printf(" :");
+        for (uint32_t i = 0; i < head[2]; i++) printf(" %d", cycle[i]);
+        printf("\\n");
+        free(file); free(weights); free(cycle);
+    }
+    return 0;
+}
+'''
+
+
+def compare(driver, seed):
+    rng = random.Random(seed)
+    given = list(cases(rng))
+    stream = b''.join(struct.pack('<III', len(d), len(w), r) + d + struct.pack('<%dH' % len(w), *w) + struct.pack('<%dH' % r, *b) for d, w, r, b in given)
+    printed = subprocess.run([driver], input=stream, capture_output=True, check=True).stdout.decode().split('\n')[:-1]
+    if len(printed) != len(given):
+        sys.exit('weighing.py: %d answers to %d cases' % (len(printed), len(given)))
+    kinds, closest = {}, 0
+    for (data, weights, room, before), line in zip(given, printed):
+        wrong = judge(data, weights, room, before, line)
+        if wrong:
+            sys.exit('weighing.py: plant %s, weights %s: %s, but owed is %s' % (data.hex(' '), weights, line, wrong))
+        kind = ' '.join(line.split()[:2]) if line.startswith('refused') else line.split()[0]
+        kinds[kind] = kinds.get(kind, 0) + 1
+        if kind == 'passed' and rng.random() < 0.05:
+            quiet, bound = longest_run(rng, reading.read_plant(data), weights, 300)
+            closest = max(closest, quiet / bound if bound else 0)
+    for kind in ('passed', 'cycle', 'refused 9', 'refused 10', 'refused 11'):
+        if kinds.get(kind, 0) < 10:
+            sys.exit('weighing.py: %s was met %d times only' % (kind, kinds.get(kind, 0)))
+    print('weighing.py: seed %d: %d cases, of which %d pass and %d show a cycle; runs came to %d %% of the bound'
+          % (seed, len(given), kinds['passed'], kinds['cycle'], round(100 * closest)))
