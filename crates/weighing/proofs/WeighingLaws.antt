@@ -298,6 +298,30 @@ pub passed-iff : (file ws before after : List ℕ) (a : Answer) (P : Plant) (end
 passed-iff file ws before after a P end e owed =
     owed-iff ws before after a P end (judged-limits file ws (length before) P end e .formed) (owed-same ws before after a (judged file ws (length before)) (found P end) e owed)
 
+-- The kinds of answers: figures, a count of rows, a refusal.
+abbrev pub kindOf : Answer → ℕ
+kindOf (passed F n G) = 0
+kindOf (cycle k) = 1
+kindOf (refused number place) = 2
+
+-- Two answers that are owed for one thing found are of one kind: for a plant it is the weights that decide.
+same-kind : {ws before after after′ : List ℕ} {a b : Answer} (x : Found Plant) → ((P : Plant) (end : ℕ) → x ≡ found P end → WellFormed P)
+    → Owed ws before after a x → Owed ws before after′ b x → kindOf a ≡ kindOf b
+same-kind (fault number place) formed (for-fault h) (for-fault i) = ap kindOf (h .refusal ∙ sym (i .refusal))
+same-kind {ws} {a = a} {b = b} (found P end) formed (for-plant h f) (for-plant i g) = go (decision P (formed P end refl) ws)
+  where
+    go : Passes P ws ⊎ ((c : List ℕ) × FailingCycle P ws c) → kindOf a ≡ kindOf b
+    go (inl p) = ap kindOf (h p .figures) ∙ sym (ap kindOf (i p .figures))
+    go (inr x) =
+        let fails : Passes P ws → ⊥ = λ p. not-both P ws (x .0) p (x .1) in
+        ap kindOf (f fails .count) ∙ sym (ap kindOf (g fails .count))
+
+-- So for every input the kind of the answer is determined.
+pub kind-determined : (file ws before after after′ : List ℕ) (a b : Answer) → Owed ws before after a (judged file ws (length before))
+    → Owed ws before after′ b (judged file ws (length before)) → kindOf a ≡ kindOf b
+kind-determined file ws before after after′ a b =
+    same-kind (judged file ws (length before)) (λ P end e. judged-limits file ws (length before) P end e .formed)
+
 -- Faults with the same number and place are the same.
 same-fault : (f g : Fault) → f .number ≡ g .number → f .place ≡ g .place → f ≡ g
 same-fault f g n q = λ i. record { number = n i; place = q i }

@@ -1,0 +1,34 @@
+-- The two files of the program `ceiling`, and what it owes for them (document 01, "The program `ceiling`").
+use mathlib.Core.Path.{_≡_}
+use mathlib.Core.Bool.{cond}
+use mathlib.Core.List.{List, [], _∷_}
+use Prim.Native.Nat.{ℕ, _+_, _*_, _%_}
+use lib.ListN.{length, replicate}
+use lib.Dec.{eqb}
+use Rattle.livelock.specs.Plants.{Plant}
+use Rattle.plant.specs.Found.{Found, fault, andThen}
+use Rattle.plant.specs.Reading.{readPlant}
+use Rattle.weighing.specs.Answers.{Answer}
+use Rattle.weighing.specs.Weighing.{checked, Owed}
+use Rattle.answer_line.specs.Lines.{lineOf}
+
+-- "two bytes a weight, low byte first": a last single byte gives none.
+unfoldable pub weightsOf : List ℕ → List ℕ
+weightsOf [] = []
+weightsOf (low ∷ []) = []
+weightsOf (low ∷ high ∷ bytes) = (low + 256 * high) ∷ weightsOf bytes
+
+-- "an odd length is 9 at place 0", then the checks 9 and 10 of the weights; the program's own list has room for a cycle.
+unfoldable pub checkedBytes : List ℕ → Plant → ℕ → Found Plant
+checkedBytes weights P end = cond (eqb (length weights % 2) 1) (fault 9 0) (checked (weightsOf weights) 64 P end)
+
+-- "reads plant.bin and weights.bin": the plant to weigh, or the first fault, the plant's own faults first.
+abbrev pub judgedFiles : List ℕ → List ℕ → Found Plant
+judgedFiles plant weights = andThen (readPlant plant) (checkedBytes weights)
+
+-- "It prints one line": the line of an answer that is owed for the two files.
+pub record Printed (plant weights line : List ℕ) : Type 0 where
+  pub answer : Answer
+  pub after : List ℕ
+  pub owed : Owed (weightsOf weights) (replicate 64 0) after answer (judgedFiles plant weights)
+  pub line-is : line ≡ lineOf answer after

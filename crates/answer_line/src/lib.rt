@@ -1,0 +1,169 @@
+// The line of the program `ceiling`.
+ghost use Prim.Native.Nat.{_+_, _*_, _/_, _≤_, _<_, min};
+ghost use mathlib.Core.Path.{_≡_};
+ghost use lib.ListN.{length, take};
+ghost use Rattle.io.specs.Counts.{Counts};
+ghost use Rattle.weighing.specs.Answers.{answerOf};
+ghost use Rattle.answer_line.specs.Lines.{figure, figures, passedLine, cycleLine, refusedLine, lineOf};
+ghost use Rattle.answer_line.specs.Files.{weightsOf, Printed};
+ghost use Rattle.answer_line.specs.Inner.Steps.{Wrote, WroteLine, FewRows, handedOver};
+use weighing::Weighed;
+
+// The weights of a file, up to a count.
+pub struct Weights {
+    pub list: [u16; 65],
+    pub count: usize,
+}
+
+// Writes bytes from a place on, and hands back the place after them.
+fn copy(bytes: &[u8], out: &mut [u8], at: usize) -> usize
+    requires { ⌜ at + length (now bytes) ≤ length (now out) ⌝ }
+    ensures { λ r. ⌜ Wrote (now (out .entry)) (now (out .exit)) at r (now (bytes .entry)) ⌝ }
+{
+    let mut i = 0;
+    while i < bytes.len() {
+        out[at + i] = bytes[i];
+        i += 1;
+    }
+    at + i
+}
+
+// Writes a space and a number; a u64 has at most 20 digits.
+fn write_figure(n: u64, out: &mut [u8], at: usize) -> usize
+    requires { ⌜ at + 21 ≤ length (now out) ⌝ }
+    ensures { λ r. ⌜ Wrote (now (out .entry)) (now (out .exit)) at r (figure n) × (r ≤ at + 21) ⌝ }
+{
+    let mut digits = [0u8; 20];
+    let k = io::decimal(n, &mut digits);
+    let next = copy(b" ", out, at);
+    copy(&digits[..k], out, next)
+}
+
+// A row's number, as a figure.
+fn wide(row: u16) -> u64
+    ensures { λ r. ⌜ (r ≡ row) × (r < 65536) ⌝ }
+{
+    row as u64
+}
+
+// Writes the rows, at most six bytes each.
+fn write_rows(rows: &[u16], out: &mut [u8], at: usize) -> usize
+    requires { ⌜ at + 6 * length (now rows) + 21 ≤ length (now out) ⌝ }
+    ensures { λ r. ⌜ Wrote (now (out .entry)) (now (out .exit)) at r (figures (now (rows .entry))) × (r ≤ at + 6 * length (now (rows .entry))) ⌝ }
+{
+    let mut next = at;
+    let mut i = 0;
+    while i < rows.len() {
+        let row = wide(rows[i]);
+        next = write_figure(row, out, next);
+        i += 1;
+    }
+    next
+}
+
+// `passed F n G`.
+fn write_passed(base: u64, states: u64, progress: u64, line: &mut [u8]) -> usize
+    requires { ⌜ 512 ≤ length (now line) ⌝ }
+    ensures { λ r. ⌜ WroteLine (now (line .entry)) (now (line .exit)) r (passedLine base states progress) ⌝ }
+{
+    let word = copy(b"passed", line, 0);
+    let first = write_figure(base, line, word);
+    let second = write_figure(states, line, first);
+    let third = write_figure(progress, line, second);
+    copy(b"\n", line, third)
+}
+
+// `cycle` and the rows.
+fn write_cycle(rows: &[u16], line: &mut [u8]) -> usize
+    requires { ⌜ (512 ≤ length (now line)) × (length (now rows) ≤ 64) ⌝ }
+    ensures { λ r. ⌜ WroteLine (now (line .entry)) (now (line .exit)) r (cycleLine (now (rows .entry))) ⌝ }
+{
+    let word = copy(b"cycle", line, 0);
+    let next = write_rows(rows, line, word);
+    copy(b"\n", line, next)
+}
+
+// `refused` with number and place.
+fn write_refused(number: u64, place: u64, line: &mut [u8]) -> usize
+    requires { ⌜ 512 ≤ length (now line) ⌝ }
+    ensures { λ r. ⌜ WroteLine (now (line .entry)) (now (line .exit)) r (refusedLine number place) ⌝ }
+{
+    let word = copy(b"refused", line, 0);
+    let first = write_figure(number, line, word);
+    let second = write_figure(place, line, first);
+    copy(b"\n", line, second)
+}
+
+// Two bytes, low byte first.
+fn weight_of(low: u8, high: u8) -> u16
+    ensures { λ r. ⌜ r ≡ low + 256 * high ⌝ }
+{
+    low as u16 + 256 * high as u16
+}
+
+// How many weights a file has, or 65 if it has more.
+fn weight_count(bytes: &[u8]) -> usize
+    ensures { λ r. ⌜ r ≡ min 65 (length (now (bytes .entry)) / 2) ⌝ }
+{
+    let n = bytes.len() / 2;
+    if n < 65 {
+        return n;
+    }
+    65
+}
+
+// The weights of a file of even length, at most 65.
+fn even_weights(bytes: &[u8]) -> Weights
+    ensures { λ r. ⌜ (take (r .count) (r .list) ≡ take 65 (weightsOf (now (bytes .entry)))) × Counts (r .count) (r .list) ⌝ }
+{
+    let n = weight_count(bytes);
+    let mut list = [0u16; 65];
+    let mut i = 0;
+    while i < n {
+        list[i] = weight_of(bytes[2 * i], bytes[2 * i + 1]);
+        i += 1;
+    }
+    Weights { list, count: n }
+}
+
+// The weights of a file, at most 65; where its length is odd 65, which weighing refuses with 9.
+fn weights_from(bytes: &[u8]) -> Weights
+    ensures { λ r. ⌜ (take (r .count) (r .list) ≡ handedOver (now (bytes .entry))) × Counts (r .count) (r .list) ⌝ }
+{
+    if bytes.len() % 2 == 1 {
+        return Weights {
+            list: [0; 65],
+            count: 65,
+        };
+    }
+    even_weights(bytes)
+}
+
+// The line of an answer and of the list after weighing.
+fn write_answer(answer: Weighed, cycle: &[u16], line: &mut [u8]) -> usize
+    requires { ⌜ FewRows (answerOf answer) × (64 ≤ length (now cycle)) × (512 ≤ length (now line)) ⌝ }
+    ensures { λ r. ⌜ WroteLine (now (line .entry)) (now (line .exit)) r (lineOf (answerOf answer) (now (cycle .entry))) ⌝ }
+{
+    match answer {
+        Weighed::Passed {
+            base,
+            states,
+            progress,
+        } => write_passed(base, states, progress, line),
+        Weighed::Cycle { rows } => write_cycle(&cycle[..rows], line),
+        Weighed::Refused(fault) => write_refused(fault.number as u64, fault.place as u64, line),
+    }
+}
+
+// The line of the program for the bytes of its two files.
+pub fn write_line(plant: &[u8], weights: &[u8], line: &mut [u8]) -> usize
+    requires { ⌜ 512 ≤ length (now line) ⌝ }
+    ensures { λ r. ⌜ Printed (now (plant .entry)) (now (weights .entry)) (take r (now (line .exit))) × (r ≤ 512) ⌝ }
+{
+    let given = weights_from(weights);
+    let list = given.list;
+    let count = given.count;
+    let mut cycle = [0; 64];
+    let answer = weighing::weigh(plant, &list[..count], &mut cycle);
+    write_answer(answer, &cycle, line)
+}
