@@ -1,7 +1,7 @@
-"""Compare the compiled calls with second implementations: reading.py and weighing.py.
+"""Compare the compiled calls with second implementations: reading.py, weighing.py, quoting.py, listing.py and cycle_sets.py.
 
-The crate `probe`, made here outside of the repository, exports the calls, and a C program for each part prints what
-they answer.
+The calls are those of the C interface. The library is built in a folder of its own, from a copy of the crates in which the
+interface has one export more, of what `decode` holds. What the repository's folder `target` has of proofs is used.
 
     python3 tests/compiled.py [SEED]
 """
@@ -11,12 +11,14 @@ import subprocess
 import sys
 import tempfile
 
+import cycle_sets
+import listing
+import quoting
 import reading
 import weighing
 
 ROOT = os.path.dirname(os.path.dirname(os.path.abspath(__file__)))
-CRATES = {'livelock': [], 'plant': ['livelock'], 'weighing': ['plant', 'livelock']}
-PARTS = {'reading': reading, 'weighing': weighing}
+PARTS = {'reading': reading, 'weighing': weighing, 'quoting': quoting, 'listing': listing, 'cycle_sets': cycle_sets}
 
 
 def run(folder, command):
@@ -25,22 +27,18 @@ def run(folder, command):
         sys.exit('compiled.py: %s failed:\n%s' % (' '.join(command), (done.stdout + done.stderr)[-3000:]))
 
 
-def write(folder, path, text):
-    with open(os.path.join(folder, path), 'w', encoding='utf-8') as out:
-        out.write(text)
-
-
 def build(folder):
-    for crate in CRATES:
-        shutil.copytree(os.path.join(ROOT, 'crates', crate), os.path.join(folder, 'crates', crate))
-    os.makedirs(os.path.join(folder, 'crates', 'probe', 'src'))
-    listed = ''.join('%s: %s\n' % (crate, ' '.join(needs)) for crate, needs in CRATES.items())
-    write(folder, 'crates.txt', listed + 'probe: %s\n' % ' '.join(CRATES))
-    write(folder, 'crates/probe/src/lib.rt', '// Exports for a test.' + ''.join(part.PROBE for part in PARTS.values()))
-    run(folder, ['rt', 'staticlib', 'probe'])
+    for part in ('crates', 'include', 'target'):
+        if os.path.exists(os.path.join(ROOT, part)):
+            shutil.copytree(os.path.join(ROOT, part), os.path.join(folder, part))
+    shutil.copy(os.path.join(ROOT, 'crates.txt'), folder)
+    with open(os.path.join(folder, 'crates', 'cabinet', 'src', 'lib.rt'), 'a', encoding='utf-8') as source:
+        source.write(reading.PROBE)
+    run(folder, ['rt', 'staticlib', 'cabinet'])
     for name, part in PARTS.items():
-        write(folder, name + '.c', part.DRIVER)
-        run(folder, ['gcc', '-O2', '-Wall', '-Wextra', '-Werror', name + '.c', '-Ltarget/staticlib', '-lprobe', '-o', name])
+        with open(os.path.join(folder, name + '.c'), 'w', encoding='utf-8') as out:
+            out.write(part.DRIVER)
+        run(folder, ['gcc', '-O2', '-Wall', '-Wextra', '-Werror', '-Iinclude', name + '.c', '-Ltarget/staticlib', '-lcabinet', '-o', name])
 
 
 def main():

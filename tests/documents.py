@@ -3,6 +3,8 @@
 - Each line of the antt blocks in docs/ceiling.md stands in a file of crate livelock.
 - Each name in the definition and theorem columns of docs/map.md is declared in the file that the row names,
   each must-fail edit that it names exists, and each must-fail edit has a row.
+- The plant files in examples/ have the bytes that the worked examples are proved of and run with.
+- The header of the C interface names every fault number of the table, and each once.
 
     python3 tests/documents.py
 """
@@ -74,7 +76,40 @@ def hold_map(path):
     faults.extend('%s: no row names the must-fail edit %s' % (path, name) for name in sorted(edits - named_edits))
 
 
+def proved_bytes(path, name, argument=None):
+    """The bytes of a plant in a file of definitions: hexadecimal numbers, an argument, and other lists by their names."""
+    text = re.search(r'\n%s(?: map)? =(.*?)\n\n' % name, read(path) + '\n\n', re.S).group(1)
+    applied = re.fullmatch(r'\s*(\w+) 0x([0-9A-F]{2})\s*', text)
+    if applied:
+        return proved_bytes(path, applied.group(1), int(applied.group(2), 16))
+    held = []
+    for word in re.findall(r'\w+', text):
+        held += [int(word, 16)] if word.startswith('0x') else [argument] if word == 'map' else list(proved_bytes(path, word))
+    return bytes(held)
+
+
+def hold_examples():
+    run, proved = 'crates/worked_examples_run/src/plants.rt', 'crates/worked_examples/specs/Files.antt'
+    for folder, const, name in (('plant_a', 'PLANT_A', 'fileA'), ('plant_b', 'PLANT_B', 'fileB'), ('two_clients', 'TWO_CLIENTS', 'twoClients'),
+                                ('two_clients_in_turn', 'TWO_CLIENTS_IN_TURN', 'twoClientsInTurn')):
+        with open(os.path.join(ROOT, 'examples', folder, 'plant.bin'), 'rb') as source:
+            held = source.read()
+        literal = re.search(const + r': \[u8; \d+\] =\s+\*b"([^"]*)"', read(run)).group(1)
+        if bytes(int(x, 16) for x in re.findall(r'\\x([0-9A-F]{2})', literal)) != held:
+            faults.append('examples/%s/plant.bin differs from %s in %s' % (folder, const, run))
+        if proved_bytes(proved, name) != held:
+            faults.append('examples/%s/plant.bin differs from %s in %s' % (folder, name, proved))
+
+
+def hold_header(path):
+    numbers = [int(x) for x in re.findall(r'(?m)^    HEMTALUQ_[A-Z_]+ = (\d+)', read(path).split('enum hemtaluq_fault')[1].split('};')[0])]
+    if sorted(numbers) != [n for n in range(1, 23) if n != 19]:
+        faults.append('%s: the fault numbers are %s' % (path, numbers))
+
+
 def main():
+    hold_examples()
+    hold_header('include/hemtaluq.h')
     hold_excerpts('docs/ceiling.md')
     hold_map('docs/map.md')
     if faults:

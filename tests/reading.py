@@ -155,27 +155,6 @@ def files(rng):
 # ---- the compiled reader
 
 PROBE = '''
-use plant::{Decoded, End, PlantTable, Reading};
-
-#[repr(C)]
-pub struct Counts {
-    pub refused: bool,
-    pub number: u8,
-    pub place: usize,
-    pub machines: usize,
-    pub types: u8,
-    pub rows: usize,
-}
-
-#[no_mangle]
-pub extern "C" fn probe_read(file: &[u8]) -> Counts {
-    let reading = plant::read(file);
-    match reading {
-        Reading::Refused(fault) => Counts { refused: true, number: fault.number, place: fault.place, machines: 0, types: 0, rows: 0 },
-        Reading::Counts { machines, types, rows } => Counts { refused: false, number: 0, place: 0, machines, types, rows },
-    }
-}
-
 #[repr(C)]
 pub struct Columns {
     pub states: [u8; 16],
@@ -205,12 +184,10 @@ pub extern "C" fn probe_columns(file: &[u8]) -> Columns {
 '''
 
 DRIVER = '''#include <stdbool.h>
-#include <stdint.h>
 #include <stdio.h>
 #include <stdlib.h>
-typedef struct { bool refused; uint8_t number; size_t place, machines; uint8_t types; size_t rows; } Counts;
+#include "hemtaluq.h"
 typedef struct { uint8_t states[16]; uint16_t first[17]; uint8_t machine[1024], left[1024], entered[1024], sent[1024], taken[1024]; bool progress[1024]; } Columns;
-Counts probe_read(const uint8_t *file, size_t length);
 Columns probe_columns(const uint8_t *file, size_t length);
 static uint64_t total;
 static void add(unsigned x) { total = (total * 131 + x + 1) % 4294967291u; }
@@ -220,8 +197,8 @@ int main(void) {
         size_t n = head[0] | head[1] << 8 | head[2] << 16;
         uint8_t *file = malloc(n ? n : 1);
         if (fread(file, 1, n, stdin) != n) return 1;
-        Counts c = probe_read(file, n);
-        if (c.refused) {
+        hemtaluq_read_answer c = hemtaluq_read(file, n);
+        if (c.kind == HEMTALUQ_REFUSED) {
             printf("refused %d %zu\\n", c.number, c.place);
         } else {
             Columns t = probe_columns(file, n);

@@ -178,43 +178,19 @@ def cases(rng):
         yield data, weights, room, [rng.randrange(65536) for _ in range(room)]
 
 
-PROBE = '''
-use weighing::Weighed;
-
-#[repr(C)]
-pub struct Weighing {
-    pub kind: u8,
-    pub first: u64,
-    pub second: u64,
-    pub third: u64,
-}
-
-#[no_mangle]
-pub extern "C" fn probe_weigh(file: &[u8], weights: &[u16], cycle: &mut [u16]) -> Weighing {
-    let answer = weighing::weigh(file, weights, cycle);
-    match answer {
-        Weighed::Passed { base, states, progress } => Weighing { kind: 0, first: base, second: states, third: progress },
-        Weighed::Cycle { rows } => Weighing { kind: 1, first: rows as u64, second: 0, third: 0 },
-        Weighed::Refused(fault) => Weighing { kind: 2, first: fault.number as u64, second: fault.place as u64, third: 0 },
-    }
-}
-'''
-
-DRIVER = '''#include <stdint.h>
-#include <stdio.h>
+DRIVER = '''#include <stdio.h>
 #include <stdlib.h>
-typedef struct { uint8_t kind; uint64_t first, second, third; } Weighing;
-Weighing probe_weigh(const uint8_t *file, size_t length, const uint16_t *weights, size_t count, uint16_t *cycle, size_t room);
+#include "hemtaluq.h"
 int main(void) {
     uint32_t head[3];
     while (fread(head, 4, 3, stdin) == 3) {
         uint8_t *file = malloc(head[0] + 1);
         uint16_t *weights = malloc(2 * head[1] + 2), *cycle = malloc(2 * head[2] + 2);
         if (fread(file, 1, head[0], stdin) != head[0] || fread(weights, 2, head[1], stdin) != head[1] || fread(cycle, 2, head[2], stdin) != head[2]) return 1;
-        Weighing w = probe_weigh(file, head[0], weights, head[1], cycle, head[2]);
-        if (w.kind == 0) printf("passed %llu %llu %llu", (unsigned long long)w.first, (unsigned long long)w.second, (unsigned long long)w.third);
-        if (w.kind == 1) printf("cycle %llu", (unsigned long long)w.first);
-        if (w.kind == 2) printf("refused %llu %llu", (unsigned long long)w.first, (unsigned long long)w.second);
+        hemtaluq_weigh_answer w = hemtaluq_weigh(file, head[0], weights, head[1], cycle, head[2]);
+        if (w.kind == HEMTALUQ_PASSED) printf("passed %llu %llu %llu", (unsigned long long)w.base, (unsigned long long)w.states, (unsigned long long)w.per_progress);
+        if (w.kind == HEMTALUQ_CYCLE) printf("cycle %zu", w.rows);
+        if (w.kind == HEMTALUQ_REFUSED) printf("refused %d %zu", w.number, w.place);
         printf(" :");
         for (uint32_t i = 0; i < head[2]; i++) printf(" %d", cycle[i]);
         printf("\\n");

@@ -15,14 +15,14 @@ use Rattle.plant.specs.Found.{Found, found, fault, andThen}
 use Rattle.plant.specs.Reading.{readPlant}
 use Rattle.plant.proofs.FileBounds.{within-limits}
 use Rattle.weighing.specs.Answers.{Answer, passed, cycle, refused}
-use Rattle.weighing.specs.Weighing.{checked, judged, Owed, for-fault, for-plant}
+use Rattle.weighing.specs.Weighing.{checkedWeights, checked, judged, Owed, for-fault, for-plant}
 use Rattle.answer_line.specs.Files.{weightsOf, checkedBytes, judgedFiles, Printed}
 use Rattle.answer_line.specs.Lines.{lineOf}
 use Rattle.answer_line.specs.Inner.Steps.{FewRows, handedOver}
 
 -- More weights than types: "9 | not one for each type | 0".
 pub too-many : (ws : List ℕ) (room : ℕ) (P : Plant) (end : ℕ) → P .types < length ws → checked ws room P end ≡ fault 9 0
-unfolding checked
+unfolding checked checkedWeights
 too-many ws room P end h = let differ : length ws ≡ P .types → ⊥ = λ e. omega arith in rw (ne-eqb (length ws) (P .types) differ)
 
 -- For a fault the weights do not matter.

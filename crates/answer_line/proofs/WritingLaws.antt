@@ -1,27 +1,13 @@
 -- Laws of bytes that are written one after the other.
 use mathlib.Core.Path.{_≡_, refl, sym, ap, _∙_, subst⁻¹}
-use mathlib.Core.List.{List, [], _∷_, _++_}
-use Prim.Native.Nat.{ℕ, suc, _+_, _≤_, _<_}
+use mathlib.Core.List.{List, [], _++_}
+use Prim.Native.Nat.{ℕ, _+_, _≤_}
 use native.Mathlib.Omega.{arith}
 use native.Mathlib.Nat.{add-zero, zero-add}
-use native.Mathlib.Numerals.{add-one}
-use lib.ListN.{length, getD, set, take, drop, length-append}
-use lib.Seq.{sets, take-suc, take-all, take-at, length-take-le, length-sets, sets-eq}
+use lib.ListN.{length, take, drop, length-append}
+use lib.Seq.{sets, take-all, take-at, length-sets, sets-eq}
+use Rattle.livelock.proofs.StoreLaws.{sets-append}
 use Rattle.answer_line.specs.Inner.Steps.{Wrote, WroteLine}
-
--- Two parts written one after the other are their joining, written at once.
-pub sets-append : (xs ys l : List ℕ) (i : ℕ) → sets l i (xs ++ ys) ≡ sets (sets l i xs) (i + length xs) ys
-sets-append [] ys l i = rw add-zero
-sets-append (x ∷ xs) ys l i = sets-append xs ys (set l i x) (suc i) ∙ ap (λ (n : ℕ). sets (sets (set l i x) (suc i) xs) n ys) (omega arith)
-
--- One byte more.
-pub sets-next : (p l : List ℕ) (at i : ℕ) → i < length p → set (sets l at (take i p)) (at + i) (getD p i 0) ≡ sets l at (take (i + 1) p)
-sets-next p l at i h =
-    rw (add-one i, take-suc p i 0 h, sets-append (take i p) (getD p i 0 ∷ []) l at, length-take-le i p (omega arith))
-
--- One byte more, where the bytes before it are written.
-pub copied : (p l out : List ℕ) (at i : ℕ) → i < length p → out ≡ sets l at (take i p) → set out (at + i) (getD p i 0) ≡ sets l at (take (i + 1) p)
-copied p l out at i h e = rw e (sets-next p l at i h)
 
 -- All bytes are written.
 pub copied-all : (p l out : List ℕ) (at i : ℕ) → length p ≤ i → i ≤ length p → out ≡ sets l at (take i p) → Wrote l out at (at + i) p

@@ -29,7 +29,7 @@ difference-subℕ a b = go (ltb a b) refl
     go true e = omega (arith, ltb-true a b e)
     go false e = omega (arith, ltb-false a b e)
 
-difference-neg : (n : ℕ) → Difference (negℤ (pos n)) 0 n
+pub difference-neg : (n : ℕ) → Difference (negℤ (pos n)) 0 n
 difference-neg zero = omega arith
 difference-neg (suc n) = omega arith
 

@@ -1,6 +1,7 @@
 -- The theorems, from lists and graphs up to demands 2 and 3.
 pub mod BasicExamples
 pub mod ListLaws
+pub mod StoreLaws
 pub mod SumLaws
 pub mod Pigeonhole
 pub mod Tests

@@ -16,12 +16,12 @@ use Rattle.livelock.proofs.Ceiling.{ceiling}
 use Rattle.livelock.proofs.Exclusion.{exclusion}
 use Rattle.livelock.proofs.BasicExamples.{panelAndProbe, plantA, probe-cycle, probe-quiet, panel, probe, plantB, both-balanced, tight}
 
-formed-A : WellFormed plantA
+pub formed-A : WellFormed plantA
 unfolding panelAndProbe every
 formed-A = well-formed-iff plantA .0 refl
 
 -- Weights 2, 1 pass in plant A, so every run of it stays within its ceiling.
-passes-2-1 : Passes plantA (2 ∷ 1 ∷ [])
+pub passes-2-1 : Passes plantA (2 ∷ 1 ∷ [])
 unfolding panelAndProbe below greatest every statePotential longest via hasProgress
 passes-2-1 = passing-iff plantA formed-A (2 ∷ 1 ∷ []) .0 refl
 
@@ -31,7 +31,7 @@ unfolding panelAndProbe below sum greatest
 runs-of-A = ceiling plantA formed-A (2 ∷ 1 ∷ []) passes-2-1
 
 -- With weights 1, 1 the probe's cycle weighs 0 and may be shown.
-shown-1-1 : FailingCycle plantA (1 ∷ 1 ∷ []) (2 ∷ 3 ∷ [])
+pub shown-1-1 : FailingCycle plantA (1 ∷ 1 ∷ []) (2 ∷ 3 ∷ [])
 unfolding panelAndProbe below sum sumℤ cycleWeight
 shown-1-1 = record { machine = 1; simple = probe-cycle true; quiet = probe-quiet; weighs = leZ-yes tt }
 
@@ -41,5 +41,5 @@ unfolding tight below greatest every statePotential longest via hasProgress
 tight-passes = passing-iff tight (well-formed-iff tight .0 refl) (1 ∷ []) .0 refl
 
 -- Plant B has a balanced set, so no weights pass.
-none-pass-in-B : (weights : List ℕ) → Passes plantB weights → ⊥
+pub none-pass-in-B : (weights : List ℕ) → Passes plantB weights → ⊥
 none-pass-in-B ws ok = exclusion plantB ws ok (panel ∷ probe ∷ []) both-balanced

@@ -12,7 +12,7 @@ use Rattle.plant.specs.Reading.{byteAt, byteThat, byteIn, mapByte, state
 -- ---- plants A and B of document 01
 
 -- The 20 bytes of plant A; plant B has 0B for 1B.
-panelAndProbeFile : ℕ → List ℕ
+unfoldable pub panelAndProbeFile : ℕ → List ℕ
 panelAndProbeFile map =
     0x02 ∷ 0x02
     ∷ 0x02 ∷ 0x02

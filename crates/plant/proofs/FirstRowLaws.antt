@@ -3,24 +3,25 @@ use mathlib.Core.Path.{_≡_, refl, sym, _∙_}
 use mathlib.Core.Logic.{_↔_}
 use mathlib.Core.Bool.{Bool, true, false, cond}
 use mathlib.Core.List.{List, [], _∷_, map}
-use Prim.Native.Nat.{ℕ, zero, suc, _+_, _≤_, _<_}
+use Prim.Native.Nat.{ℕ, zero, suc, _+_, _-_, _≤_, _<_}
 use native.Mathlib.Nat.{le-of-suc-le-suc, not-suc-le-zero}
 use native.Mathlib.Decide.{ℕ-discrete, decLt}
 use native.Mathlib.Numerals.{add-one}
 use native.Mathlib.Omega.{arith}
 use lib.ListN.{length, getD, set, length-set}
 use lib.Seq.{getD-set-same, getD-set-other}
-use lib.Dec.{ltb}
-use borrow.Author.Tests.{ltb-true, ltb-false, le-ltb}
+use lib.Dec.{ltb, eqb}
+use borrow.Author.Tests.{ltb-true, ltb-false, lt-ltb, le-ltb, eq-eqb, ne-eqb}
 use Rattle.livelock.specs.Lists.{below, sum, count}
 use Rattle.livelock.specs.Plants.{Row, Plant, rowAt, rowCount, noRow}
-use Rattle.livelock.proofs.ListLaws.{all-weaken, all-at}
-use Rattle.livelock.proofs.SumLaws.{sum-next, sum-equal, sum-zero}
-use Rattle.plant.specs.Limits.{Ascending, WithinLimits}
+use Rattle.livelock.proofs.ListLaws.{all-weaken, all-always, all-at}
+use Rattle.livelock.proofs.SumLaws.{sum-next, sum-equal, sum-mono, sum-zero, sum-ones}
+use Rattle.plant.specs.Limits.{Ascending, rowsOf, WithinLimits}
 use Rattle.plant.specs.Inner.Steps.{oneIfBelow, countBefore, FirstRows}
 use Rattle.plant.specs.Tables.{rowsBefore, rowOf, plantOf, Sound, Ready}
 use Rattle.plant.specs.declared.PlantTable.{PlantTable}
 use Rattle.plant.proofs.Bounds.{one-bit}
+use Rattle.plant.proofs.TableLaws.{rows-so-far, withFirst, first-any}
 
 -- ---- for the functions that count
 
@@ -52,7 +53,7 @@ first-next machine rows m v first f l e =
 
 -- ---- for the table
 
-sum-map : {A : Type 0} (f : A → ℕ) (g : ℕ → A) (ks : List ℕ) → sum f (map g ks) ≡ sum (λ k. f (g k)) ks
+pub sum-map : {A : Type 0} (f : A → ℕ) (g : ℕ → A) (ks : List ℕ) → sum f (map g ks) ≡ sum (λ k. f (g k)) ks
 unfolding sum
 sum-map f g [] = refl
 sum-map f g (k ∷ ks) = omega (arith, sum-map f g ks)
@@ -62,39 +63,9 @@ pub before-is : (t : PlantTable) (m : ℕ) → countBefore (t .machine) m (t .ro
 unfolding countBefore
 before-is t m = sym (sum-map (λ (r : Row). cond (ltb (r .machine) m) 1 0) (rowOf t) (below (t .rows)))
 
--- The table with its machines' first rows put in.
-pub ready : (t : PlantTable) (first : List ℕ) → Sound t 16 → FirstRows (t .machine) (t .rows) 17 first
-    → Ready
-    (record {
-      types = t .types;
-      machines = t .machines;
-      rows = t .rows;
-      states = t .states;
-      first = first;
-      machine = t .machine;
-      left = t .left;
-      entered = t .entered;
-      sent = t .sent;
-      taken = t .taken;
-      progress = t .progress;
-    })
-ready t first h f =
-    record {
-      sound =
-          record {
-            few-machines = h .few-machines;
-            few-rows = h .few-rows;
-            few-types = h .few-types;
-            states-room = h .states-room;
-            machine-room = h .machine-room;
-            left-room = h .left-room;
-            entered-room = h .entered-room;
-            sent-room = h .sent-room;
-            taken-room = h .taken-room;
-            progress-room = h .progress-room;
-          };
-      first-row = λ m l. f .at m (omega arith) ∙ before-is t m;
-    }
+-- The table is ready once its machines' first rows are put in.
+pub ready : (t : PlantTable) (first : List ℕ) → Sound t 16 → FirstRows (t .machine) (t .rows) 17 first → Ready (withFirst t first)
+ready t first h f = record { sound = first-any t first 16 16 h (h .few-machines); first-row = λ m l. f .at m (omega arith) ∙ before-is t m }
 
 -- ---- for the crates that work on plants
 
@@ -139,3 +110,36 @@ row-of-machine p lim m k l = (λ e. (starts e (decLt k (rowsBefore p m)), next .
     is : (rowsBefore p m ≤ k) × (k < rowsBefore p (m + 1)) → Dec (rowAt p k .machine < m) → rowAt p k .machine ≡ m
     is h (yes q) = absurd (omega (arith, front .0 q, h .0))
     is h (no q) = omega (arith, next .1 (h .1))
+
+-- A machine is before m + 1 if it is before m or is m.
+one-machine-more : (a m : ℕ) → cond (ltb a (m + 1)) 1 0 ≡ cond (ltb a m) 1 0 + cond (eqb a m) 1 0
+one-machine-more a m = go (decLt a m) (ℕ-discrete a m)
+  where
+    go : Dec (a < m) → Dec (a ≡ m) → cond (ltb a (m + 1)) 1 0 ≡ cond (ltb a m) 1 0 + cond (eqb a m) 1 0
+    go (yes l) (yes e) = absurd (omega arith)
+    go (yes l) (no e) = simp (lt-ltb a (m + 1) (omega arith), lt-ltb a m l, ne-eqb a m e)
+    go (no l) (yes e) = simp (lt-ltb a (m + 1) (omega arith), le-ltb a m (omega arith), eq-eqb a m e)
+    go (no l) (no e) = simp (le-ltb a (m + 1) (omega arith), le-ltb a m (omega arith), ne-eqb a m e)
+
+-- The rows of the machines before m + 1 are those of the machines before m and those of m.
+rows-of-next : (m : ℕ) (rs : List Row) → count (λ r. ltb (r .machine) (m + 1)) rs ≡ count (λ r. ltb (r .machine) m) rs + count (λ r. eqb (r .machine) m) rs
+unfolding sum
+rows-of-next m [] = refl
+rows-of-next m (r ∷ rs) = omega (arith, one-machine-more (r .machine) m, rows-of-next m rs)
+
+-- The machines before m have no more rows than the plant.
+rows-before-bound : (p : Plant) (m : ℕ) → rowsBefore p m ≤ rowCount p
+rows-before-bound p m =
+    omega (arith, sum-mono (λ (r : Row). cond (ltb (r .machine) m) 1 0) (λ r. 1) (p .rows) (all-always _ (λ r. one-bit (ltb (r .machine) m)) (p .rows)), sum-ones (p .rows))
+
+-- A table has the rows of machine m from its first row up to the next machine's: so many as the machine has, all of them rows of the table.
+pub machine-rows : (t : PlantTable) → Ready t → (m : ℕ) → m < 16
+    → (getD (t .first) m 0 ≤ getD (t .first) (m + 1) 0) × (getD (t .first) (m + 1) 0 ≤ t .rows) × (rowsOf (plantOf t) m ≡ getD (t .first) (m + 1) 0 - getD (t .first) m 0)
+machine-rows t ready m l =
+    let low = ready .first-row m (omega arith) in
+    let high = ready .first-row (m + 1) (omega arith) in
+    let next = rows-of-next m (plantOf t .rows) in (
+      omega (arith, low, high, next),
+      omega (arith, high, rows-before-bound (plantOf t) (m + 1), rows-so-far t),
+      omega (arith, low, high, next),
+    )

@@ -9,7 +9,8 @@ use Rattle.plant.specs.declared.End.the-variants as Ends
 use Rattle.plant.specs.declared.Reading as R
 use Rattle.plant.specs.declared.Reading.the-variants as Readings
 
-same-fault : (f g : Fault) → f .number ≡ g .number → f .place ≡ g .place → f ≡ g
+-- Faults with the same number and place are the same.
+pub same-fault : (f g : Fault) → f .number ≡ g .number → f .place ≡ g .place → f ≡ g
 same-fault f g n q = λ i. record { number = n i; place = q i }
 
 pub answers-differ : (a b : R.Reading) → answerOf a ≡ answerOf b → a ≡ b

@@ -20,9 +20,26 @@ use Rattle.plant.specs.declared.PlantTable.{PlantTable}
 
 -- ---- counts
 
--- The bound on the machines may be any that holds.
-pub recount : (t : PlantTable) (k l : ℕ) → Sound t k → t .machines ≤ l → Sound t l
-recount t k l h few =
+-- The table with its machines' first rows put in.
+abbrev pub withFirst : PlantTable → List ℕ → PlantTable
+withFirst t first =
+    record {
+      types = t .types;
+      machines = t .machines;
+      rows = t .rows;
+      states = t .states;
+      first = first;
+      machine = t .machine;
+      left = t .left;
+      entered = t .entered;
+      sent = t .sent;
+      taken = t .taken;
+      progress = t .progress;
+    }
+
+-- The first rows may be any, and the bound on the machines any that holds.
+pub first-any : (t : PlantTable) (first : List ℕ) (k l : ℕ) → Sound t k → t .machines ≤ l → Sound (withFirst t first) l
+first-any t first k l h few =
     record {
       few-machines = few;
       few-rows = h .few-rows;
@@ -35,6 +52,9 @@ recount t k l h few =
       taken-room = h .taken-room;
       progress-room = h .progress-room;
     }
+
+pub recount : (t : PlantTable) (k l : ℕ) → Sound t k → t .machines ≤ l → Sound t l
+recount t k l h few = first-any t (t .first) k l h few
 
 pub more-machines : (t : PlantTable) (k l : ℕ) → Sound t k → k ≤ l → Sound t l
 more-machines t k l h le = recount t k l h (omega (arith, h .few-machines))

@@ -1,9 +1,10 @@
 // Reading plant files: the bytes are judged one by one, and the first fault met decides.
 ghost use mathlib.Core.Path.{_≡_};
+ghost use mathlib.Core.Bool.{cond};
 ghost use Prim.Native.Nat.{ℕ, _+_, _^_, _≤_, _<_};
 ghost use Rattle.livelock.specs.Plants.{Plant};
-ghost use Rattle.plant.specs.Found.{andThen, movedBy};
-ghost use Rattle.plant.specs.Reading.{byteAt, inRange, byteIn, hasBit, isMap, mapByte, stateField, typeField, readRow};
+ghost use Rattle.plant.specs.Found.{found, fault, andThen, movedBy};
+ghost use Rattle.plant.specs.Reading.{byteAt, inRange, byteIn, countByte, hasBit, isMap, mapByte, stateField, typeField, readRow};
 ghost use Rattle.plant.specs.Reading.{noMachines, withMachine, readRows, rowsByte, readMachine, readMachines, fileEnd, readPlant};
 ghost use Rattle.plant.specs.Inner.Steps.{oneIfBelow, countBefore, FirstRows, Grown, fieldFound, typeFound, rowFound, offsetOf};
 ghost use Rattle.plant.specs.Tables.{plantOf, Sound, Ready, endFound, decodedFound};
@@ -95,6 +96,17 @@ fn byte_at(s: &[u8], at: usize) -> FieldStep
     })
 }
 
+// A byte that was read, if it passes its test, else the fault of this number at its place.
+fn judged(byte: Field, passes: bool, number: u8, place: usize) -> FieldStep
+    ensures { λ r. ⌜ fieldFound r ≡ cond passes (found (byte .value) (byte .next)) (fault number place) ⌝ }
+{
+    if passes {
+        FieldStep::Value(byte)
+    } else {
+        FieldStep::Fault(Fault { number, place })
+    }
+}
+
 fn in_range(b: u8, low: u8, end: u8) -> bool
     ensures { λ r. ⌜ r ≡ inRange low end b ⌝ }
 {
@@ -111,14 +123,29 @@ fn byte_in(s: &[u8], at: usize, low: u8, end: u8, number: u8) -> FieldStep
     let step = byte_at(s, at);
     match step {
         FieldStep::Fault(fault) => FieldStep::Fault(fault),
-        FieldStep::Value(byte) => {
-            if in_range(byte.value, low, end) {
-                FieldStep::Value(byte)
-            } else {
-                FieldStep::Fault(Fault { number, place: at })
-            }
-        }
+        FieldStep::Value(byte) => judged(byte, in_range(byte.value, low, end), number, at),
     }
+}
+
+// The count of machines.
+fn machines_byte(s: &[u8], at: usize) -> FieldStep
+    ensures { λ r. ⌜ fieldFound r ≡ countByte 1 16 2 (now (s .entry)) at ⌝ }
+{
+    byte_in(s, at, 1, 17, 2)
+}
+
+// The count of types.
+fn types_byte(s: &[u8], at: usize) -> FieldStep
+    ensures { λ r. ⌜ fieldFound r ≡ countByte 0 64 2 (now (s .entry)) at ⌝ }
+{
+    byte_in(s, at, 0, 65, 2)
+}
+
+// A machine's count of states.
+fn states_byte(s: &[u8], at: usize) -> FieldStep
+    ensures { λ r. ⌜ fieldFound r ≡ countByte 1 64 3 (now (s .entry)) at ⌝ }
+{
+    byte_in(s, at, 1, 65, 3)
 }
 
 // A machine's count of rows, after the rows so far.
@@ -129,16 +156,7 @@ fn rows_byte(s: &[u8], at: usize, used: usize) -> FieldStep
     let step = byte_at(s, at);
     match step {
         FieldStep::Fault(fault) => FieldStep::Fault(fault),
-        FieldStep::Value(byte) => {
-            if used + byte.value as usize <= 1024 {
-                FieldStep::Value(byte)
-            } else {
-                FieldStep::Fault(Fault {
-                    number: 7,
-                    place: at,
-                })
-            }
-        }
+        FieldStep::Value(byte) => judged(byte, used + byte.value as usize <= 1024, 7, at),
     }
 }
 
@@ -169,16 +187,7 @@ fn map_byte(s: &[u8], at: usize) -> FieldStep
     let step = byte_at(s, at);
     match step {
         FieldStep::Fault(fault) => FieldStep::Fault(fault),
-        FieldStep::Value(map) => {
-            if is_map(map.value) {
-                FieldStep::Value(map)
-            } else {
-                FieldStep::Fault(Fault {
-                    number: 4,
-                    place: at,
-                })
-            }
-        }
+        FieldStep::Value(map) => judged(map, is_map(map.value), 4, at),
     }
 }
 
@@ -327,7 +336,7 @@ fn read_machine(file: &[u8], at: usize, table: PlantTable) -> Decoded
 {
     let m = table.machines;
     let used = table.rows;
-    let first = byte_in(file, at, 1, 65, 3);
+    let first = states_byte(file, at);
     let states = match first {
         FieldStep::Value(field) => field,
         FieldStep::Fault(fault) => {
@@ -492,12 +501,12 @@ pub fn decode(file: &[u8]) -> Decoded
     ensures { λ r. ⌜ decodedFound r ≡ readPlant (now (file .entry)) ⌝ }
     ensures { λ r. ⌜ Ready (r .table) ⌝ }
 {
-    let first = byte_in(file, 0, 1, 17, 2);
+    let first = machines_byte(file, 0);
     let machines = match first {
         FieldStep::Value(field) => field,
         FieldStep::Fault(fault) => return refused(fault),
     };
-    let second = byte_in(file, machines.next, 0, 65, 2);
+    let second = types_byte(file, machines.next);
     let types = match second {
         FieldStep::Value(field) => field,
         FieldStep::Fault(fault) => return refused(fault),

@@ -66,18 +66,18 @@ module _ (n count states : ℕ) (from to : List ℕ) (weight lengths : List ℤ)
         rise-in =
             λ e l.
             let z = getD weight e (pos 0) in
-            rw (made e l) (omega (arith, rise-at-most (pos 1 +ℤ pos n *ℤ z) (1 + n * rise z) (n * fall z) (difference-length n z), length-limit (rise z) (ok .rise-in e l)));
+            rw (made e l) (omega (arith, rise-at-most (pos 1 +ℤ pos n *ℤ z) (1 + n * rise z) (n * fall z) (difference-length 1 n z), length-limit (rise z) (ok .rise-in e l)));
         fall-in =
             λ e l.
             let z = getD weight e (pos 0) in
-            rw (made e l) (omega (arith, fall-at-most (pos 1 +ℤ pos n *ℤ z) (1 + n * rise z) (n * fall z) (difference-length n z), length-limit (fall z) (ok .fall-in e l)));
+            rw (made e l) (omega (arith, fall-at-most (pos 1 +ℤ pos n *ℤ z) (1 + n * rise z) (n * fall z) (difference-length 1 n z), length-limit (fall z) (ok .fall-in e l)));
       }
 
   edge-lengthens : (e : ℕ) → e < count → Lengthens n (weighed .plus) (weighed .minus) (lengthened .plus) (lengthened .minus) e
   edge-lengthens e l =
       let z = getD weight e (pos 0) in
       let y : ℤ = pos 1 +ℤ pos n *ℤ z in
-      let same = difference-same y (rise y) (fall y) (1 + n * rise z) (n * fall z) (rise-fall y) (difference-length n z) in
+      let same = difference-same y (rise y) (fall y) (1 + n * rise z) (n * fall z) (rise-fall y) (difference-length 1 n z) in
       rw (made e l) same
 
   -- A simple cycle has at most n edges, so it is longer than 0 exactly when it weighs zero or more.

@@ -57,28 +57,29 @@ module _ (states ws : List ℕ) (n less w : ℕ)
 
 -- ---- the largest figures
 
-module _ (P : Plant) (limits : WithinLimits P) (ws : List ℕ) (light : (t : ℕ) → t < P .types → getD ws t 0 ≤ 1000) where
-  -- "one byte of states (1 to 64)": each machine has at most 64 states,
-  few-states : (m : ℕ) → m < machineCount P → stateCount P m ≤ 64
-  few-states m l = all-at (λ n. (1 ≤ n) × (n ≤ 64)) 0 (P .states) (limits .states) m l .1
+module _ (P : Plant) (limits : WithinLimits P) where
+  -- "one byte of states (1 to 64)": each machine has 1 to 64 states,
+  pub states-limit : (m : ℕ) → m < machineCount P → (1 ≤ stateCount P m) × (stateCount P m ≤ 64)
+  states-limit m l = all-at (λ n. (1 ≤ n) × (n ≤ 64)) 0 (P .states) (limits .states) m l
 
   -- so n is at most 64,
-  most-limit : mostStates P ≤ 64
-  most-limit = greatest-limit (stateCount P) 64 (machineCount P) few-states
+  pub most-limit : mostStates P ≤ 64
+  most-limit = greatest-limit (stateCount P) 64 (machineCount P) (λ m l. states-limit m l .1)
 
-  -- S, of at most 16 machines, at most 16 times 63,
+  -- and S, of at most 16 machines, at most 16 times 63.
   less-limit : statesLessOne P ≤ 1008
   less-limit =
-      omega (arith, limits .few-machines, sum-limit (λ m. stateCount P m - 1) 63 (machineCount P) (λ m l. omega (arith, few-states m l)))
+      omega (arith, limits .few-machines, sum-limit (λ m. stateCount P m - 1) 63 (machineCount P) (λ m l. omega (arith, states-limit m l .1)))
 
-  -- and w, like each weight, at most 1,000.
-  largest-limit : largestWeight P ws ≤ 1000
-  largest-limit = greatest-limit (weight ws) 1000 (P .types) light
+  module _ (ws : List ℕ) (light : (t : ℕ) → t < P .types → getD ws t 0 ≤ 1000) where
+    -- Where each weight is at most 1,000, w is,
+    largest-limit : largestWeight P ws ≤ 1000
+    largest-limit = greatest-limit (weight ws) 1000 (P .types) light
 
-  -- F is at most 1,008 + 64 × 1,000 × 1,008,
-  pub base-limit : base P ws ≤ 64513008
-  base-limit = omega (arith, less-limit, mul-le-mul (mul-le-mul most-limit largest-limit) less-limit)
+    -- F is at most 1,008 + 64 × 1,000 × 1,008,
+    pub base-limit : base P ws ≤ 64513008
+    base-limit = omega (arith, less-limit, mul-le-mul (mul-le-mul most-limit largest-limit) less-limit)
 
-  -- and G at most 63 + 64 × 64 × 1,000.
-  pub per-progress-limit : perProgress P ws ≤ 4096063
-  per-progress-limit = omega (arith, most-limit, mul-le-mul (mul-le-mul most-limit most-limit) largest-limit)
+    -- and G at most 63 + 64 × 64 × 1,000.
+    pub per-progress-limit : perProgress P ws ≤ 4096063
+    per-progress-limit = omega (arith, most-limit, mul-le-mul (mul-le-mul most-limit most-limit) largest-limit)

@@ -1,23 +1,19 @@
 -- Laws of one machine of a decoded table: its rows, its edge list, and the cycles of both.
 use mathlib.Core.Path.{_≡_, refl, sym, ap, _∙_, subst}
 use mathlib.Core.Logic.{_↔_}
-use mathlib.Core.Bool.{Bool, true, false, cond, false≢true}
+use mathlib.Core.Bool.{Bool, true, false, false≢true}
 use mathlib.Core.Option.{Option, none, some}
 use mathlib.Core.List.{List, [], _∷_, map}
 use Prim.Native.Nat.{ℕ, _+_, _≤_, _<_}
-use native.Mathlib.Decide.{ℕ-discrete, decLt}
 use native.Mathlib.Omega.{arith}
 use lib.ListN.{length, getD, length-map}
-use lib.Dec.{ltb, eqb}
 use lib.IntN.{ℤ, pos, _-ℤ_}
 use lib.Signed.{_<ℤ_, _≤ℤ_, clashℤ}
-use borrow.Author.Tests.{lt-ltb, le-ltb, eq-eqb, ne-eqb}
 use Rattle.livelock.specs.Lists.{sum, count, All, Distinct}
 use Rattle.livelock.specs.Plants.{Row, Plant, rowAt, rowCount, stateCount, hasProgress, WellFormed}
 use Rattle.livelock.specs.Cycles.{Walk, leaves, enters, RowOf, firstLeft, SimpleCycle, Quiet}
 use Rattle.livelock.specs.Weights.{cycleWeight}
-use Rattle.livelock.proofs.ListLaws.{all-weaken, all-always, all-both, all-at, all-of-map}
-use Rattle.livelock.proofs.SumLaws.{sum-mono, sum-ones}
+use Rattle.livelock.proofs.ListLaws.{all-weaken, all-both, all-at, all-of-map}
 use Rattle.livelock.proofs.Walks.{walk-first}
 use Rattle.livelock.proofs.Graphs.{Graph, Cycle}
 use Rattle.livelock.proofs.Differences.{Difference, difference-minus}
@@ -26,37 +22,13 @@ use Rattle.livelock.proofs.QuietGraphs.{QuietRowOf, row-within}
 use Rattle.plant.specs.Tables.{plantOf, rowsBefore, Ready}
 use Rattle.plant.specs.Limits.{WithinLimits}
 use Rattle.plant.specs.declared.PlantTable.{PlantTable}
-use Rattle.plant.proofs.Bounds.{one-bit}
 use Rattle.plant.proofs.TableLaws.{row-is, rows-so-far, machines-so-far}
-use Rattle.plant.proofs.FirstRowLaws.{row-of-machine}
+use Rattle.plant.proofs.FirstRowLaws.{row-of-machine, machine-rows}
 use Rattle.weighing.specs.declared.edges.Edges.{Edges}
 use Rattle.weighing.specs.Inner.Signs.{rise, fall}
 use Rattle.weighing.specs.Inner.Edges.{columnsOf, Has, Listed}
 use Rattle.weighing.specs.Inner.Rounds.{edgeGraph, EdgesIn, AllBelowZero, Decided}
 use Rattle.weighing.proofs.SignLaws.{rise-fall, rise-at-most, fall-at-most, difference-same}
-
--- ---- counting rows
-
--- A machine is before m + 1 if it is before m or is m.
-one-machine-more : (a m : ℕ) → cond (ltb a (m + 1)) 1 0 ≡ cond (ltb a m) 1 0 + cond (eqb a m) 1 0
-one-machine-more a m = go (decLt a m) (ℕ-discrete a m)
-  where
-    go : Dec (a < m) → Dec (a ≡ m) → cond (ltb a (m + 1)) 1 0 ≡ cond (ltb a m) 1 0 + cond (eqb a m) 1 0
-    go (yes l) (yes e) = absurd (omega arith)
-    go (yes l) (no e) = simp (lt-ltb a (m + 1) (omega arith), lt-ltb a m l, ne-eqb a m e)
-    go (no l) (yes e) = simp (lt-ltb a (m + 1) (omega arith), le-ltb a m (omega arith), eq-eqb a m e)
-    go (no l) (no e) = simp (le-ltb a (m + 1) (omega arith), le-ltb a m (omega arith), ne-eqb a m e)
-
--- The rows of the machines before m + 1 are those of the machines before m and those of m.
-rows-of-next : (m : ℕ) (rs : List Row) → count (λ r. ltb (r .machine) (m + 1)) rs ≡ count (λ r. ltb (r .machine) m) rs + count (λ r. eqb (r .machine) m) rs
-unfolding sum
-rows-of-next m [] = refl
-rows-of-next m (r ∷ rs) = omega (arith, one-machine-more (r .machine) m, rows-of-next m rs)
-
--- The machines before m have no more rows than the plant.
-rows-before-bound : (p : Plant) (m : ℕ) → rowsBefore p m ≤ rowCount p
-rows-before-bound p m =
-    omega (arith, sum-mono (λ (r : Row). cond (ltb (r .machine) m) 1 0) (λ r. 1) (p .rows) (all-always _ (λ r. one-bit (ltb (r .machine) m)) (p .rows)), sum-ones (p .rows))
 
 -- ---- edges and rows
 
@@ -223,14 +195,8 @@ module _ (t : PlantTable) (ready : Ready t) (limits : WithinLimits (plantOf t)) 
   pub rows-from : (m : ℕ) → m < 16
       → (getD (t .first) m 0 ≤ getD (t .first) (m + 1) 0) × (getD (t .first) (m + 1) 0 ≤ 1024) × (getD (t .first) (m + 1) 0 ≤ getD (t .first) m 0 + 255)
   rows-from m l =
-      let low = ready .first-row m (omega arith) in
-      let high = ready .first-row (m + 1) (omega arith) in
-      let next = rows-of-next m (plantOf t .rows) in
-      let each = limits .rows-each m in (
-        omega (arith, low, high, next),
-        omega (arith, high, rows-before-bound (plantOf t) (m + 1), limits .rows-in-all),
-        omega (arith, low, high, next, each),
-      )
+      let rows = machine-rows t ready m l in
+      (rows .0, omega (arith, rows .1, ready .sound .few-rows), omega (arith, rows .2, limits .rows-each m))
 
   module _ (ws : List ℕ) (m : ℕ) (within : m < t .machines) (e : Edges) (listed : Listed (columnsOf t) ws (getD (t .first) m 0) (getD (t .first) (m + 1) 0) e) where
     -- The machine is one of the sixteen that a table has room for.
@@ -251,7 +217,7 @@ module _ (t : PlantTable) (ready : Ready t) (limits : WithinLimits (plantOf t)) 
     edge-row i l =
         let x = listed .each i l in
         let j = getD (e .row) i 0 in
-        let there : j < rowCount (plantOf t) = omega (arith, x .below-high, high-is, rows-before-bound (plantOf t) (m + 1)) in
+        let there : j < rowCount (plantOf t) = omega (arith, x .below-high, machine-rows t ready m in-sixteen .1, rows-so-far t) in
         let is = row-is t j (omega (arith, there, rows-so-far t)) in
         record {
           row = ((there, row-of-machine (plantOf t) limits m j there .1 (omega (arith, x .from-low, low-is), omega (arith, x .below-high, high-is))), ap (λ (r : Row). r .progress) is ∙ x .quiet);

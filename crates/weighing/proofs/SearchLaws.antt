@@ -1,27 +1,27 @@
 -- Laws of the search: walks of exactly k edges, shortest closed walks, and the walk that is written.
 use mathlib.Core.Path.{_≡_, refl, sym, ap, _∙_, subst}
 use mathlib.Core.Logic.{_≢_, _↔_, _⊎_, inl, inr}
-use mathlib.Core.Bool.{Bool, true, false, cond, false≢true}
+use mathlib.Core.Bool.{Bool, true, false, cond}
 use mathlib.Core.List.{List, [], _∷_, _++_, map, map-append, append-assoc}
 use Prim.Native.Nat.{ℕ, zero, suc, _+_, _-_, _*_, _≤_, _<_}
 use native.Mathlib.Nat.{not-suc-le-zero}
-use native.Mathlib.Decide.{ℕ-discrete, decLe}
+use native.Mathlib.Decide.{ℕ-discrete, decLe, decLt}
 use native.Mathlib.Numerals.{add-one}
 use native.Mathlib.Omega.{arith}
 use lib.ListN.{length, length-map, length-append, length-set, getD, getD-replicate, set, replicate, drop}
 use lib.Seq.{getD-set-same, getD-set-other, set-at, drop-cons}
-use lib.IntN.{ℤ, pos, negsuc, _-ℤ_}
-use lib.Signed.{leZ}
+use lib.IntN.{ℤ, pos, _-ℤ_}
+use lib.Signed.{leZ, leZ-yes}
 use lib.Dec.{eqb}
 use mir.Syntax.{w64}
 use mir.Val.{SFits, toZ, ofZ}
 use mir.Facts.{toZ-ofZ}
-use borrow.Author.Tests.{eq-eqb, ne-eqb, eqb-true, leb-false}
+use borrow.Author.Tests.{eq-eqb, ne-eqb, eqb-true}
 use Rattle.livelock.specs.Lists.{below, sum, greatest, All, Distinct}
 use Rattle.livelock.specs.Cycles.{Walk}
 use Rattle.livelock.proofs.ListLaws.{all-append, all-front, all-back, all-below, all-weaken}
 use Rattle.livelock.proofs.SumLaws.{sum-append, greatest-bound, greatest-attained, greatest-equal, greatest-below}
-use Rattle.livelock.proofs.Differences.{Difference, difference-minus}
+use Rattle.livelock.proofs.Differences.{Difference, difference-minus, not-negative-iff}
 use Rattle.livelock.proofs.Pigeonhole.{left-once}
 use Rattle.livelock.proofs.Walks.{visited, walk-append, HasCycle, distinct-or-cycle}
 use Rattle.livelock.proofs.Graphs.{Graph, IsEdge, Within, Cycle, via, via-edge, Leads, via-leads, via-bound}
@@ -300,25 +300,19 @@ module _ {g : Graph} {states : ℕ} (ok : Searchable g states) (start k : ℕ) (
 
 -- ---- the sign of a walk's weight
 
--- a − b is zero or more,
-difference-zero-or-more : (z : ℤ) (a b : ℕ) → Difference z a b → leZ (pos 0) z ≡ true → b ≤ a
-difference-zero-or-more (pos d) a b i h = omega arith
-difference-zero-or-more (negsuc d) a b i h = absurd (false≢true h)
-
--- or below zero.
-difference-below-zero : (z : ℤ) (a b : ℕ) → Difference z a b → leZ (pos 0) z ≡ false → a < b
-difference-below-zero (pos d) a b i h = absurd (omega (arith, leb-false 0 d h))
-difference-below-zero (negsuc d) a b i h = omega arith
-
 -- The code's signed number z is the weight of a walk worth `value`.
 module _ (z : ℤ) (fits : SFits w64 z) (value : ℕ) (is-weight : z ≡ pos value -ℤ pos origin) where
+  is-difference : Difference (toZ w64 (ofZ w64 z)) value origin
+  is-difference = rw (toZ-ofZ fits, is-weight) (difference-minus value origin)
+
   -- It is zero or more,
   pub worth-origin : leZ (pos 0) (toZ w64 (ofZ w64 z)) ≡ true → origin ≤ value
-  worth-origin h = difference-zero-or-more (pos value -ℤ pos origin) value origin (difference-minus value origin) (rw (toZ-ofZ fits, is-weight) at h)
+  worth-origin h = not-negative-iff (toZ w64 (ofZ w64 z)) value origin is-difference .0 (leZ-yes (rw h tt))
 
   -- or below zero.
   pub worth-less : leZ (pos 0) (toZ w64 (ofZ w64 z)) ≡ false → value < origin
-  worth-less h = difference-below-zero (pos value -ℤ pos origin) value origin (difference-minus value origin) (rw (toZ-ofZ fits, is-weight) at h)
+  worth-less h =
+      elim (decLt value origin) [ yes less ↦ less | no enough ↦ absurd (rw h at (not-negative-iff (toZ w64 (ofZ w64 z)) value origin is-difference .1 (omega arith) .le)) ]
 
 -- ---- the least number of edges from one start
 

@@ -4,12 +4,12 @@ use mathlib.Core.Bool.{true, false, false≢true}
 use Prim.Native.Nat.{ℕ, _+_, _-_, _*_, _^_, _≤_, _<_}
 use native.Mathlib.Omega.{arith}
 use lib.Dec.{T}
-use lib.IntN.{ℤ, pos, negsuc, natAbs, _+ℤ_, _*ℤ_}
+use lib.IntN.{ℤ, pos, negsuc, natAbs, _+ℤ_, _-ℤ_, _*ℤ_}
 use lib.Signed.{leZ, nonNeg}
 use mir.Syntax.{w64}
 use mir.Val.{SFits}
 use borrow.Author.Tests.{leb-true, leb-false}
-use Rattle.livelock.proofs.Differences.{Difference, difference-shift, difference-plus, difference-times}
+use Rattle.livelock.proofs.Differences.{Difference, difference-shift, difference-minus, difference-plus, difference-times}
 use Rattle.weighing.specs.Inner.Signs.{rise, fall}
 
 -- A signed number is its rise less its fall.
@@ -39,6 +39,10 @@ pub difference-fits : (z : ℤ) (a b : ℕ) → Difference z a b → a + b < 2 ^
 difference-fits (pos d) a b i h = record { sfits = omega arith }
 difference-fits (negsuc d) a b i h = record { sfits = omega arith }
 
+-- So does what is left of a small number when another is taken away.
+pub minus-fits : (a b : ℕ) → a + b < 2 ^ 63 → SFits w64 (pos a -ℤ pos b)
+minus-fits a b h = difference-fits (pos a -ℤ pos b) a b (difference-minus a b) h
+
 -- a − b is at most n,
 pub difference-at-most : (z : ℤ) (a b n : ℕ) → Difference z a b → leZ z (pos n) ≡ true → a ≤ n + b
 difference-at-most (pos d) a b n i h = omega (arith, leb-true d n h)
@@ -59,8 +63,8 @@ pub difference-sum-of : (n : ℕ) (z : ℤ) → Difference (pos n +ℤ z) (rise 
 difference-sum-of n z =
     difference-shift (pos n +ℤ z) (n + rise z) (0 + fall z) (rise z + n) (fall z) (omega arith) (difference-plus (pos n) z n 0 (rise z) (fall z) (omega arith) (rise-fall z))
 
--- 1 + n × z.
-pub difference-length : (n : ℕ) (z : ℤ) → Difference (pos 1 +ℤ pos n *ℤ z) (1 + n * rise z) (n * fall z)
-difference-length n z =
-    difference-shift (pos 1 +ℤ pos n *ℤ z) (1 + n * rise z) (0 + n * fall z) (1 + n * rise z) (n * fall z) (omega arith)
-    (difference-plus (pos 1) (pos n *ℤ z) 1 0 (n * rise z) (n * fall z) (omega arith) (difference-times n z (rise z) (fall z) (rise-fall z)))
+-- A number and a multiple of a signed one.
+pub difference-length : (first n : ℕ) (z : ℤ) → Difference (pos first +ℤ pos n *ℤ z) (first + n * rise z) (n * fall z)
+difference-length first n z =
+    difference-shift (pos first +ℤ pos n *ℤ z) (first + n * rise z) (0 + n * fall z) (first + n * rise z) (n * fall z) (omega arith)
+    (difference-plus (pos first) (pos n *ℤ z) first 0 (n * rise z) (n * fall z) (omega arith) (difference-times n z (rise z) (fall z) (rise-fall z)))

@@ -12,26 +12,25 @@ use lib.Seq.{drop-cons, getD-take}
 use lib.Dec.{eqb, ltb}
 use lib.IntN.{pos}
 use lib.Signed.{_<ℤ_}
-use borrow.Author.Tests.{eq-eqb, ne-eqb, lt-ltb, le-ltb}
+use borrow.Author.Tests.{eq-eqb, ne-eqb, lt-ltb, le-ltb, eqb-true, ltb-false}
 use Rattle.livelock.specs.Plants.{Plant, machineCount, stateCount, WellFormed}
 use Rattle.livelock.specs.Cycles.{SimpleCycle, Quiet}
 use Rattle.livelock.specs.Weights.{cycleWeight, Passes, FailingCycle}
 use Rattle.livelock.specs.Figures.{mostStates}
-use Rattle.livelock.proofs.ListLaws.{all-at}
 use Rattle.livelock.proofs.Graphs.{Graph}
 use Rattle.livelock.proofs.QuietGraphs.{cycle-machine, most-states}
 use Rattle.livelock.proofs.Decision.{decision, not-both}
 use Rattle.livelock.proofs.Ceiling.{ceiling}
-use Rattle.plant.specs.Found.{Found, found, fault}
+use Rattle.plant.specs.Found.{Found, found, fault, andThen}
 use Rattle.plant.specs.Reading.{readPlant}
 use Rattle.plant.specs.Tables.{plantOf}
 use Rattle.plant.specs.Limits.{WithinLimits}
 use Rattle.plant.specs.declared.PlantTable.{PlantTable}
-use Rattle.plant.specs.declared.Fault.{Fault}
 use Rattle.plant.proofs.FileBounds.{within-limits}
+use Rattle.plant.proofs.OneToOne.{same-fault}
 use Rattle.plant.proofs.TableLaws.{machines-so-far}
 use Rattle.weighing.specs.Answers.{Answer, passed, cycle, refused, answerOf}
-use Rattle.weighing.specs.Weighing.{firstAbove, checkedRoom, checkedSizes, checked, judged, OnPassing, OnFailing, Owed, for-fault, for-plant}
+use Rattle.weighing.specs.Weighing.{firstAbove, checkedSizes, checkedWeights, checkedRoom, checked, judged, OnPassing, OnFailing, Owed, for-fault, for-plant}
 use Rattle.weighing.specs.Inner.Checks.{Weighable, EdgesWeighed, PassedFor, OwedFor}
 use Rattle.weighing.specs.Inner.Edges.{columnsOf, Listed}
 use Rattle.weighing.specs.Inner.FigureSums.{SomeStates}
@@ -39,21 +38,21 @@ use Rattle.weighing.specs.Inner.Rounds.{edgeGraph, EdgesIn, AllBelowZero
 use Rattle.weighing.specs.declared.edges.Edges.{Edges}
 use Rattle.weighing.specs.declared.Weighed.{Weighed}
 use Rattle.weighing.specs.declared.Weighed.the-variants as Variants
-use Rattle.weighing.proofs.FigureLaws.{greatest-limit}
+use Rattle.weighing.proofs.FigureLaws.{states-limit, most-limit}
 use Rattle.weighing.proofs.MachineLaws.{rows-from, machine-edges, machine-passes, machine-fails}
 
--- ---- the first weight above 1,000
+-- ---- the first number above a limit
 
-module _ (ws : List ℕ) (i x : ℕ) (rest : i + firstAbove (drop i ws) ≡ x) where
-  -- A weight above 1,000 is the first one,
-  pub above-stops : i < length ws → 1000 < getD ws i 0 → i ≡ x
+module _ (limit : ℕ) (ws : List ℕ) (i x : ℕ) (rest : i + firstAbove limit (drop i ws) ≡ x) where
+  -- A number above the limit is the first one,
+  pub above-stops : i < length ws → limit < getD ws i 0 → i ≡ x
   unfolding firstAbove
-  above-stops b a = omega (arith, rw (drop-cons ws i 0 b, lt-ltb 1000 (getD ws i 0) a) at rest)
+  above-stops b a = omega (arith, rw (drop-cons ws i 0 b, lt-ltb limit (getD ws i 0) a) at rest)
 
   -- one that is not is passed over,
-  pub above-goes-on : i < length ws → getD ws i 0 ≤ 1000 → i + 1 + firstAbove (drop (i + 1) ws) ≡ x
+  pub above-goes-on : i < length ws → getD ws i 0 ≤ limit → i + 1 + firstAbove limit (drop (i + 1) ws) ≡ x
   unfolding firstAbove
-  above-goes-on b a = let e = rw (drop-cons ws i 0 b, le-ltb 1000 (getD ws i 0) a) at rest in rw (add-one i) (omega (arith, e))
+  above-goes-on b a = let e = rw (drop-cons ws i 0 b, le-ltb limit (getD ws i 0) a) at rest in rw (add-one i) (omega (arith, e))
 
   -- and after the last there is none.
   pub above-ends : length ws ≤ i → i ≡ x
@@ -85,14 +84,6 @@ below-next F m h f j l = go (decLt j m)
     go : Dec (j < m) → F j
     go (yes x) = h j x
     go (no x) = let e : m ≡ j = omega arith in subst F e f
-
--- The states of a plant within the limits: each machine has 1 to 64,
-states-limit : (P : Plant) → WithinLimits P → (m : ℕ) → m < machineCount P → (1 ≤ stateCount P m) × (stateCount P m ≤ 64)
-states-limit P limits m l = all-at (λ n. (1 ≤ n) × (n ≤ 64)) 0 (P .states) (limits .states) m l
-
--- so the most are at most 64.
-most-limit : (P : Plant) → WithinLimits P → mostStates P ≤ 64
-most-limit P limits = greatest-limit (stateCount P) 64 (machineCount P) (λ m l. states-limit P limits m l .1)
 
 module _ (t : PlantTable) (ws : List ℕ) (ok : Weighable t ws) where
   -- The machines of the table are the plant's.
@@ -190,25 +181,25 @@ module _ {t : PlantTable} {ws : List ℕ} {m states : ℕ} {e : Edges} (turn : T
 module _ (ws : List ℕ) (room : ℕ) (P : Plant) (end : ℕ) where
   -- Not one weight for each type: fault 9.
   pub refuse-9 : length ws ≢ P .types → fault 9 0 ≡ checked ws room P end
-  unfolding checked
+  unfolding checked checkedWeights
   refuse-9 h = rw (ne-eqb (length ws) (P .types) h)
 
   module _ (one-each : length ws ≡ P .types) where
     -- A weight above 1,000: fault 10 at the first.
-    pub refuse-10 : (i : ℕ) → i ≡ firstAbove ws → i < length ws → fault 10 i ≡ checked ws room P end
-    unfolding checked checkedSizes
-    refuse-10 i q l = rw (q, eq-eqb (length ws) (P .types) one-each, lt-ltb (firstAbove ws) (length ws) (rw (← q) l))
+    pub refuse-10 : (i : ℕ) → i ≡ firstAbove 1000 ws → i < length ws → fault 10 i ≡ checked ws room P end
+    unfolding checked checkedWeights checkedSizes
+    refuse-10 i q l = rw (q, eq-eqb (length ws) (P .types) one-each, lt-ltb (firstAbove 1000 ws) (length ws) (rw (← q) l))
 
-    module _ (light : length ws ≤ firstAbove ws) where
+    module _ (light : length ws ≤ firstAbove 1000 ws) where
       -- A lent list shorter than 64: fault 11.
       pub refuse-11 : room < 64 → fault 11 0 ≡ checked ws room P end
-      unfolding checked checkedSizes checkedRoom
-      refuse-11 l = rw (eq-eqb (length ws) (P .types) one-each, le-ltb (firstAbove ws) (length ws) light, lt-ltb room 64 l)
+      unfolding checked checkedWeights checkedSizes checkedRoom
+      refuse-11 l = rw (eq-eqb (length ws) (P .types) one-each, le-ltb (firstAbove 1000 ws) (length ws) light, lt-ltb room 64 l)
 
       -- Otherwise the plant is weighed.
       pub refuse-none : 64 ≤ room → found P end ≡ checked ws room P end
-      unfolding checked checkedSizes checkedRoom
-      refuse-none l = rw (eq-eqb (length ws) (P .types) one-each, le-ltb (firstAbove ws) (length ws) light, le-ltb room 64 l)
+      unfolding checked checkedWeights checkedSizes checkedRoom
+      refuse-none l = rw (eq-eqb (length ws) (P .types) one-each, le-ltb (firstAbove 1000 ws) (length ws) light, le-ltb room 64 l)
 
 -- ---- the whole answer
 
@@ -264,33 +255,44 @@ owed-iff ws before after a P end formed (for-plant passing failing) =
     (passes-for ws before after a P formed passing failing, figures-for ws before after a P formed passing failing)
 
 -- A fault is not a plant.
-no-plant : (number place : ℕ) (P : Plant) (end : ℕ) → fault number place ≡ found P end → ⊥
-no-plant number place P end e = false≢true (ap isFound e)
+pub no-plant : {A : Type 0} (number place : ℕ) (P : Plant) (end : ℕ) → fault number place ≡ found P end → A
+no-plant number place P end e = absurd (false≢true (ap isFound e))
   where
     isFound : Found Plant → Bool
     isFound (found p k) = true
     isFound (fault n q) = false
 
--- The checks of the weights and of the lent list change no plant,
-checked-same : (ws : List ℕ) (room : ℕ) (Q P : Plant) (k end : ℕ) → checked ws room Q k ≡ found P end → Q ≡ P
-unfolding checked checkedSizes checkedRoom
-checked-same ws room Q P k end = go (eqb (length ws) (Q .types)) (ltb (firstAbove ws) (length ws)) (ltb room 64)
-  where
-    go : (a b c : Bool) → cond a (cond b (fault 10 (firstAbove ws)) (cond c (fault 11 0) (found Q k))) (fault 9 0) ≡ found P end → Q ≡ P
-    go true true c e = cc
-    go true false true e = cc
-    go true false false e = cc
-    go false b c e = cc
+-- What the checks of the weights and of the lent list say of plant Q when they find plant P.
+pub record Good (ws : List ℕ) (Q P : Plant) : Type 0 where
+  pub same : Q ≡ P
+  pub one-each : length ws ≡ Q .types
+  pub light : length ws ≤ firstAbove 1000 ws
 
--- so a plant that is weighed is one that a file reads as, and within the limits.
-pub judged-limits : (file ws : List ℕ) (room : ℕ) (P : Plant) (end : ℕ) → judged file ws room ≡ found P end → WithinLimits P
-judged-limits file ws room P end e = go (readPlant file) refl
+-- They change no plant, and there is one weight for each type, none above 1,000.
+pub checked-good : (ws : List ℕ) (room : ℕ) (Q P : Plant) (k end : ℕ) → checked ws room Q k ≡ found P end → Good ws Q P
+unfolding checked checkedWeights checkedSizes checkedRoom
+checked-good ws room Q P k end = go (eqb (length ws) (Q .types)) (ltb (firstAbove 1000 ws) (length ws)) (ltb room 64) refl refl
   where
-    go : (x : Found Plant) → readPlant file ≡ x → WithinLimits P
-    go (fault number place) q =
-        let z : fault number place ≡ found P end = judged-fault file ws room number place q ∙ e in
-        absurd (no-plant number place P end z)
-    go (found Q k) q = subst WithinLimits (checked-same ws room Q P k end (judged-plant file ws room Q k q ∙ e)) (within-limits file Q k q)
+    go : (a b c : Bool) → eqb (length ws) (Q .types) ≡ a → ltb (firstAbove 1000 ws) (length ws) ≡ b
+        → andThen (cond a (cond b (fault 10 (firstAbove 1000 ws)) (found Q k)) (fault 9 0)) (λ p e. cond c (fault 11 0) (found p e)) ≡ found P end → Good ws Q P
+    go true true c p q e = no-plant _ _ P end e
+    go true false true p q e = no-plant _ _ P end e
+    go true false false p q e = record { same = cc; one-each = eqb-true _ _ p; light = ltb-false _ _ q }
+    go false b c p q e = no-plant _ _ P end e
+
+-- A plant that is weighed is one that a file reads as, so it is within the limits, and the weights are good for it.
+pub judged-good : (file ws : List ℕ) (room : ℕ) (P : Plant) (end : ℕ) → judged file ws room ≡ found P end → WithinLimits P × Good ws P P
+judged-good file ws room P end e = go (readPlant file) refl
+  where
+    go : (x : Found Plant) → readPlant file ≡ x → WithinLimits P × Good ws P P
+    go (fault number place) q = no-plant number place P end (judged-fault file ws room number place q ∙ e)
+    go (found Q k) q =
+        let g = checked-good ws room Q P k end (judged-plant file ws room Q k q ∙ e) in
+        subst (λ (x : Plant). WithinLimits x × Good ws x P) (g .same) (within-limits file Q k q, g)
+
+-- The first of these alone.
+pub judged-limits : (file ws : List ℕ) (room : ℕ) (P : Plant) (end : ℕ) → judged file ws room ≡ found P end → WithinLimits P
+judged-limits file ws room P end e = judged-good file ws room P end e .0
 
 -- For every input that is judged to be a plant, figures are handed back exactly when every quiet simple cycle weighs below zero.
 pub passed-iff : (file ws before after : List ℕ) (a : Answer) (P : Plant) (end : ℕ) → judged file ws (length before) ≡ found P end
@@ -321,10 +323,6 @@ pub kind-determined : (file ws before after after′ : List ℕ) (a b : Answer) 
     → Owed ws before after′ b (judged file ws (length before)) → kindOf a ≡ kindOf b
 kind-determined file ws before after after′ a b =
     same-kind (judged file ws (length before)) (λ P end e. judged-limits file ws (length before) P end e .formed)
-
--- Faults with the same number and place are the same.
-same-fault : (f g : Fault) → f .number ≡ g .number → f .place ≡ g .place → f ≡ g
-same-fault f g n q = λ i. record { number = n i; place = q i }
 
 -- Different answers never mean the same.
 pub one-to-one : (a b : Weighed) → answerOf a ≡ answerOf b → a ≡ b

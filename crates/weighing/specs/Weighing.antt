@@ -13,22 +13,26 @@ use Rattle.plant.specs.Found.{Found, found, fault, andThen}
 use Rattle.plant.specs.Reading.{readPlant}
 use Rattle.weighing.specs.Answers.{Answer, passed, cycle, refused}
 
--- "weights | 10 | above 1,000 | index": the index of the first weight above 1,000, or the length if none is.
-unfoldable pub firstAbove : List ℕ → ℕ
-firstAbove [] = 0
-firstAbove (w ∷ ws) = cond (ltb 1000 w) 0 (suc (firstAbove ws))
+-- The index of the first number above a limit, or the length if none is.
+unfoldable pub firstAbove : ℕ → List ℕ → ℕ
+firstAbove limit [] = 0
+firstAbove limit (x ∷ xs) = cond (ltb limit x) 0 (suc (firstAbove limit xs))
+
+-- "weights | 10 | above 1,000 | index".
+unfoldable pub checkedSizes : List ℕ → Plant → ℕ → Found Plant
+checkedSizes ws P end = cond (ltb (firstAbove 1000 ws) (length ws)) (fault 10 (firstAbove 1000 ws)) (found P end)
+
+-- "weights | 9 | not one for each type | 0", then 10: a plant for which the weights are good.
+unfoldable pub checkedWeights : List ℕ → Plant → ℕ → Found Plant
+checkedWeights ws P end = cond (eqb (length ws) (P .types)) (checkedSizes ws P end) (fault 9 0)
 
 -- "lent cycle list (weighing) | 11 | shorter than 64 | 0".
 unfoldable pub checkedRoom : ℕ → Plant → ℕ → Found Plant
 checkedRoom room P end = cond (ltb room 64) (fault 11 0) (found P end)
 
--- "weights | 10 | above 1,000 | index", then 11.
-unfoldable pub checkedSizes : List ℕ → ℕ → Plant → ℕ → Found Plant
-checkedSizes ws room P end = cond (ltb (firstAbove ws) (length ws)) (fault 10 (firstAbove ws)) (checkedRoom room P end)
-
--- "weights | 9 | not one for each type | 0", then 10 and 11.
+-- "weighing checks 9, 10, 11".
 unfoldable pub checked : List ℕ → ℕ → Plant → ℕ → Found Plant
-checked ws room P end = cond (eqb (length ws) (P .types)) (checkedSizes ws room P end) (fault 9 0)
+checked ws room P end = andThen (checkedWeights ws P end) (checkedRoom room)
 
 -- "File first, then downward as each call reads its parts; weighing checks 9, 10, 11": the plant to weigh, or the fault.
 abbrev pub judged : List ℕ → List ℕ → ℕ → Found Plant

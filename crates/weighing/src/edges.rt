@@ -15,13 +15,6 @@ pub struct Edges {
     pub row: [u16; 256],
 }
 
-// A row number as an index.
-pub fn wide_row(x: u16) -> usize
-    ensures { λ r. ⌜ r ≡ x ⌝ }
-{
-    x as usize
-}
-
 // The weight of a message: 0 for none.
 fn message_weight(message: u8, weights: &[u16]) -> u16
     ensures { λ r. ⌜ r ≡ messageWeight (now (weights .entry)) (typeOf message) ⌝ }

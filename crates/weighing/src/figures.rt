@@ -4,6 +4,8 @@ ghost use Prim.Native.Nat.{_-_, _≤_, max};
 ghost use lib.ListN.{length, getD};
 ghost use Rattle.livelock.specs.Lists.{below, sum, greatest};
 ghost use Rattle.weighing.specs.Inner.FigureSums.{FiguresOf, SomeStates};
+use crate::casts::byte;
+use crate::casts::word;
 
 // F, n and G.
 pub struct Figures {
@@ -26,18 +28,6 @@ fn less_one(states: u8) -> u64
         return 0;
     }
     states as u64 - 1
-}
-
-fn byte(x: u8) -> u64
-    ensures { λ r. ⌜ r ≡ x ⌝ }
-{
-    x as u64
-}
-
-fn word(x: u16) -> u64
-    ensures { λ r. ⌜ r ≡ x ⌝ }
-{
-    x as u64
 }
 
 // n, the most states in one machine.

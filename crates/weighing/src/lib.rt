@@ -1,11 +1,11 @@
 // Weighing a plant.
-ghost use Prim.Native.Nat.{ℕ, _≤_};
+ghost use Prim.Native.Nat.{_≤_};
 ghost use mathlib.Core.Path.{_≡_};
 ghost use lib.ListN.{length};
 ghost use Rattle.plant.specs.Tables.{plantOf, Ready};
 ghost use Rattle.plant.specs.Limits.{WithinLimits};
 ghost use Rattle.weighing.specs.Answers.{answerOf};
-ghost use Rattle.weighing.specs.Weighing.{firstAbove, checked, judged, Owed};
+ghost use Rattle.weighing.specs.Weighing.{firstAbove, judged, Owed};
 ghost use Rattle.weighing.specs.Inner.FigureSums.{SomeStates};
 ghost use Rattle.weighing.specs.Inner.Checks.{Weighable, EdgesWeighed, PassedFor, OwedFor, OwedChecked};
 ghost use Rattle.weighing.specs.Inner.Rounds.{edgeGraph, EdgesIn};
@@ -13,6 +13,7 @@ use plant::End;
 use plant::Fault;
 use plant::PlantTable;
 
+mod casts;
 mod deciding;
 mod edges;
 mod figures;
@@ -34,7 +35,7 @@ pub enum Weighed {
 
 // The index of the first weight above 1,000, or the length if none is.
 fn first_above(weights: &[u16]) -> usize
-    ensures { λ r. ⌜ r ≡ firstAbove (now (weights .entry)) ⌝ }
+    ensures { λ r. ⌜ r ≡ firstAbove 1000 (now (weights .entry)) ⌝ }
 {
     let mut i = 0;
     while i < weights.len() {
@@ -90,9 +91,9 @@ fn weigh_table(table: PlantTable, weights: &[u16], cycle: &mut [u16]) -> Weighed
     let n = figures::most_states(&counts[..machines]);
     let mut m = 0;
     while m < machines {
-        let low = edges::wide_row(first[m]);
-        let high = edges::wide_row(first[m + 1]);
-        let states = relaxing::wide(counts[m]);
+        let low = casts::wide_row(first[m]);
+        let high = casts::wide_row(first[m + 1]);
+        let states = casts::wide(counts[m]);
         let e = edges::edges_of(
             &table.left,
             &table.entered,

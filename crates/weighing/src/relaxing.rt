@@ -3,13 +3,7 @@ ghost use mathlib.Core.Path.{_≡_};
 ghost use Prim.Native.Nat.{_+_, _-_, _≤_, max};
 ghost use Rattle.weighing.specs.Inner.Signs.{rise, fall};
 ghost use Rattle.weighing.specs.Inner.Rounds.{edgeGraph, EdgesIn, Low, Relaxed};
-
-// A state as an index.
-pub fn wide(x: u8) -> usize
-    ensures { λ r. ⌜ r ≡ x ⌝ }
-{
-    x as usize
-}
+use crate::casts::wide;
 
 // The greater of `at` and the length along an edge and `next` on from its end.
 pub fn raised(at: u64, next: u64, length: i64) -> u64

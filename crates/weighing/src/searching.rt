@@ -3,14 +3,15 @@ ghost use mathlib.Core.Path.{_≡_};
 ghost use Prim.Native.Nat.{_≤_, _<_};
 ghost use lib.ListN.{length, getD, set, replicate};
 ghost use lib.IntN.{pos, _-ℤ_};
+ghost use lib.Signed.{leZ};
 ghost use Rattle.livelock.specs.Lists.{below, greatest};
 ghost use Rattle.livelock.proofs.Graphs.{via};
 ghost use Rattle.weighing.specs.Inner.Rounds.{edgeGraph, EdgesIn, Low, SomeZeroOrMore};
 ghost use Rattle.weighing.specs.Inner.Searches.{origin, Exactly, LeastFrom, Least, FirstEdge, Written};
 ghost use Rattle.weighing.specs.Inner.Checks.{ShownRows};
+use crate::casts::wide;
 use crate::relaxing::raised;
 use crate::relaxing::round;
-use crate::relaxing::wide;
 
 // The number that stands for the weight 0 in a table of walks; 0 stands for no walk.
 const ORIGIN: u64 = 1099511627776;
@@ -31,6 +32,13 @@ fn walk_weight(value: u64) -> i64
     ensures { λ r. ⌜ r ≡ pos value -ℤ pos origin ⌝ }
 {
     value as i64 - ORIGIN as i64
+}
+
+// Whether a weight is zero or more.
+fn zero_or_more(weight: i64) -> bool
+    ensures { λ r. ⌜ r ≡ leZ (pos 0) weight ⌝ }
+{
+    weight >= 0
 }
 
 // The walks of exactly k edges to the start.
@@ -76,7 +84,7 @@ fn least_from(
         table = next;
         k += 1;
         let closed = walk_weight(table[start]);
-        if closed >= 0 {
+        if zero_or_more(closed) {
             return k;
         }
     }

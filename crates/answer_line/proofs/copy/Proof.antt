@@ -5,7 +5,8 @@ use Prim.Native.Nat.{_-_, _≤_}
 use native.Mathlib.Omega.{arith}
 use lib.ListN.{length, take, length-set}
 use lib.Seq.{sets}
-use Rattle.answer_line.proofs.WritingLaws.{copied, copied-all}
+use Rattle.livelock.proofs.StoreLaws.{sets-next}
+use Rattle.answer_line.proofs.WritingLaws.{copied-all}
 use Rattle.answer_line.proofs.copy.Statement.{statement}
 use Rattle.answer_line.proofs.copy.Tie as tie
 
@@ -35,7 +36,7 @@ loop-less c = search needs
 
 loop-again : tie.Need-loop-again Inv-loop μ-loop
 loop-again c = let t = c .before .before in
-    (omega arith, simp length-set (t .loop .inv .1), copied (t .before .args .bytes .now) (t .before .args .out .now) (t .loop .out) (t .before .args .at) (t .loop .i) (omega arith) (t .loop .inv .2))
+    (omega arith, simp length-set (t .loop .inv .1), sets-next (t .before .args .bytes .now) (t .before .args .out .now) (t .loop .out) (t .before .args .at) (t .loop .i) (omega arith) (t .loop .inv .2))
 
 add-result : tie.Need-add-result Inv-loop μ-loop
 add-result c = search needs

@@ -1,4 +1,4 @@
--- `print_line` meets its contract: the line lies within its 512 bytes.
+-- `print_line` meets its contract: the line lies within its 512 bytes, and it is the one that is owed.
 use borrow.Author.Needs.{needs}
 use mathlib.Core.Path.{sym}
 use native.Mathlib.Omega.{arith}
@@ -15,13 +15,13 @@ write-line-requires c κs = search needs
 array-share-prefix-line : tie.Need-array-share-prefix-line
 array-share-prefix-line c = search needs
 
-slice-aggregate-write-all : tie.Need-slice-aggregate-write-all
-slice-aggregate-write-all c =
+slice-aggregate-write-owed : tie.Need-slice-aggregate-write-owed
+slice-aggregate-write-owed c =
     let w = c .before .before .write-line in
-    sym (length-take-le (w .result) (w .last .1 .1 .0) (omega (arith, w .ensures .1, c .before .line2 .given)))
+    sym (length-take-le _ (w .last .1 .1 .0) (omega (arith, w .ensures .1, c .before .line2 .given)))
 
-write-all-requires : tie.Need-write-all-requires
-write-all-requires c κs = search needs
+write-owed-requires : tie.Need-write-owed-requires
+write-owed-requires c κs = c .before .before .write-line .ensures .0
 
 returns : tie.Need-returns
 returns c = search needs
@@ -33,6 +33,6 @@ print-line-spec =
     slice-aggregate-write-line
     write-line-requires
     array-share-prefix-line
-    slice-aggregate-write-all
-    write-all-requires
+    slice-aggregate-write-owed
+    write-owed-requires
     returns)

@@ -11,8 +11,8 @@ use Rattle.plant.proofs.PlantLaws.{no-machine-count, no-type-count, fil
 use Rattle.plant.proofs.decode.Statement.{statement}
 use Rattle.plant.proofs.decode.Tie as tie
 
-byte-in-requires : tie.Need-byte-in-requires
-byte-in-requires c κs = search needs
+machines-byte-requires : tie.Need-machines-byte-requires
+machines-byte-requires c κs = search needs
 
 enum-known-first : tie.Need-enum-known-first
 enum-known-first c = search needs
@@ -24,10 +24,10 @@ refused-requires : tie.Need-refused-requires
 refused-requires c κs = search needs
 
 returns : tie.Need-returns
-returns c = (c .refused .ensures .0 ∙ no-machine-count _ _ _ (told fieldFound (c .before .before .before .before .byte-in .ensures) (c .before .before .first2 .given .1)), c .refused .ensures .1)
+returns c = (c .refused .ensures .0 ∙ no-machine-count _ _ _ (told fieldFound (c .before .before .before .before .machines-byte .ensures) (c .before .before .first2 .given .1)), c .refused .ensures .1)
 
-byte-in-requires-2 : tie.Need-byte-in-requires-2
-byte-in-requires-2 c κs = search needs
+types-byte-requires : tie.Need-types-byte-requires
+types-byte-requires c κs = search needs
 
 enum-known-second : tie.Need-enum-known-second
 enum-known-second c = search needs
@@ -40,19 +40,19 @@ refused-requires-2 c κs = search needs
 
 returns-2 : tie.Need-returns-2
 returns-2 c = (
-  c .refused2 .ensures .0 ∙ no-type-count _ _ _ (told fieldFound (c .before .before .before .before .before .before .before .before .byte-in .ensures) (c .before .before .before .before .before .before .first .given .1)) _ _ (told fieldFound (c .before .before .before .before .byte-in2 .ensures) (c .before .before .second2 .given .1)),
+  c .refused2 .ensures .0 ∙ no-type-count _ _ _ (told fieldFound (c .before .before .before .before .before .before .before .before .machines-byte .ensures) (c .before .before .before .before .before .before .first .given .1)) _ _ (told fieldFound (c .before .before .before .before .types-byte .ensures) (c .before .before .second2 .given .1)),
   c .refused2 .ensures .1,
 )
 
 blank-requires : tie.Need-blank-requires
-blank-requires c κs = let r = each-found _ _ (byteIn-each _ _ 0 65 2 (omega arith)) (told fieldFound (c .before .before .before .byte-in2 .ensures) (c .before .second .given .1)) in omega (arith, r .1 .1)
+blank-requires c κs = let r = each-found _ _ (byteIn-each _ _ 0 65 2 (omega arith)) (told fieldFound (c .before .before .before .types-byte .ensures) (c .before .second .given .1)) in omega (arith, r .1 .1)
 
 cast-read-machines : tie.Need-cast-read-machines
 cast-read-machines c = search needs
 
 read-machines-requires : tie.Need-read-machines-requires
 read-machines-requires c κs =
-    let r = each-found _ _ (byteIn-each _ _ 1 17 2 (omega arith)) (told fieldFound (c .before .before .before .before .before .before .before .before .before .byte-in .ensures) (c .before .before .before .before .before .before .before .first .given .1)) in
+    let r = each-found _ _ (byteIn-each _ _ 1 17 2 (omega arith)) (told fieldFound (c .before .before .before .before .before .before .before .before .before .machines-byte .ensures) (c .before .before .before .before .before .before .before .first .given .1)) in
     let b = c .before .blank .ensures in
     (recount _ _ 0 (b .1 .sound) (omega (arith, b .0 .1)), omega (arith, r .1 .1))
 
@@ -64,7 +64,7 @@ first-rows-requires c κs = c .before .before .before .before .read-machines .en
 
 returns-3 : tie.Need-returns-3
 returns-3 c = (
-  c .before .before .before .at-file-end .ensures _ ∙ file-read _ _ _ (told fieldFound (c .before .before .before .before .before .before .before .before .before .before .before .before .before .before .before .byte-in .ensures) (c .before .before .before .before .before .before .before .before .before .before .before .before .before .first .given .1)) _ _ _ _ (told fieldFound (c .before .before .before .before .before .before .before .before .before .before .before .byte-in2 .ensures) (c .before .before .before .before .before .before .before .before .before .second .given .1)) (c .before .before .before .before .before .before .before .blank .ensures .0 .0) (c .before .before .before .before .before .read-machines .ensures .0),
+  c .before .before .before .at-file-end .ensures _ ∙ file-read _ _ _ (told fieldFound (c .before .before .before .before .before .before .before .before .before .before .before .before .before .before .before .machines-byte .ensures) (c .before .before .before .before .before .before .before .before .before .before .before .before .before .first .given .1)) _ _ _ _ (told fieldFound (c .before .before .before .before .before .before .before .before .before .before .before .types-byte .ensures) (c .before .before .before .before .before .before .before .before .before .second .given .1)) (c .before .before .before .before .before .before .before .blank .ensures .0 .0) (c .before .before .before .before .before .read-machines .ensures .0),
   ready (c .before .before .before .before .before .read-machines .result .table) _ (c .before .before .before .before .before .read-machines .ensures .1) (c .first-rows .ensures),
 )
 
@@ -72,12 +72,12 @@ pub decode-spec : {M : Type 1} → statement M
 decode-spec =
     tie.close
     (tie.spec
-    byte-in-requires
+    machines-byte-requires
     enum-known-first
     enum-known-first-2
     refused-requires
     returns
-    byte-in-requires-2
+    types-byte-requires
     enum-known-second
     enum-known-second-2
     refused-requires-2

@@ -10,8 +10,8 @@ use Rattle.plant.proofs.MachineLaws.{no-states, no-rows, machine-read, 
 use Rattle.plant.proofs.read_machine.Statement.{statement}
 use Rattle.plant.proofs.read_machine.Tie as tie
 
-byte-in-requires : tie.Need-byte-in-requires
-byte-in-requires c κs = search needs
+states-byte-requires : tie.Need-states-byte-requires
+states-byte-requires c κs = search needs
 
 enum-known-first : tie.Need-enum-known-first
 enum-known-first c = search needs
@@ -22,7 +22,7 @@ enum-known-first-2 c = search needs
 returns : tie.Need-returns
 returns c =
     let a = c .before .before .before .before .before in (
-      no-states _ _ (a .args .table) (a .pre .0) _ _ (told fieldFound (c .before .before .before .byte-in .ensures) (c .before .first2 .given .1)),
+      no-states _ _ (a .args .table) (a .pre .0) _ _ (told fieldFound (c .before .before .before .states-byte .ensures) (c .before .first2 .given .1)),
       more-machines _ _ _ (a .pre .0) (omega arith),
     )
 
@@ -38,7 +38,7 @@ enum-known-second-2 c = search needs
 returns-2 : tie.Need-returns-2
 returns-2 c =
     let a = c .before .before .before .before .before .before .before .before .before in (
-      no-rows _ _ (a .args .table) (a .pre .0) _ _ _ _ (told fieldFound (c .before .before .before .before .before .before .before .byte-in .ensures) (c .before .before .before .before .before .first .given .1)) (told fieldFound (c .before .before .before .rows-byte .ensures) (c .before .second2 .given .1)),
+      no-rows _ _ (a .args .table) (a .pre .0) _ _ _ _ (told fieldFound (c .before .before .before .before .before .before .before .states-byte .ensures) (c .before .before .before .before .before .first .given .1)) (told fieldFound (c .before .before .before .rows-byte .ensures) (c .before .second2 .given .1)),
       more-machines _ _ _ (a .pre .0) (omega arith),
     )
 
@@ -69,7 +69,7 @@ read-rows-requires c κs =
 moved-requires : tie.Need-moved-requires
 moved-requires c κs =
     let a = c .before .before .before .before .before .before .before .before .before .before .before .before .before .before in
-    let q = each-found _ _ (byteIn-each _ _ 1 65 3 (omega arith)) (told fieldFound (c .before .before .before .before .before .before .before .before .before .before .before .before .byte-in .ensures) (c .before .before .before .before .before .before .before .before .before .before .first .given .1)) in
+    let q = each-found _ _ (byteIn-each _ _ 1 65 3 (omega arith)) (told fieldFound (c .before .before .before .before .before .before .before .before .before .before .before .before .states-byte .ensures) (c .before .before .before .before .before .before .before .before .before .before .first .given .1)) in
     let r = each-found _ _ (rowsByte-each _ _ _) (told fieldFound (c .before .before .before .before .before .before .before .before .rows-byte .ensures) (c .before .before .before .before .before .before .second .given .1)) in
     let e = rows-end _ _ _ (c .before .before .before .before .before .before .second .given .0 .0 .next) (a .args .file .now) _ (c .before .read-rows .result) (q .1 .0) (c .before .read-rows .ensures .0) in
     omega (arith, r .0 .inside, a .good .0 .0)
@@ -78,7 +78,7 @@ returns-3 : tie.Need-returns-3
 returns-3 c =
     let a = c .before .before .before .before .before .before .before .before .before .before .before .before .before .before .before in
     let w = c .before .before .before .before .before .with-machine .ensures in (
-      c .moved .ensures _ ∙ machine-read _ _ (a .args .table) (a .pre .0) _ _ _ _ _ _ (a .pre .1) (told fieldFound (c .before .before .before .before .before .before .before .before .before .before .before .before .before .byte-in .ensures) (c .before .before .before .before .before .before .before .before .before .before .before .first .given .1)) (told fieldFound (c .before .before .before .before .before .before .before .before .before .rows-byte .ensures) (c .before .before .before .before .before .before .before .second .given .1)) (w .holds) (c .before .before .read-rows .ensures .0),
+      c .moved .ensures _ ∙ machine-read _ _ (a .args .table) (a .pre .0) _ _ _ _ _ _ (a .pre .1) (told fieldFound (c .before .before .before .before .before .before .before .before .before .before .before .before .before .states-byte .ensures) (c .before .before .before .before .before .before .before .before .before .before .before .first .given .1)) (told fieldFound (c .before .before .before .before .before .before .before .before .before .rows-byte .ensures) (c .before .before .before .before .before .before .before .second .given .1)) (w .holds) (c .before .before .read-rows .ensures .0),
       more-machines _ _ _ (c .before .before .read-rows .ensures .1) (w .sound .few-machines),
     )
 
@@ -86,7 +86,7 @@ pub read-machine-spec : {M : Type 1} → statement M
 read-machine-spec =
     tie.close
     (tie.spec
-    byte-in-requires
+    states-byte-requires
     enum-known-first
     enum-known-first-2
     returns

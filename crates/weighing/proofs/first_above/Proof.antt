@@ -10,7 +10,7 @@ use Rattle.weighing.proofs.first_above.Statement.{statement}
 use Rattle.weighing.proofs.first_above.Tie as tie
 
 abbrev Inv-loop : tie.InvT-loop
-Inv-loop weights i₀ i = (i ≤ length weights) × (i + firstAbove (drop i weights) ≡ firstAbove weights)
+Inv-loop weights i₀ i = (i ≤ length weights) × (i + firstAbove 1000 (drop i weights) ≡ firstAbove 1000 weights)
 
 abbrev μ-loop : tie.MeasureT-loop
 μ-loop weights i₀ i = length weights - i
@@ -27,7 +27,7 @@ shared-slice-read-if1 c = search needs
 returns : tie.Need-returns Inv-loop μ-loop
 returns c =
     let l = c .before .before .before .loop in
-    above-stops (c .before .before .before .before .args .weights .now) (l .i) _ (l .inv .1) (c .before .before .loop-test .taken) (c .if1 .taken)
+    above-stops 1000 (c .before .before .before .before .args .weights .now) (l .i) _ (l .inv .1) (c .before .before .loop-test .taken) (omega (arith, c .if1 .taken))
 
 add-i : tie.Need-add-i Inv-loop μ-loop
 add-i c = search needs
@@ -38,10 +38,10 @@ loop-less c = search needs
 loop-again : tie.Need-loop-again Inv-loop μ-loop
 loop-again c =
     let l = c .before .before .before .loop in
-    (search needs, above-goes-on (c .before .before .before .before .args .weights .now) (l .i) _ (l .inv .1) (c .before .before .loop-test .taken) (c .if1 .left))
+    (search needs, above-goes-on 1000 (c .before .before .before .before .args .weights .now) (l .i) _ (l .inv .1) (c .before .before .loop-test .taken) (omega (arith, c .if1 .left)))
 
 returns-2 : tie.Need-returns-2 Inv-loop μ-loop
-returns-2 c = above-ends (c .before .before .args .weights .now) (c .before .loop .i) _ (c .before .loop .inv .1) (c .loop-test .left)
+returns-2 c = above-ends 1000 (c .before .before .args .weights .now) (c .before .loop .i) _ (c .before .loop .inv .1) (c .loop-test .left)
 
 pub first-above-spec : {M : Type 1} → statement M
 first-above-spec =

@@ -15,7 +15,7 @@ returns c =
     let t = c .before .before .before .before .args .table in
     let ws = c .before .before .before .before .args .weights .now in
     let before = c .before .before .before .before .args .cycle .now in
-    λ end. refusal ws before 9 0 _ (refuse-9 ws (length before) (plantOf t) end (c .if1 .taken))
+    λ end. refusal ws before 9 0 _ (refuse-9 ws (length before) (plantOf t) end (λ e. omega (arith, c .if1 .taken, e)))
 
 first-above-requires : tie.Need-first-above-requires
 first-above-requires c κs = search needs
@@ -33,7 +33,7 @@ returns-3 c =
     let t = c .before .before .before .before .before .before .before .args .table in
     let ws = c .before .before .before .before .before .before .before .args .weights .now in
     let before = c .before .before .before .before .before .before .before .args .cycle .now in
-    λ end. refusal ws before 11 0 _ (refuse-11 ws (length before) (plantOf t) end (c .before .before .before .if1 .left) (omega (arith, c .before .before .first-above .ensures, c .before .if2 .left)) (c .if3 .taken))
+    λ end. refusal ws before 11 0 _ (refuse-11 ws (length before) (plantOf t) end (c .before .before .before .if1 .left) (omega (arith, c .before .before .first-above .ensures, c .before .if2 .left)) (omega (arith, c .if3 .taken)))
 
 weigh-table-requires : tie.Need-weigh-table-requires
 weigh-table-requires c κs = search needs

@@ -85,7 +85,7 @@ same-length c = c .before .before .before .weigh-edges .kept .1 .1 .1 .1 .1 .1 .
 returns : tie.Need-returns Inv-loop μ-loop
 returns c =
     let w = rw (c .before .before .before .before .before .before .before .before .before .before .before .before .before .before .before .before .before .before .before .before .before .loop .inv .2) at (c .before .before .before .weigh-edges .ensures) in
-    turn-fails (turn (c .before .before .before .before .before .before .before .before .before .before)) w (c .if1 .taken)
+    turn-fails (turn (c .before .before .before .before .before .before .before .before .before .before)) w (omega (arith, c .if1 .taken))
 
 add-m : tie.Need-add-m Inv-loop μ-loop
 add-m c = record { fits = omega (arith, c .before .before .before .before .before .before .before .before .before .before .before .before .before .before .before .before .before .before .before .before .loop-test .taken, c .before .before .before .before .before .before .before .before .before .before .before .before .before .before .before .before .before .before .before .before .before .before .before .before .before .before .before .before .pre .0 .ready .sound .few-machines) }

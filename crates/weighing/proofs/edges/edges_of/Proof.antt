@@ -1,3 +1,4 @@
+-- `edges_of` meets its contract: before the turn of row k the edges are the quiet rows from `low` up to, and not including, k.
 use mathlib.Core.Bool.{false}
 use Prim.Native.Nat.{_-_, _≤_}
 use native.Mathlib.Nat.{le-refl}

@@ -1,3 +1,4 @@
+-- `message_weight` meets its contract: 64 or more is no message, and a type past the weights weighs 0.
 use lib.ListN.{List·getD-eq-default}
 use borrow.Author.Tests.{lt-ltb, le-ltb}
 use borrow.Author.Needs.{needs}

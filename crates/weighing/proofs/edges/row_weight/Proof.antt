@@ -1,18 +1,11 @@
-use Prim.Native.Nat.{ℕ, _<_, _^_}
+-- `row_weight` meets its contract: the difference of two 16-bit numbers fits 64 bits.
 use native.Mathlib.Omega.{arith}
-use lib.IntN.{pos, _-ℤ_}
 use mir.Syntax.{w64}
-use mir.Val.{SFits}
 use mir.Facts.{toZ-pos, toZ-ofZ}
-use Rattle.livelock.proofs.Differences.{difference-minus}
-use Rattle.weighing.proofs.SignLaws.{difference-fits}
+use Rattle.weighing.proofs.SignLaws.{minus-fits}
 use borrow.Author.Needs.{needs}
 use Rattle.weighing.proofs.edges.row_weight.Statement.{statement}
 use Rattle.weighing.proofs.edges.row_weight.Tie as tie
-
--- The difference of two 16-bit numbers fits 64 bits.
-weight-fits : (a b : ℕ) → a < 2 ^ 16 → b < 2 ^ 16 → SFits w64 (pos a -ℤ pos b)
-weight-fits a b h i = difference-fits (pos a -ℤ pos b) a b (difference-minus a b) (omega arith)
 
 message-weight-requires : tie.Need-message-weight-requires
 message-weight-requires c κs = search needs
@@ -30,14 +23,14 @@ sub-result : tie.Need-sub-result
 sub-result c =
     let up = c .before .message-weight .result in
     let down = c .message-weight2 .result in
-    rw (toZ-pos w64 {n = up} (omega arith), toZ-pos w64 {n = down} (omega arith)) (weight-fits up down (omega arith) (omega arith))
+    rw (toZ-pos w64 {n = up} (omega arith), toZ-pos w64 {n = down} (omega arith)) (minus-fits up down (omega arith))
 
 returns : tie.Need-returns
 returns c =
     let up = c .before .message-weight .result in
     let down = c .message-weight2 .result in
     rw
-    (toZ-pos w64 {n = up} (omega arith), toZ-pos w64 {n = down} (omega arith), toZ-ofZ (weight-fits up down (omega arith) (omega arith)), c .before .message-weight .ensures, c .message-weight2 .ensures)
+    (toZ-pos w64 {n = up} (omega arith), toZ-pos w64 {n = down} (omega arith), toZ-ofZ (minus-fits up down (omega arith)), c .before .message-weight .ensures, c .message-weight2 .ensures)
 
 pub row-weight-spec : {M : Type 1} → statement M
 row-weight-spec = tie.close (tie.spec message-weight-requires message-weight-requires-2 cast-result cast-result-2 sub-result returns)

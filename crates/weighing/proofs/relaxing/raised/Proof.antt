@@ -1,3 +1,4 @@
+-- `raised` meets its contract: the sum fits 64 bits, and the greater number is taken.
 use mathlib.Core.Path.{_≡_, _∙_}
 use mathlib.Core.Bool.{true, false}
 use Prim.Native.Nat.{ℕ, _+_, _≤_}

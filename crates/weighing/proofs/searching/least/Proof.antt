@@ -24,7 +24,7 @@ sub-least-from : tie.Need-sub-least-from Inv-loop μ-loop
 sub-least-from c = c .before .loop .inv .some-edge
 
 least-from-requires : tie.Need-least-from-requires Inv-loop μ-loop
-least-from-requires c κs = let ok = c .before .before .pre .0 in (ok, c .loop-test .taken, omega (arith, c .before .loop .inv .few, ok .states-in))
+least-from-requires c κs = let ok = c .before .before .pre .0 in (ok, omega (arith, c .loop-test .taken), omega (arith, c .before .loop .inv .few, ok .states-in))
 
 add-s : tie.Need-add-s Inv-loop μ-loop
 add-s c = search needs

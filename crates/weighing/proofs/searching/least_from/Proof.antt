@@ -1,5 +1,6 @@
 -- `least_from` meets its contract: after k turns no number of edges up to k closes.
 use borrow.Author.Needs.{needs}
+use mathlib.Core.Path.{sym, _∙_}
 use Prim.Native.Nat.{_+_, _-_, _≤_}
 use native.Mathlib.Omega.{arith}
 use lib.ListN.{getD}
@@ -60,30 +61,33 @@ walk-weight-requires c κs =
     let few : l .k + 1 ≤ 64 = omega (arith, c .before .before .loop-test .taken, p .2) in
     exactly-low ok _ _ (c .round .result) next few (c .before .before .before .before .before .args .start) (omega (arith, p .1, p .0 .states-in))
 
+zero-or-more-requires : tie.Need-zero-or-more-requires Inv-loop μ-loop
+zero-or-more-requires c κs = search needs
+
 returns : tie.Need-returns Inv-loop μ-loop
 returns c =
-    let p = c .before .before .before .before .before .before .before .pre in
-    let start = c .before .before .before .before .before .before .before .args .start in
-    let l = c .before .before .before .before .before .loop in
-    let table = c .before .before .round .result in
-    let next = exactly-next (edges-searchable (p .0)) _ _ (l .table) (l .inv .1) table (c .before .before .round .ensures) in
+    let p = c .before .before .before .before .before .before .before .before .pre in
+    let start = c .before .before .before .before .before .before .before .before .args .start in
+    let l = c .before .before .before .before .before .before .loop in
+    let table = c .before .before .before .round .result in
+    let next = exactly-next (edges-searchable (p .0)) _ _ (l .table) (l .inv .1) table (c .before .before .before .round .ensures) in
     let here = next start (omega (arith, p .1, p .0 .states-in)) in
-    let w = worth-origin _ (record { sfits = c .before .walk-weight .ok }) (getD table start 0) (c .before .walk-weight .ensures) (c .if1 .taken) in
-    closes-now _ _ _ (l .inv .2) _ (c .before .before .before .before .loop-test .taken) (omega (arith, here, w))
+    let w = worth-origin _ (record { sfits = c .before .before .walk-weight .ok }) (getD table start 0) (c .before .before .walk-weight .ensures) (sym (c .before .zero-or-more .ensures) ∙ c .if1 .taken) in
+    closes-now _ _ _ (l .inv .2) _ (c .before .before .before .before .before .loop-test .taken) (omega (arith, here, w))
 
 loop-less : tie.Need-loop-less Inv-loop μ-loop
 loop-less c = search needs
 
 loop-again : tie.Need-loop-again Inv-loop μ-loop
 loop-again c =
-    let p = c .before .before .before .before .before .before .before .pre in
-    let start = c .before .before .before .before .before .before .before .args .start in
-    let l = c .before .before .before .before .before .loop in
-    let table = c .before .before .round .result in
-    let next = exactly-next (edges-searchable (p .0)) _ _ (l .table) (l .inv .1) table (c .before .before .round .ensures) in
+    let p = c .before .before .before .before .before .before .before .before .pre in
+    let start = c .before .before .before .before .before .before .before .before .args .start in
+    let l = c .before .before .before .before .before .before .loop in
+    let table = c .before .before .before .round .result in
+    let next = exactly-next (edges-searchable (p .0)) _ _ (l .table) (l .inv .1) table (c .before .before .before .round .ensures) in
     let here = next start (omega (arith, p .1, p .0 .states-in)) in
-    let w = worth-less _ (record { sfits = c .before .walk-weight .ok }) (getD table start 0) (c .before .walk-weight .ensures) (c .if1 .left) in
-    (omega (arith, c .before .before .before .before .loop-test .taken), next, not-yet _ _ _ (l .inv .2) (omega (arith, here, w)))
+    let w = worth-less _ (record { sfits = c .before .before .walk-weight .ok }) (getD table start 0) (c .before .before .walk-weight .ensures) (sym (c .before .zero-or-more .ensures) ∙ c .if1 .left) in
+    (omega (arith, c .before .before .before .before .before .loop-test .taken), next, not-yet _ _ _ (l .inv .2) (omega (arith, here, w)))
 
 add-result : tie.Need-add-result Inv-loop μ-loop
 add-result c = search needs
@@ -104,6 +108,7 @@ least-from-spec =
     mul-walk-weight
     array-read-walk-weight
     walk-weight-requires
+    zero-or-more-requires
     returns
     loop-less
     loop-again

@@ -1,0 +1,40 @@
+-- `hemtaluq_confirm` meets its contract: each answer of `confirm` becomes its struct.
+use borrow.Author.Needs.{needs}
+use Rattle.cabinet.proofs.StructLaws.{confirm-told, negative-told}
+use Rattle.cabinet.proofs.hemtaluq_confirm.Statement.{statement}
+use Rattle.cabinet.proofs.hemtaluq_confirm.Tie as tie
+
+confirm-requires : tie.Need-confirm-requires
+confirm-requires c κs = search needs
+
+enum-told : tie.Need-enum-told
+enum-told c = search needs
+
+enum-known-answer : tie.Need-enum-known-answer
+enum-known-answer c = search needs
+
+enum-known-answer-2 : tie.Need-enum-known-answer-2
+enum-known-answer-2 c = search needs
+
+returns : tie.Need-returns
+returns c = confirm-told (c .before .before .confirm .ensures .0) (c .enum-told .given .1)
+
+returns-2 : tie.Need-returns-2
+returns-2 c =
+    let a = c .before .before .before .before .before .before .args in
+    negative-told (a .file .now) (a .set .now) _ _ (c .before .before .before .confirm .ensures .0) (c .before .answer .given .1)
+
+returns-3 : tie.Need-returns-3
+returns-3 c = confirm-told (c .before .before .before .confirm .ensures .0) (c .before .answer2 .given .1)
+
+pub hemtaluq-confirm-spec : {M : Type 1} → statement M
+hemtaluq-confirm-spec =
+    tie.close
+    (tie.spec
+    confirm-requires
+    enum-told
+    enum-known-answer
+    enum-known-answer-2
+    returns
+    returns-2
+    returns-3)

@@ -1,0 +1,24 @@
+-- `hemtaluq_read` meets its contract: each answer of `read` becomes its struct.
+use borrow.Author.Needs.{needs}
+use Rattle.cabinet.proofs.StructLaws.{read-told}
+use Rattle.cabinet.proofs.hemtaluq_read.Statement.{statement}
+use Rattle.cabinet.proofs.hemtaluq_read.Tie as tie
+
+read-requires : tie.Need-read-requires
+read-requires c κs = search needs
+
+enum-known-answer : tie.Need-enum-known-answer
+enum-known-answer c = search needs
+
+enum-known-answer-2 : tie.Need-enum-known-answer-2
+enum-known-answer-2 c = search needs
+
+returns : tie.Need-returns
+returns c = read-told (c .before .before .before .read .ensures) (c .before .answer .given .1)
+
+returns-2 : tie.Need-returns-2
+returns-2 c = read-told (c .before .before .before .read .ensures) (c .before .answer2 .given .1)
+
+pub hemtaluq-read-spec : {M : Type 1} → statement M
+hemtaluq-read-spec =
+    tie.close (tie.spec read-requires enum-known-answer enum-known-answer-2 returns returns-2)

@@ -1,0 +1,60 @@
+-- The answers of the C interface: each answer of a call as a struct. Fields that an answer does not use are 0.
+use mathlib.Core.Path.{_≡_}
+use mathlib.Core.List.{List}
+use Prim.Native.Nat.{ℕ}
+use lib.IntN.{pos}
+use Rattle.livelock.specs.Plants.{Plant}
+use Rattle.plant.specs.Found.{Found}
+use Rattle.plant.specs.Answers as Reading
+use Rattle.weighing.specs.Answers as WeighingAnswers
+use Rattle.weighing.specs.Weighing as Weighing
+use Rattle.quoting.specs.Answers as QuotingAnswers
+use Rattle.quoting.specs.Quoting as Quoting
+use Rattle.listing.specs.Answers as ListingAnswers
+use Rattle.cycle_sets.specs.Answers as ConfirmingAnswers
+use Rattle.cabinet.specs.declared.ReadAnswer.{ReadAnswer}
+use Rattle.cabinet.specs.declared.WeighAnswer.{WeighAnswer}
+use Rattle.cabinet.specs.declared.QuoteAnswer.{QuoteAnswer}
+use Rattle.cabinet.specs.declared.ListAnswer.{ListAnswer}
+use Rattle.cabinet.specs.declared.ConfirmAnswer.{ConfirmAnswer}
+
+-- "the counts of machines, types and rows": kind 1; a refusal is kind 0.
+abbrev pub readStruct : Reading.Answer → ReadAnswer
+readStruct (Reading.counts machines types rows) = record { kind = 1; number = 0; place = 0; machines = machines; types = types; rows = rows }
+readStruct (Reading.refused number place) = record { kind = 0; number = number; place = place; machines = 0; types = 0; rows = 0 }
+
+-- "Passing hands back F, n and G": kind 2; a cycle shown, with the count of its rows: kind 3.
+abbrev pub weighStruct : WeighingAnswers.Answer → WeighAnswer
+weighStruct (WeighingAnswers.passed base states progress) =
+    record { kind = 2; number = 0; place = 0; base = base; states = states; «per_progress» = progress; rows = 0 }
+weighStruct (WeighingAnswers.cycle rows) = record { kind = 3; number = 0; place = 0; base = 0; states = 0; «per_progress» = 0; rows = rows }
+weighStruct (WeighingAnswers.refused number place) =
+    record { kind = 0; number = number; place = place; base = 0; states = 0; «per_progress» = 0; rows = 0 }
+
+-- The ceiling and its price class: kind 4.
+abbrev pub quoteStruct : QuotingAnswers.Answer → QuoteAnswer
+quoteStruct (QuotingAnswers.quoted ceiling class) = record { kind = 4; number = 0; place = 0; ceiling = ceiling; «price_class» = class }
+quoteStruct (QuotingAnswers.refused number place) = record { kind = 0; number = number; place = place; ceiling = 0; «price_class» = 0 }
+
+-- "the entries used": kind 5.
+abbrev pub listStruct : ListingAnswers.Answer → ListAnswer
+listStruct (ListingAnswers.entries used) = record { kind = 5; number = 0; place = 0; entries = used }
+listStruct (ListingAnswers.refused number place) = record { kind = 0; number = number; place = place; entries = 0 }
+
+-- "confirmed": kind 6; "the lowest type with a negative sum, and that signed sum": kind 7.
+abbrev pub confirmStruct : ConfirmingAnswers.Answer → ConfirmAnswer
+confirmStruct ConfirmingAnswers.confirmed = record { kind = 6; number = 0; place = 0; «message_type» = 0; sum = pos 0 }
+confirmStruct (ConfirmingAnswers.negative message sum) = record { kind = 7; number = 0; place = 0; «message_type» = message; sum = sum }
+confirmStruct (ConfirmingAnswers.refused number place) = record { kind = 0; number = number; place = place; «message_type» = 0; sum = pos 0 }
+
+-- The struct is that of an answer that `weigh` owes.
+pub record WeighedAs (ws before after : List ℕ) (r : WeighAnswer) (x : Found Plant) : Type 0 where
+  pub answer : WeighingAnswers.Answer
+  pub struct : r ≡ weighStruct answer
+  pub owed : Weighing.Owed ws before after answer x
+
+-- The struct is that of an answer that `quote` owes.
+pub record QuotedAs (ws contents : List ℕ) (g : ℕ) (r : QuoteAnswer) (x : Found Plant) : Type 0 where
+  pub answer : QuotingAnswers.Answer
+  pub struct : r ≡ quoteStruct answer
+  pub owed : Quoting.Owed ws contents g answer x

@@ -1,0 +1,216 @@
+// The C interface: the five calls, with answers as structs. include/hemtaluq.h declares them for C and C++.
+ghost use mathlib.Core.Path.{_≡_};
+ghost use lib.ListN.{length};
+ghost use Rattle.plant.specs.Reading.{readPlant};
+ghost use Rattle.plant.specs.Answers.{countsOf};
+ghost use Rattle.weighing.specs.Weighing as Weighing;
+ghost use Rattle.quoting.specs.Quoting as Quoting;
+ghost use Rattle.listing.specs.Listing as Listing;
+ghost use Rattle.cycle_sets.specs.Confirming.{owed};
+ghost use Rattle.cabinet.specs.Structs.{readStruct, listStruct, confirmStruct, WeighedAs, QuotedAs};
+use cycle_sets::Confirmation;
+use listing::Listed;
+use plant::Reading;
+use quoting::Quoted;
+use weighing::Weighed;
+
+// kind 1: the counts; kind 0: a refusal with its number and place.
+#[repr(C)]
+pub struct ReadAnswer {
+    pub kind: u8,
+    pub number: u8,
+    pub types: u8,
+    pub place: usize,
+    pub machines: usize,
+    pub rows: usize,
+}
+
+// kind 2: F, n and G; kind 3: the count of the rows shown; kind 0: a refusal.
+#[repr(C)]
+pub struct WeighAnswer {
+    pub kind: u8,
+    pub number: u8,
+    pub place: usize,
+    pub base: u64,
+    pub states: u64,
+    pub per_progress: u64,
+    pub rows: usize,
+}
+
+// kind 4: the ceiling and its price class; kind 0: a refusal.
+#[repr(C)]
+pub struct QuoteAnswer {
+    pub kind: u8,
+    pub number: u8,
+    pub price_class: u32,
+    pub place: usize,
+    pub ceiling: u64,
+}
+
+// kind 5: the entries used; kind 0: a refusal.
+#[repr(C)]
+pub struct ListAnswer {
+    pub kind: u8,
+    pub number: u8,
+    pub place: usize,
+    pub entries: usize,
+}
+
+// kind 6: confirmed; kind 7: the lowest type with a negative sum, and that sum; kind 0: a refusal.
+#[repr(C)]
+pub struct ConfirmAnswer {
+    pub kind: u8,
+    pub number: u8,
+    pub place: usize,
+    pub message_type: usize,
+    pub sum: i64,
+}
+
+#[no_mangle]
+pub extern "C" fn hemtaluq_read(file: &[u8]) -> ReadAnswer
+    ensures { λ r. ⌜ r ≡ readStruct (countsOf (readPlant (now (file .entry)))) ⌝ }
+{
+    let answer = plant::read(file);
+    match answer {
+        Reading::Counts {
+            machines,
+            types,
+            rows,
+        } => ReadAnswer {
+            kind: 1,
+            number: 0,
+            types,
+            place: 0,
+            machines,
+            rows,
+        },
+        Reading::Refused(fault) => ReadAnswer {
+            kind: 0,
+            number: fault.number,
+            types: 0,
+            place: fault.place,
+            machines: 0,
+            rows: 0,
+        },
+    }
+}
+
+#[no_mangle]
+pub extern "C" fn hemtaluq_weigh(file: &[u8], weights: &[u16], cycle: &mut [u16]) -> WeighAnswer
+    ensures { λ r. ⌜ WeighedAs (now (weights .entry)) (now (cycle .entry)) (now (cycle .exit)) r (Weighing.judged (now (file .entry)) (now (weights .entry)) (length (now (cycle .entry)))) ⌝ }
+{
+    let answer = weighing::weigh(file, weights, cycle);
+    match answer {
+        Weighed::Passed {
+            base,
+            states,
+            progress,
+        } => WeighAnswer {
+            kind: 2,
+            number: 0,
+            place: 0,
+            base,
+            states,
+            per_progress: progress,
+            rows: 0,
+        },
+        Weighed::Cycle { rows } => WeighAnswer {
+            kind: 3,
+            number: 0,
+            place: 0,
+            base: 0,
+            states: 0,
+            per_progress: 0,
+            rows,
+        },
+        Weighed::Refused(fault) => WeighAnswer {
+            kind: 0,
+            number: fault.number,
+            place: fault.place,
+            base: 0,
+            states: 0,
+            per_progress: 0,
+            rows: 0,
+        },
+    }
+}
+
+#[no_mangle]
+pub extern "C" fn hemtaluq_quote(
+    file: &[u8],
+    weights: &[u16],
+    contents: &[u32],
+    g: u32,
+) -> QuoteAnswer
+    ensures { λ r. ⌜ QuotedAs (now (weights .entry)) (now (contents .entry)) g r (Quoting.judged (now (file .entry)) (now (weights .entry)) (now (contents .entry)) g) ⌝ }
+{
+    let answer = quoting::quote(file, weights, contents, g);
+    match answer {
+        Quoted::Ceiling { ceiling, class } => QuoteAnswer {
+            kind: 4,
+            number: 0,
+            price_class: class,
+            place: 0,
+            ceiling,
+        },
+        Quoted::Refused(fault) => QuoteAnswer {
+            kind: 0,
+            number: fault.number,
+            price_class: 0,
+            place: fault.place,
+            ceiling: 0,
+        },
+    }
+}
+
+#[no_mangle]
+pub extern "C" fn hemtaluq_list(file: &[u8], machine: u32, out: &mut [u16]) -> ListAnswer
+    ensures { λ r. ⌜ r ≡ listStruct (Listing.answered (Listing.judged (now (file .entry)) machine (length (now (out .entry))))) ⌝ }
+    ensures { λ r. ⌜ now (out .exit) ≡ Listing.filled (Listing.judged (now (file .entry)) machine (length (now (out .entry)))) (now (out .entry)) ⌝ }
+{
+    let answer = listing::list(file, machine, out);
+    match answer {
+        Listed::Entries(used) => ListAnswer {
+            kind: 5,
+            number: 0,
+            place: 0,
+            entries: used,
+        },
+        Listed::Refused(fault) => ListAnswer {
+            kind: 0,
+            number: fault.number,
+            place: fault.place,
+            entries: 0,
+        },
+    }
+}
+
+#[no_mangle]
+pub extern "C" fn hemtaluq_confirm(file: &[u8], set: &[u32]) -> ConfirmAnswer
+    ensures { λ r. ⌜ r ≡ confirmStruct (owed (readPlant (now (file .entry))) (now (set .entry))) ⌝ }
+{
+    let answer = cycle_sets::confirm(file, set);
+    match answer {
+        Confirmation::Confirmed => ConfirmAnswer {
+            kind: 6,
+            number: 0,
+            place: 0,
+            message_type: 0,
+            sum: 0,
+        },
+        Confirmation::Negative { message, sum } => ConfirmAnswer {
+            kind: 7,
+            number: 0,
+            place: 0,
+            message_type: message,
+            sum,
+        },
+        Confirmation::Refused(fault) => ConfirmAnswer {
+            kind: 0,
+            number: fault.number,
+            place: fault.place,
+            message_type: 0,
+            sum: 0,
+        },
+    }
+}

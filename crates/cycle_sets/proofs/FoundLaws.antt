@@ -1,0 +1,50 @@
+-- What follows from what was found: where two parts are read one after the other and a value is found, both were found.
+use mathlib.Core.Path.{_≡_, refl}
+use mathlib.Core.Bool.{Bool, true, false, cond, false≢true}
+use Prim.Native.Nat.{ℕ}
+use Rattle.plant.specs.Found.{Found, found, fault, andThen}
+
+-- What was found first, and that what follows it was found.
+pub record Chained {A B : Type 0} (x : Found A) (k : A → ℕ → Found B) (b : B) (end : ℕ) : Type 0 where
+  pub value : A
+  pub next : ℕ
+  pub first : x ≡ found value next
+  pub second : k value next ≡ found b end
+
+pub chained : {A B : Type 0} (x : Found A) (k : A → ℕ → Found B) (b : B) (end : ℕ) → andThen x k ≡ found b end → Chained x k b end
+chained (found a next) k b end e = record { value = a; next = next; first = refl; second = e }
+chained (fault number place) k b end e = absurd (false≢true cc)
+
+-- A fault met first is the whole's, whatever follows it: of one part,
+one-stops : {A B : Type 0} (x : Found A) (k : A → ℕ → Found B) (number place : ℕ) → x ≡ fault number place → fault number place ≡ andThen x k
+one-stops (found a next) k number place e = absurd (false≢true cc)
+one-stops (fault n p) k number place e = cc
+
+-- of two,
+two-stop : {A B C : Type 0} (x : Found A) (f : ℕ → Found B) (k : A → B → ℕ → Found C) (number place : ℕ)
+    → andThen x (λ a i. f i) ≡ fault number place → fault number place ≡ andThen x (λ a i. andThen (f i) (k a))
+two-stop (found a i) f k number place e = one-stops (f i) (k a) number place e
+two-stop (fault n p) f k number place e = cc
+
+-- and of three.
+pub three-stop : {A B C D : Type 0} (x : Found A) (f : ℕ → Found B) (g : ℕ → Found C) (k : A → B → C → ℕ → Found D) (number place : ℕ)
+    → andThen x (λ a i. andThen (f i) (λ b j. g j)) ≡ fault number place → fault number place ≡ andThen x (λ a i. andThen (f i) (λ b j. andThen (g j) (k a b)))
+three-stop (found a i) f g k number place e = two-stop (f i) g (k a) number place e
+three-stop (fault n p) f g k number place e = cc
+
+-- Where a test decides between a value and a fault and the value was found, the test is true, and it is that value up to that place.
+pub tested : {A : Type 0} (t : Bool) (x : Found A) (number place : ℕ) (b : A) (end : ℕ) → cond t x (fault number place) ≡ found b end → (t ≡ true) × (x ≡ found b end)
+tested true x number place b end e = (refl, e)
+tested false x number place b end e = absurd (false≢true cc)
+
+-- Equal finds have equal values and places.
+pub value-same : {A : Type 0} {a b : A} {m n : ℕ} → found a m ≡ found b n → a ≡ b
+value-same e = cc
+
+pub place-same : {A : Type 0} {a b : A} {m n : ℕ} → found a m ≡ found b n → m ≡ n
+place-same e = cc
+
+-- Reading on and keeping what was read changes nothing.
+pub read-on : {A : Type 0} (x : Found A) → andThen x found ≡ x
+read-on (found a next) = refl
+read-on (fault number place) = refl

@@ -1,0 +1,130 @@
+-- `judge_set` meets its contract: what is left of the entries gives what the whole gives, and the sums are those of the entries so far.
+use mathlib.Core.Path.{_≡_, sym}
+use Prim.Native.Nat.{_-_}
+use native.Mathlib.Omega.{arith}
+use Rattle.plant.specs.Found.{found}
+use Rattle.plant.specs.Tables.{plantOf}
+use Rattle.plant.proofs.Told.{told}
+use Rattle.cycle_sets.specs.Sets.{entryBegins, entryAt}
+use Rattle.cycle_sets.specs.Inner.Steps.{valueFound, entryIn}
+use Rattle.cycle_sets.proofs.TableLaws.{columns-of, machines-are}
+use Rattle.cycle_sets.proofs.SetLaws.{Going, begun, no-entry, more, entry-stops, read, rows-small, turn, finished}
+use borrow.Author.Needs.{needs}
+use Rattle.cycle_sets.proofs.judge_set.Statement.{statement}
+use Rattle.cycle_sets.proofs.judge_set.Tie as tie
+
+abbrev Inv-entries : tie.InvT-entries
+Inv-entries set table machines rows sums₀ at₀ before₀ sums at before = Going table set before at sums
+
+abbrev μ-entries : tie.MeasureT-entries
+μ-entries set table machines rows sums₀ at₀ before₀ sums at before = 256 - before
+
+-- An entry begins,
+begins : (c : tie.After-enum-told Inv-entries μ-entries) → entryBegins (256 - c .before .before .before .entries .before) (c .before .before .before .before .before .args .set .now) (c .before .before .before .entries .at) ≡ found tt (c .enum-told .given .0 .0)
+begins c = told (valueFound tt) (c .before .before .entry-begins .ensures) (c .enum-told .given .1)
+
+-- and is read.
+entry-found : (c : tie.After-known-told3 Inv-entries μ-entries) → found (entryIn (c .before .before .before .before .before .before .before .before .before .before .before .before .before .before .args .set .now) (c .before .before .before .before .before .before .before .before .before .before .before .before .entries .at)) (c .before .entry2 .given .0 .0) ≡ entryAt (plantOf (c .before .before .before .before .before .before .before .before .before .before .before .before .before .before .args .t1)) (c .before .before .before .before .before .before .before .before .before .before .before .before .before .before .args .set .now) (c .before .before .before .before .before .before .before .before .before .before .before .before .entries .at)
+entry-found c =
+    let t = c .before .before .before .before .before .before .before .before .before .before .before .before .before .before .args .t1 in
+    sym (told (valueFound (entryIn (c .before .before .before .before .before .before .before .before .before .before .before .before .before .before .args .set .now) (c .before .before .before .before .before .before .before .before .before .before .before .before .entries .at))) (c .before .before .before .judge-entry .ensures (plantOf t) (columns-of t (c .before .before .before .before .before .before .before .before .before .before .before .before .before .before .pre .0) (c .before .before .before .before .before .before .before .before .before .before .before .before .before .before .pre .1)) (machines-are t (c .before .before .before .before .before .before .before .before .before .before .before .before .before .before .pre .0) (c .before .before .before .before .before .before .before .before .before .before .before .before .before .before .pre .1))) (c .before .entry2 .given .1))
+
+cast-machines : tie.Need-cast-machines Inv-entries μ-entries
+cast-machines c = record { fits = omega (arith, c .before .pre .0 .sound .few-machines) }
+
+cast-rows : tie.Need-cast-rows Inv-entries μ-entries
+cast-rows c = record { fits = omega (arith, c .before .pre .0 .sound .few-rows) }
+
+entries-holds : tie.Need-entries-holds Inv-entries μ-entries
+entries-holds c = begun (c .before .args .t1) (c .before .args .set .now)
+
+entry-begins-requires : tie.Need-entry-begins-requires Inv-entries μ-entries
+entry-begins-requires c κs = c .entries .inv .few
+
+enum-known-begin : tie.Need-enum-known-begin Inv-entries μ-entries
+enum-known-begin c = search needs
+
+enum-told : tie.Need-enum-told Inv-entries μ-entries
+enum-told c = search needs
+
+judge-entry-requires : tie.Need-judge-entry-requires Inv-entries μ-entries
+judge-entry-requires c κs = let s = c .before .before .before .before .before .before .before .before .before .before .pre .0 .sound in (omega (arith, c .before .before .before .before .before .before .before .before .entries .inv .near, c .before .before .before .before .before .before .before .before .entries .inv .few), s .few-machines, s .few-rows)
+
+enum-known-entry : tie.Need-enum-known-entry Inv-entries μ-entries
+enum-known-entry c = search needs
+
+enum-known-entry-2 : tie.Need-enum-known-entry-2 Inv-entries μ-entries
+enum-known-entry-2 c = search needs
+
+add-add-rows : tie.Need-add-add-rows Inv-entries μ-entries
+add-add-rows c = let g = c .before .before .before .before .before .before .before .before .before .before .before .before .before .before .before .entries .inv in record { fits = omega (arith, g .near, g .few) }
+
+add-add-rows-2 : tie.Need-add-add-rows-2 Inv-entries μ-entries
+add-add-rows-2 c = let g = c .before .before .before .before .before .before .before .before .before .before .before .before .before .before .before .entries .inv in record { fits = omega (arith, g .near, g .few) }
+
+mul-add-rows : tie.Need-mul-add-rows Inv-entries μ-entries
+mul-add-rows c = let g = c .before .before .before .before .before .before .before .before .before .before .before .before .before .before .before .entries .inv in record { fits = omega (arith, g .near, g .few) }
+
+shared-slice-read-add-rows : tie.Need-shared-slice-read-add-rows Inv-entries μ-entries
+shared-slice-read-add-rows c =
+    let r = read (c .before .before .before .before .before .before .before .before .before .before .before .before .before .before .before .before .before .before .args .t1) (c .before .before .before .before .before .before .before .before .before .before .before .before .before .before .before .before .before .before .args .set .now) (c .before .before .before .before .before .before .before .before .before .before .before .before .before .before .before .before .entries .before) (c .before .before .before .before .before .before .before .before .before .before .before .before .before .before .before .before .entries .at) (c .before .before .before .before .before .before .before .before .before .before .before .before .before .before .before .before .entries .sums) (c .before .before .before .before .before .before .before .before .before .before .before .before .before .before .before .before .entries .inv) _ (begins (c .before .before .before .before .before .before .before .before .before .before .before .before .before)) (c .before .before .before .before .before .before .before .before .before .before .before .before .before .before .before .before .before .before .pre .0) _ (entry-found (c .before .before .before .before)) in
+    omega (arith, r .rows-below .there, r .next-is)
+
+add-rows-requires : tie.Need-add-rows-requires Inv-entries μ-entries
+add-rows-requires c κs =
+    let g = c .before .before .before .before .before .before .before .before .before .before .before .before .before .before .before .before .before .entries .inv in
+    let r = read (c .before .before .before .before .before .before .before .before .before .before .before .before .before .before .before .before .before .before .before .args .t1) (c .before .before .before .before .before .before .before .before .before .before .before .before .before .before .before .before .before .before .before .args .set .now) (c .before .before .before .before .before .before .before .before .before .before .before .before .before .before .before .before .before .entries .before) (c .before .before .before .before .before .before .before .before .before .before .before .before .before .before .before .before .before .entries .at) (c .before .before .before .before .before .before .before .before .before .before .before .before .before .before .before .before .before .entries .sums) (c .before .before .before .before .before .before .before .before .before .before .before .before .before .before .before .before .before .entries .inv) _ (begins (c .before .before .before .before .before .before .before .before .before .before .before .before .before .before)) (c .before .before .before .before .before .before .before .before .before .before .before .before .before .before .before .before .before .before .before .pre .0) _ (entry-found (c .before .before .before .before .before)) in (
+      omega (arith, r .next-is),
+      rows-small (c .before .before .before .before .before .before .before .before .before .before .before .before .before .before .before .before .before .before .before .args .t1) (c .before .before .before .before .before .before .before .before .before .before .before .before .before .before .before .before .before .before .before .args .set .now) (c .before .before .before .before .before .before .before .before .before .before .before .before .before .before .before .before .before .entries .before) (c .before .before .before .before .before .before .before .before .before .before .before .before .before .before .before .before .before .entries .at) (c .before .before .before .before .before .before .before .before .before .before .before .before .before .before .before .before .before .entries .sums) (c .before .before .before .before .before .before .before .before .before .before .before .before .before .before .before .before .before .entries .inv) _ (begins (c .before .before .before .before .before .before .before .before .before .before .before .before .before .before)) (c .before .before .before .before .before .before .before .before .before .before .before .before .before .before .before .before .before .before .before .pre .0) _ (entry-found (c .before .before .before .before .before)),
+      omega (arith, r .next-is, r .few-rows),
+      r .few-repeats,
+      λ i. omega (arith, g .within i, g .few),
+      g .room,
+    )
+
+add-before : tie.Need-add-before Inv-entries μ-entries
+add-before c = let g = c .before .before .before .before .before .before .before .before .before .before .before .before .before .before .before .before .before .before .before .entries .inv in record { fits = omega (arith, g .few) }
+
+entries-less : tie.Need-entries-less Inv-entries μ-entries
+entries-less c = omega (arith, more (c .before .before .before .before .before .before .before .before .before .before .before .before .before .before .before .before .before .before .before .before .before .args .t1) (c .before .before .before .before .before .before .before .before .before .before .before .before .before .before .before .before .before .before .before .before .before .args .set .now) (c .before .before .before .before .before .before .before .before .before .before .before .before .before .before .before .before .before .before .before .entries .before) (c .before .before .before .before .before .before .before .before .before .before .before .before .before .before .before .before .before .before .before .entries .at) (c .before .before .before .before .before .before .before .before .before .before .before .before .before .before .before .before .before .before .before .entries .sums) (c .before .before .before .before .before .before .before .before .before .before .before .before .before .before .before .before .before .before .before .entries .inv) _ (begins (c .before .before .before .before .before .before .before .before .before .before .before .before .before .before .before .before)))
+
+entries-again : tie.Need-entries-again Inv-entries μ-entries
+entries-again c = turn (c .before .before .before .before .before .before .before .before .before .before .before .before .before .before .before .before .before .before .before .before .before .args .t1) (c .before .before .before .before .before .before .before .before .before .before .before .before .before .before .before .before .before .before .before .before .before .args .set .now) (c .before .before .before .before .before .before .before .before .before .before .before .before .before .before .before .before .before .before .before .entries .before) (c .before .before .before .before .before .before .before .before .before .before .before .before .before .before .before .before .before .before .before .entries .at) (c .before .before .before .before .before .before .before .before .before .before .before .before .before .before .before .before .before .before .before .entries .sums) (c .before .before .before .before .before .before .before .before .before .before .before .before .before .before .before .before .before .before .before .entries .inv) _ (begins (c .before .before .before .before .before .before .before .before .before .before .before .before .before .before .before .before)) (c .before .before .before .before .before .before .before .before .before .before .before .before .before .before .before .before .before .before .before .before .before .pre .0) _ (entry-found (c .before .before .before .before .before .before .before)) _ (c .before .add-rows .ensures) (c .if1 .left)
+
+returns : tie.Need-returns Inv-entries μ-entries
+returns c = no-entry (c .before .before .before .before .before .before .args .t1) (c .before .before .before .before .before .before .args .set .now) (c .before .before .before .before .entries .before) (c .before .before .before .before .entries .at) (c .before .before .before .before .entries .sums) (c .before .before .before .before .entries .inv) _ (told (valueFound tt) (c .before .before .before .entry-begins .ensures) (c .before .begin .given .1))
+
+returns-2 : tie.Need-returns-2 Inv-entries μ-entries
+returns-2 c =
+    let t = c .before .before .before .before .before .before .before .before .before .before .before .before .before .before .args .t1 in
+    entry-stops (c .before .before .before .before .before .before .before .before .before .before .before .before .before .before .args .t1) (c .before .before .before .before .before .before .before .before .before .before .before .before .before .before .args .set .now) (c .before .before .before .before .before .before .before .before .before .before .before .before .entries .before) (c .before .before .before .before .before .before .before .before .before .before .before .before .entries .at) (c .before .before .before .before .before .before .before .before .before .before .before .before .entries .sums) (c .before .before .before .before .before .before .before .before .before .before .before .before .entries .inv) _ (begins (c .before .before .before .before .before .before .before .before .before)) _ (sym (told (valueFound (entryIn (c .before .before .before .before .before .before .before .before .before .before .before .before .before .before .args .set .now) (c .before .before .before .before .before .before .before .before .before .before .before .before .entries .at))) (c .before .before .before .judge-entry .ensures (plantOf t) (columns-of t (c .before .before .before .before .before .before .before .before .before .before .before .before .before .before .pre .0) (c .before .before .before .before .before .before .before .before .before .before .before .before .before .before .pre .1)) (machines-are t (c .before .before .before .before .before .before .before .before .before .before .before .before .before .before .pre .0) (c .before .before .before .before .before .before .before .before .before .before .before .before .before .before .pre .1))) (c .before .entry .given .1)))
+
+returns-3 : tie.Need-returns-3 Inv-entries μ-entries
+returns-3 c = finished (c .before .before .before .before .before .before .before .before .before .before .before .before .before .before .before .before .before .before .before .before .before .args .t1) (c .before .before .before .before .before .before .before .before .before .before .before .before .before .before .before .before .before .before .before .before .before .args .set .now) (c .before .before .before .before .before .before .before .before .before .before .before .before .before .before .before .before .before .before .before .entries .before) (c .before .before .before .before .before .before .before .before .before .before .before .before .before .before .before .before .before .before .before .entries .at) (c .before .before .before .before .before .before .before .before .before .before .before .before .before .before .before .before .before .before .before .entries .sums) (c .before .before .before .before .before .before .before .before .before .before .before .before .before .before .before .before .before .before .before .entries .inv) _ (begins (c .before .before .before .before .before .before .before .before .before .before .before .before .before .before .before .before)) (c .before .before .before .before .before .before .before .before .before .before .before .before .before .before .before .before .before .before .before .before .before .pre .0) _ (entry-found (c .before .before .before .before .before .before .before)) _ (c .before .add-rows .ensures) (c .if1 .taken)
+
+pub judge-set-spec : {M : Type 1} → statement M
+judge-set-spec =
+    tie.close
+    (tie.spec
+    Inv-entries
+    μ-entries
+    cast-machines
+    cast-rows
+    entries-holds
+    entry-begins-requires
+    enum-known-begin
+    enum-told
+    judge-entry-requires
+    enum-known-entry
+    enum-known-entry-2
+    add-add-rows
+    add-add-rows-2
+    mul-add-rows
+    shared-slice-read-add-rows
+    add-rows-requires
+    add-before
+    entries-less
+    entries-again
+    returns
+    returns-2
+    returns-3)

@@ -1,0 +1,109 @@
+-- What the private functions of confirming ask and give.
+use mathlib.Core.Path.{_≡_}
+use mathlib.Core.Bool.{Bool, true, false, _&&_, not, cond}
+use mathlib.Core.List.{List, [], _∷_}
+use Prim.Native.Nat.{ℕ, _+_, _-_, _*_, _≤_, _<_}
+use lib.Dec.{eqb, ltb}
+use lib.ListN as Cells
+use lib.ListN.{length, getD, take, drop}
+use lib.IntN.{ℤ, pos, natAbs}
+use Rattle.livelock.specs.Lists.{count}
+use Rattle.livelock.specs.Plants.{Plant, rowAt, rowCount, machineCount}
+use Rattle.livelock.specs.Cycles.{isOfType}
+use Rattle.livelock.specs.CycleSets.{Entry, setEffect}
+use Rattle.livelock.proofs.Differences.{Difference}
+use Rattle.plant.specs.Found.{Found, found, andThen}
+use Rattle.plant.specs.Answers.{faultFound}
+use Rattle.plant.specs.Tables.{typeOf}
+use Rattle.plant.specs.declared.End.{End}
+use Rattle.plant.specs.declared.End.the-variants as Ends
+use Rattle.cycle_sets.specs.Sets.{numberIn, entryAt}
+
+-- ---- numbers
+
+-- What an end says of a value: that it was read, up to an index, or the fault.
+abbrev pub valueFound : {A : Type 0} → A → End → Found A
+valueFound a (Ends.At next) = found a next
+valueFound a (Ends.Fault f) = faultFound f
+
+-- The numbers of a list from index a up to, and not including, b.
+abbrev pub part : List ℕ → ℕ → ℕ → List ℕ
+part set a b = take (b - a) (drop a set)
+
+-- The list has the numbers from index a up to, and not including, b, and each is below a limit.
+pub record NumbersBelow (limit : ℕ) (set : List ℕ) (a b : ℕ) : Type 0 where
+  pub there : b ≤ length set
+  pub small : (i : ℕ) → a ≤ i → i < b → getD set i 0 < limit
+
+-- ---- cycles
+
+-- The columns of a decoded table that tell whether rows are a quiet simple cycle.
+pub record Columns : Type 0 where
+  pub machine : List ℕ
+  pub left : List ℕ
+  pub entered : List ℕ
+  pub progress : List Bool
+
+-- The columns of the rows of a plant, whose states are bytes.
+pub record ColumnsOf (P : Plant) (rows : ℕ) (c : Columns) : Type 0 where
+  pub rows-are : rowCount P ≡ rows
+  pub machine-is : (k : ℕ) → k < rows → rowAt P k .machine ≡ getD (c .machine) k 0
+  pub left-is : (k : ℕ) → k < rows → rowAt P k .left ≡ getD (c .left) k 0
+  pub entered-is : (k : ℕ) → k < rows → rowAt P k .entered ≡ getD (c .entered) k 0
+  pub progress-is : (k : ℕ) → k < rows → rowAt P k .progress ≡ getD (c .progress) k false
+  pub byte : (k : ℕ) → k < rows → rowAt P k .left < 256
+
+-- Whether row k is a quiet row of machine m that leaves state s, which is not marked as left.
+abbrev pub goesOn : (machine left : List ℕ) (progress : List Bool) (k m s : ℕ) (seen : List Bool) → Bool
+goesOn machine left progress k m s seen =
+    eqb (getD machine k 0) m && (not (getD progress k false) && (eqb (getD left k 0) s && not (getD seen s false)))
+
+-- Whether quiet rows of machine m lead from state s to the state `end`, and leave no state that is marked, each marking the state it leaves.
+unfoldable pub leads : Columns → (m end s : ℕ) (seen : List Bool) (rows : List ℕ) → Bool
+leads c m end s seen [] = eqb s end
+leads c m end s seen (k ∷ ks) =
+    goesOn (c .machine) (c .left) (c .progress) k m s seen && leads c m end (getD (c .entered) k 0) (Cells.set seen s true) ks
+
+-- "machine, repeats (1 to 1,000,000), row count (1 to 64)": the first three numbers of the entry at an index, of which the row count is handed on.
+unfoldable pub firstNumbers : ℕ → List ℕ → ℕ → Found ℕ
+firstNumbers machines set at = andThen (numberIn 0 machines set at) (λ m a. andThen (numberIn 1 1000001 set a) (λ repeats b. numberIn 1 65 set b))
+
+-- The entry that the numbers from an index on make up.
+abbrev pub entryIn : List ℕ → ℕ → Entry
+entryIn set at =
+    record { machine = getD set at 0; repeats = getD set (at + 1) 0; cycle = part set (at + 3) (at + 3 + getD set (at + 2) 0) }
+
+-- The end r is what the entry at an index reads as, in every plant with these columns and so many machines.
+abbrev pub JudgedEntry : Columns → (rows machines : ℕ) → List ℕ → ℕ → End → Type 0
+JudgedEntry c rows machines set at r =
+    (P : Plant) → ColumnsOf P rows c → machineCount P ≡ machines → valueFound (entryIn set at) r ≡ entryAt P set at
+
+-- ---- sums
+
+-- The place of a type in the sums; 64 stands for no type.
+unfoldable pub placeOf : ℕ → ℕ
+placeOf x = cond (ltb x 64) x 64
+
+-- Each sum is at most x either way.
+abbrev pub Within : ℕ → List ℤ → Type 0
+Within x sums = (i : ℕ) → natAbs (getD sums i (pos 0)) ≤ x
+
+-- How many of the rows have type t in a column.
+abbrev pub having : List ℕ → ℕ → List ℕ → ℕ
+having column t rows = count (λ k. isOfType (typeOf (getD column k 0)) t) rows
+
+-- To the sum of each type the rows add what they send and take from it what they take, so many times; a row changes no sum by more than 2,000,000.
+pub record Added (sent taken : List ℕ) (repeats : ℕ) (rows : List ℕ) (before after : List ℤ) : Type 0 where
+  pub room : length after ≡ 65
+  pub sums : (t a b : ℕ) → t < 64 → Difference (getD before t (pos 0)) a b
+      → Difference (getD after t (pos 0)) (a + repeats * having sent t rows) (b + repeats * having taken t rows)
+  pub within : (x : ℕ) → Within x before → Within (x + length rows * 2000000) after
+
+-- The sums are those of the entries.
+abbrev pub SumsOf : Plant → List Entry → List ℤ → Type 0
+SumsOf P es sums = (t : ℕ) → t < 64 → getD sums t (pos 0) ≡ setEffect P es t
+
+-- Where a list reads as entries, the sums are those of the entries; else the end is the fault.
+pub data JudgedAs (P : Plant) (sums : List ℤ) : End → Found (List Entry) → Type 0 where
+  entries-read : {es : List Entry} {next : ℕ} → SumsOf P es sums → JudgedAs P sums (Ends.At next) (found es next)
+  fault-met : {number place : ℕ} → JudgedAs P sums (Ends.Fault (record { number = number; place = place })) (faultFound (record { number = number; place = place }))

@@ -1,0 +1,344 @@
+// Confirming cycle sets: every number is judged as it is read, and the first fault met decides.
+ghost use mathlib.Core.Path.{_≡_};
+ghost use mathlib.Core.Logic.{_↔_};
+ghost use mathlib.Core.Bool.{false};
+ghost use Prim.Native.Nat.{_+_, _-_, _^_, _≤_, _<_};
+ghost use lib.ListN.{length, getD, replicate};
+ghost use lib.IntN.{pos};
+ghost use Rattle.plant.specs.Reading.{readPlant};
+ghost use Rattle.plant.specs.Limits.{WithinLimits};
+ghost use Rattle.plant.specs.Tables.{plantOf, Ready};
+ghost use Rattle.cycle_sets.specs.Sets.{numberIn, rowsAt, entryBegins, readSet};
+ghost use Rattle.cycle_sets.specs.Answers.{answerOf, confirmed};
+ghost use Rattle.cycle_sets.specs.Confirming.{lowestNegative, owed, ReadsBalanced};
+ghost use Rattle.cycle_sets.specs.Inner.Steps.{valueFound, part, NumbersBelow, goesOn, leads, firstNumbers, JudgedEntry};
+ghost use Rattle.cycle_sets.specs.Inner.Steps.{placeOf, Within, Added, JudgedAs};
+use plant::End;
+use plant::Fault;
+use plant::PlantTable;
+
+// The answer of confirming: confirmed, or the lowest type with a negative sum and that sum, or a fault.
+pub enum Confirmation {
+    Confirmed,
+    Negative { message: usize, sum: i64 },
+    Refused(Fault),
+}
+
+// The sums for each type, or the fault. Entry 64 of the sums belongs to no type.
+struct JudgedSet {
+    end: End,
+    sums: [i64; 65],
+}
+
+// What is judged where an entry begins: whether the list has it, and whether fewer than 256 came before.
+fn entry_begins(set: &[u32], at: usize, before: usize) -> End
+    requires { ⌜ before ≤ 256 ⌝ }
+    ensures { λ r. ⌜ valueFound tt r ≡ entryBegins (256 - before) (now (set .entry)) at ⌝ }
+{
+    if at >= set.len() {
+        return End::Fault(Fault {
+            number: 18,
+            place: at,
+        });
+    }
+    if before >= 256 {
+        return End::Fault(Fault {
+            number: 18,
+            place: at,
+        });
+    }
+    End::At(at)
+}
+
+// The number at `at`, at least `low` and below `end`.
+fn number_in(set: &[u32], at: usize, low: u32, end: u32) -> End
+    ensures { λ r. ⌜ valueFound (getD (now (set .entry)) at 0) r ≡ numberIn low end (now (set .entry)) at ⌝ }
+{
+    if at >= set.len() {
+        return End::Fault(Fault {
+            number: 15,
+            place: set.len(),
+        });
+    }
+    let number = set[at];
+    if number < low {
+        return End::Fault(Fault {
+            number: 16,
+            place: at,
+        });
+    }
+    if number >= end {
+        return End::Fault(Fault {
+            number: 16,
+            place: at,
+        });
+    }
+    End::At(at + 1)
+}
+
+// The row numbers from `at` up to `end`, each below `rows`.
+fn rows_in(set: &[u32], at: usize, end: usize, rows: u32) -> End
+    requires { ⌜ at ≤ end ⌝ }
+    ensures { λ r. ⌜ valueFound (part (now (set .entry)) at end) r ≡ rowsAt (end - at) rows (now (set .entry)) at ⌝ }
+{
+    let mut i = at;
+    let judged = 'rows: loop {
+        if i >= end {
+            break 'rows End::At(i);
+        }
+        let step = number_in(set, i, 0, rows);
+        match step {
+            End::Fault(fault) => break 'rows End::Fault(fault),
+            End::At(next) => i = next,
+        }
+    };
+    judged
+}
+
+// Whether row k is a quiet row of machine m that leaves state `at`, which no row before it has left.
+fn goes_on<'a>(
+    machine: &'a [u8; 1024],
+    left: &'a [u8; 1024],
+    progress: &'a [bool; 1024],
+    k: usize,
+    m: u8,
+    at: u8,
+    seen: &[bool; 256],
+) -> bool
+    requires { ⌜ k < 1024 ⌝ }
+    ensures { λ r. ⌜ r ≡ goesOn (now (machine .entry)) (now (left .entry)) (now (progress .entry)) k m at (now (seen .entry)) ⌝ }
+{
+    if machine[k] != m {
+        return false;
+    }
+    if progress[k] {
+        return false;
+    }
+    if left[k] != at {
+        return false;
+    }
+    !seen[at as usize]
+}
+
+// The state of row k in a column of states.
+fn state_of(column: &[u8; 1024], k: usize) -> u8
+    requires { ⌜ k < 1024 ⌝ }
+    ensures { λ r. ⌜ r ≡ getD (now (column .entry)) k 0 ⌝ }
+{
+    column[k]
+}
+
+// Whether the rows at `at` up to `end` are a quiet simple cycle of machine m.
+fn is_quiet_cycle<'a>(
+    machine: &'a [u8; 1024],
+    left: &'a [u8; 1024],
+    entered: &'a [u8; 1024],
+    progress: &'a [bool; 1024],
+    set: &[u32],
+    at: usize,
+    end: usize,
+    m: u8,
+) -> bool
+    requires { ⌜ (at < end) × NumbersBelow 1024 (now set) at end ⌝ }
+    ensures { λ r. ⌜ r ≡ leads (record { machine = now (machine .entry); left = now (left .entry); entered = now (entered .entry); progress = now (progress .entry) }) m (getD (now (left .entry)) (getD (now (set .entry)) at 0) 0) (getD (now (left .entry)) (getD (now (set .entry)) at 0) 0) (replicate 256 false) (part (now (set .entry)) at end) ⌝ }
+{
+    let start = state_of(left, set[at] as usize);
+    let mut state = start;
+    let mut seen = [false; 256];
+    let mut i = at;
+    while i < end {
+        let k = set[i] as usize;
+        if !goes_on(machine, left, progress, k, m, state, &seen) {
+            return false;
+        }
+        seen[state as usize] = true;
+        state = state_of(entered, k);
+        i += 1;
+    }
+    state == start
+}
+
+// The first three numbers of the entry that begins at `first`: machine, repeats and row count.
+fn first_numbers(set: &[u32], first: usize, machines: u32) -> End
+    requires { ⌜ first ≤ 2 ^ 32 ⌝ }
+    ensures { λ r. ⌜ valueFound (getD (now (set .entry)) (first + 2) 0) r ≡ firstNumbers machines (now (set .entry)) first ⌝ }
+{
+    let machine_read = number_in(set, first, 0, machines);
+    match machine_read {
+        End::Fault(fault) => return End::Fault(fault),
+        End::At(_) => {}
+    }
+    let repeats_read = number_in(set, first + 1, 1, 1_000_001);
+    match repeats_read {
+        End::Fault(fault) => return End::Fault(fault),
+        End::At(_) => {}
+    }
+    number_in(set, first + 2, 1, 65)
+}
+
+// The entry that begins at `first`: its numbers, one by one, and at its end whether it is a quiet simple cycle of its machine.
+fn judge_entry<'a>(
+    machine: &'a [u8; 1024],
+    left: &'a [u8; 1024],
+    entered: &'a [u8; 1024],
+    progress: &'a [bool; 1024],
+    set: &[u32],
+    first: usize,
+    machines: u32,
+    rows: u32,
+) -> End
+    requires { ⌜ (first ≤ 2 ^ 32) × (machines ≤ 16) × (rows ≤ 1024) ⌝ }
+    ensures { λ r. ⌜ JudgedEntry (record { machine = now (machine .entry); left = now (left .entry); entered = now (entered .entry); progress = now (progress .entry) }) rows machines (now (set .entry)) first r ⌝ }
+{
+    let numbers_read = first_numbers(set, first, machines);
+    match numbers_read {
+        End::Fault(fault) => return End::Fault(fault),
+        End::At(_) => {}
+    }
+    let end = first + 3 + set[first + 2] as usize;
+    let rows_read = rows_in(set, first + 3, end, rows);
+    match rows_read {
+        End::Fault(fault) => return End::Fault(fault),
+        End::At(_) => {}
+    }
+    if is_quiet_cycle(
+        machine,
+        left,
+        entered,
+        progress,
+        set,
+        first + 3,
+        end,
+        set[first] as u8,
+    ) {
+        End::At(end)
+    } else {
+        End::Fault(Fault {
+            number: 17,
+            place: first,
+        })
+    }
+}
+
+// The place of a type in the sums; 64 stands for no type.
+fn place_of(message: u8) -> usize
+    ensures { λ r. ⌜ r ≡ placeOf message ⌝ }
+{
+    if message < 64 {
+        return message as usize;
+    }
+    64
+}
+
+// The sums with what the rows at `at` up to `end` send, less what they take, added so many times.
+fn add_rows<'a>(
+    sent: &'a [u8; 1024],
+    taken: &'a [u8; 1024],
+    set: &[u32],
+    at: usize,
+    end: usize,
+    repeats: u32,
+    sums: &mut [i64; 65],
+)
+    requires { ⌜ (at ≤ end) × NumbersBelow 1024 (now set) at end × (end ≤ at + 64) × (repeats ≤ 1000000) × Within (2 ^ 61) (now sums) × (length (now sums) ≡ 65) ⌝ }
+    ensures { λ r. ⌜ Added (now (sent .entry)) (now (taken .entry)) repeats (part (now (set .entry)) at end) (now (sums .entry)) (now (sums .exit)) ⌝ }
+{
+    let times = repeats as i64;
+    let mut i = at;
+    while i < end {
+        let k = set[i] as usize;
+        let plus = place_of(sent[k]);
+        sums[plus] = sums[plus] + times;
+        let minus = place_of(taken[k]);
+        sums[minus] = sums[minus] - times;
+        i += 1;
+    }
+}
+
+// The lowest type with a negative sum, and that sum.
+fn lowest_negative(sums: &[i64; 65], types: usize) -> Confirmation
+    requires { ⌜ types ≤ 64 ⌝ }
+    ensures { λ r. ⌜ answerOf r ≡ lowestNegative (λ t. getD (now (sums .entry)) t (pos 0)) 0 types ⌝ }
+{
+    let mut t = 0;
+    while t < types {
+        let sum = sums[t];
+        if sum < 0 {
+            return Confirmation::Negative { message: t, sum };
+        }
+        t += 1;
+    }
+    Confirmation::Confirmed
+}
+
+// Judges the entries one by one and adds up their effects.
+fn judge_set(table: PlantTable, set: &[u32]) -> JudgedSet
+    requires { ⌜ Ready table × WithinLimits (plantOf table) ⌝ }
+    ensures { λ r. ⌜ JudgedAs (plantOf table) (r .sums) (r .end) (readSet (plantOf table) (now (set .entry))) ⌝ }
+{
+    let machines = table.machines as u32;
+    let rows = table.rows as u32;
+    let mut sums = [0; 65];
+    let mut at = 0;
+    let mut before = 0;
+    let end = 'entries: loop {
+        let begin = entry_begins(set, at, before);
+        match begin {
+            End::Fault(fault) => break 'entries End::Fault(fault),
+            End::At(_) => {}
+        }
+        let entry = judge_entry(
+            &table.machine,
+            &table.left,
+            &table.entered,
+            &table.progress,
+            set,
+            at,
+            machines,
+            rows,
+        );
+        match entry {
+            End::Fault(fault) => break 'entries End::Fault(fault),
+            End::At(next) => {
+                add_rows(
+                    &table.sent,
+                    &table.taken,
+                    set,
+                    at + 3,
+                    next,
+                    set[at + 1],
+                    &mut sums,
+                );
+                at = next;
+            }
+        }
+        if at >= set.len() {
+            break 'entries End::At(at);
+        }
+        before += 1;
+    };
+    JudgedSet { end, sums }
+}
+
+// Whether a set is balanced in the plant of a file.
+pub fn confirm(file: &[u8], set: &[u32]) -> Confirmation
+    ensures { λ r. ⌜ answerOf r ≡ owed (readPlant (now (file .entry))) (now (set .entry)) ⌝ }
+    ensures { λ r. ⌜ (answerOf r ≡ confirmed) ↔ ReadsBalanced (now (file .entry)) (now (set .entry)) ⌝ }
+{
+    let decoded = plant::decode(file);
+    let end = decoded.end;
+    let table = decoded.table;
+    let types = table.types as usize;
+    match end {
+        End::Fault(fault) => Confirmation::Refused(fault),
+        End::At(_) => {
+            let judged = judge_set(table, set);
+            let last = judged.end;
+            let sums = judged.sums;
+            match last {
+                End::Fault(fault) => Confirmation::Refused(fault),
+                End::At(_) => lowest_negative(&sums, types),
+            }
+        }
+    }
+}

@@ -1,0 +1,2 @@
+-- What the contracts of weighing and confirming say together.
+pub mod NeverBoth

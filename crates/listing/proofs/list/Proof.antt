@@ -1,0 +1,59 @@
+-- `list` meets its contract: a fault of the file is handed on, and the table of a file that reads is checked and the machine listed.
+use borrow.Author.Needs.{needs}
+use mathlib.Core.Path.{refl}
+use Rattle.plant.specs.Tables.{plantOf, endFound}
+use Rattle.plant.proofs.Told.{told}
+use Rattle.plant.proofs.FileBounds.{within-limits}
+use Rattle.listing.specs.declared.Listed.the-variants as Variants
+use Rattle.listing.proofs.AnswerLaws.{owed}
+use Rattle.listing.proofs.list.Statement.{statement}
+use Rattle.listing.proofs.list.Tie as tie
+
+decode-requires : tie.Need-decode-requires
+decode-requires c κs = search needs
+
+enum-known-end : tie.Need-enum-known-end
+enum-known-end c = search needs
+
+enum-told : tie.Need-enum-told
+enum-told c = search needs
+
+list-checked-requires : tie.Need-list-checked-requires
+list-checked-requires c κs =
+    let b = c .before .before .before .before .before .before .before in
+    let file = b .args .file .now in
+    let d = c .before .before .before .before .decode in
+    let read = told (λ e. endFound e (plantOf (d .result .table))) (d .ensures .0) (c .before .enum-told .given .1) in
+    (d .ensures .1, within-limits file _ _ read)
+
+returns : tie.Need-returns
+returns c =
+    let b = c .before .before .before .before .before .before .before in
+    let file = b .args .file .now in
+    let d = c .before .before .before .before .decode in
+    let read = told (λ e. endFound e (plantOf (d .result .table))) (d .ensures .0) (c .before .end .given .1) in
+    let before = b .args .out .now in
+    owed file (b .args .machine) before before (Variants.Refused (c .before .end .given .0 .0)) _ read (record { answer = refl; list-after = refl })
+
+same-length : tie.Need-same-length
+same-length c = search needs
+
+returns-2 : tie.Need-returns-2
+returns-2 c =
+    let b = c .before .before .before .before .before .before .before .before .before .before in
+    let file = b .args .file .now in
+    let d = c .before .before .before .before .before .before .before .decode in
+    let read = told (λ e. endFound e (plantOf (d .result .table))) (d .ensures .0) (c .before .before .before .before .enum-told .given .1) in
+    owed file (b .args .machine) (b .args .out .now) _ _ _ read (c .before .before .list-checked .ensures _)
+
+pub list-spec : {M : Type 1} → statement M
+list-spec =
+    tie.close
+    (tie.spec
+    decode-requires
+    enum-known-end
+    enum-told
+    list-checked-requires
+    returns
+    same-length
+    returns-2)

@@ -1,0 +1,120 @@
+-- `list_checked` meets its contract: each refusal is the first of the checks 12 and 13 that fails, and otherwise the machine is listed.
+use borrow.Author.Needs.{needs}
+use native.Mathlib.Omega.{arith}
+use lib.ListN.{length}
+use Rattle.plant.specs.Tables.{plantOf}
+use Rattle.plant.proofs.TableLaws.{machines-so-far}
+use Rattle.listing.proofs.TableCycles.{rows-range}
+use Rattle.listing.proofs.AnswerLaws.{states-are, refuse-12, refuse-states, refuse-rows, refuse-none, refusal, answers-same}
+use Rattle.listing.proofs.list_checked.Statement.{statement}
+use Rattle.listing.proofs.list_checked.Tie as tie
+
+refused-requires : tie.Need-refused-requires
+refused-requires c κs = search needs
+
+returns : tie.Need-returns
+returns c =
+    let b = c .before .before .before in
+    let t = b .args .t1 in
+    let before = b .args .out .now in
+    λ end. refusal 12 0 _ (refuse-12 (b .args .machine) (length before) (plantOf t) end (omega (arith, c .before .if1 .taken, machines-so-far t 16 (b .pre .0 .sound) (omega arith)))) before (c .refused .result) (c .refused .ensures)
+
+element-copy-out-if2 : tie.Need-element-copy-out-if2
+element-copy-out-if2 c = omega (arith, c .if1 .left, c .before .before .pre .0 .sound .few-machines)
+
+refused-requires-2 : tie.Need-refused-requires-2
+refused-requires-2 c κs = search needs
+
+returns-2 : tie.Need-returns-2
+returns-2 c =
+    let b = c .before .before .before .before .before in
+    let t = b .args .t1 in
+    let m = b .args .machine in
+    let before = b .args .out .now in
+    let within = c .before .before .before .if1 .left in
+    λ end. refusal 13 0 _ (refuse-states m (length before) (plantOf t) end (omega (arith, within, machines-so-far t 16 (b .pre .0 .sound) (omega arith))) (omega (arith, c .before .if2 .taken, states-are t m (omega (arith, within))))) before (c .refused2 .result) (c .refused2 .ensures)
+
+mul-wide : tie.Need-mul-wide
+mul-wide c = record { fits = omega (arith, c .before .before .if1 .left, c .before .before .before .before .pre .0 .sound .few-machines) }
+
+element-copy-out-wide : tie.Need-element-copy-out-wide
+element-copy-out-wide c = omega (arith, c .before .before .if1 .left, c .before .before .before .before .pre .0 .sound .few-machines)
+
+wide-requires : tie.Need-wide-requires
+wide-requires c κs = search needs
+
+add-wide : tie.Need-add-wide
+add-wide c = record { fits = omega (arith, c .before .before .before .before .if1 .left, c .before .before .before .before .before .before .pre .0 .sound .few-machines) }
+
+mul-wide-2 : tie.Need-mul-wide-2
+mul-wide-2 c = record { fits = omega (arith, c .before .before .before .before .if1 .left, c .before .before .before .before .before .before .pre .0 .sound .few-machines) }
+
+element-copy-out-wide-2 : tie.Need-element-copy-out-wide-2
+element-copy-out-wide-2 c = omega (arith, c .before .before .before .before .if1 .left, c .before .before .before .before .before .before .pre .0 .sound .few-machines)
+
+wide-requires-2 : tie.Need-wide-requires-2
+wide-requires-2 c κs = search needs
+
+sub-if3 : tie.Need-sub-if3
+sub-if3 c =
+    let b = c .before .before .before .before .before .before .before .before in
+    let range = rows-range (b .args .t1) (b .pre .0) (b .pre .1) (b .args .machine) (omega (arith, c .before .before .before .before .before .before .if1 .left)) in
+    omega (arith, range .0, c .wide2 .ensures, c .before .before .wide .ensures)
+
+refused-requires-3 : tie.Need-refused-requires-3
+refused-requires-3 c κs = search needs
+
+returns-3 : tie.Need-returns-3
+returns-3 c =
+    let b = c .before .before .before .before .before .before .before .before .before .before in
+    let t = b .args .t1 in
+    let m = b .args .machine in
+    let before = b .args .out .now in
+    let within = c .before .before .before .before .before .before .before .before .if1 .left in
+    let range = rows-range t (b .pre .0) (b .pre .1) m (omega (arith, within)) in
+    λ end. refusal 13 0 _ (refuse-rows m (length before) (plantOf t) end (omega (arith, within, machines-so-far t 16 (b .pre .0 .sound) (omega arith))) (omega (arith, c .before .if3 .taken, range .2, c .before .before .before .before .wide .ensures, c .before .before .wide2 .ensures))) before (c .refused3 .result) (c .refused3 .ensures)
+
+list-machine-requires : tie.Need-list-machine-requires
+list-machine-requires c κs =
+    let b = c .before .before .before .before .before .before .before .before .before .before in
+    let t = b .args .t1 in
+    let m = b .args .machine in
+    let within = c .before .before .before .before .before .before .before .before .if1 .left in
+    record { ready = b .pre .0; limits = b .pre .1; machine-in = omega (arith, within); few-states = omega (arith, c .before .before .before .before .before .before .if2 .left, states-are t m (omega (arith, within))) }
+
+same-length : tie.Need-same-length
+same-length c = search needs
+
+returns-4 : tie.Need-returns-4
+returns-4 c =
+    let b = c .before .before .before .before .before .before .before .before .before .before .before .before .before in
+    let t = b .args .t1 in
+    let m = b .args .machine in
+    let before = b .args .out .now in
+    let within = c .before .before .before .before .before .before .before .before .before .before .before .if1 .left in
+    let range = rows-range t (b .pre .0) (b .pre .1) m (omega (arith, within)) in
+    λ end.
+    answers-same (refuse-none m (length before) (plantOf t) end (omega (arith, within, machines-so-far t 16 (b .pre .0 .sound) (omega arith))) (omega (arith, c .before .before .before .before .before .before .before .before .before .if2 .left, states-are t m (omega (arith, within)))) (omega (arith, c .before .before .before .before .if3 .left, range .2, c .before .before .before .before .before .before .before .wide .ensures, c .before .before .before .before .before .wide2 .ensures))) (c .before .before .list-machine .ensures end)
+
+pub list-checked-spec : {M : Type 1} → statement M
+list-checked-spec =
+    tie.close
+    (tie.spec
+    refused-requires
+    returns
+    element-copy-out-if2
+    refused-requires-2
+    returns-2
+    mul-wide
+    element-copy-out-wide
+    wide-requires
+    add-wide
+    mul-wide-2
+    element-copy-out-wide-2
+    wide-requires-2
+    sub-if3
+    refused-requires-3
+    returns-3
+    list-machine-requires
+    same-length
+    returns-4)

@@ -1,0 +1,126 @@
+-- `list_machine` meets its contract: the entries are counted over no room, and stored if they fit.
+use borrow.Author.Needs.{needs}
+use native.Mathlib.Omega.{arith}
+use Rattle.plant.specs.Tables.{plantOf}
+use Rattle.listing.specs.Listing.{entriesNeeded}
+use Rattle.listing.proofs.AnswerLaws.{left-in, entered-in, entries-are, nothing-before, too-short, enough}
+use Rattle.listing.proofs.list_machine.Statement.{statement}
+use Rattle.listing.proofs.list_machine.Tie as tie
+
+mul-wide : tie.Need-mul-wide
+mul-wide c = record { fits = omega (arith, c .before .pre .machine-in, c .before .pre .ready .sound .few-machines) }
+
+element-copy-out-wide : tie.Need-element-copy-out-wide
+element-copy-out-wide c = omega (arith, c .before .pre .machine-in, c .before .pre .ready .sound .few-machines)
+
+wide-requires : tie.Need-wide-requires
+wide-requires c κs = search needs
+
+add-wide : tie.Need-add-wide
+add-wide c = record { fits = omega (arith, c .before .before .before .pre .machine-in, c .before .before .before .pre .ready .sound .few-machines) }
+
+mul-wide-2 : tie.Need-mul-wide-2
+mul-wide-2 c = record { fits = omega (arith, c .before .before .before .pre .machine-in, c .before .before .before .pre .ready .sound .few-machines) }
+
+element-copy-out-wide-2 : tie.Need-element-copy-out-wide-2
+element-copy-out-wide-2 c = omega (arith, c .before .before .before .pre .machine-in, c .before .before .before .pre .ready .sound .few-machines)
+
+wide-requires-2 : tie.Need-wide-requires-2
+wide-requires-2 c κs = search needs
+
+link-requires : tie.Need-link-requires
+link-requires c κs =
+    let b = c .before .before .before .before .before .before .before in
+    left-in (b .args .t1) (b .args .m) (b .pre) (c .before .before .before .before .wide .result) (c .before .before .wide2 .result) (c .before .before .before .before .wide .ensures) (c .before .before .wide2 .ensures)
+
+slice-relend-prefix-list-rows : tie.Need-slice-relend-prefix-list-rows
+slice-relend-prefix-list-rows c = search needs
+
+slice-aggregate-list-rows : tie.Need-slice-aggregate-list-rows
+slice-aggregate-list-rows c = search needs
+
+list-rows-requires : tie.Need-list-rows-requires
+list-rows-requires c κs =
+    let b = c .before .before .before .before .before .before .before .before .before .before .before .before .before .before .before in
+    let t = b .args .t1 in
+    let m = b .args .m in
+    let low = c .before .before .before .before .before .before .before .before .before .before .before .before .wide in
+    let high = c .before .before .before .before .before .before .before .before .before .before .wide2 in (
+      left-in t m (b .pre) (low .result) (high .result) (low .ensures) (high .ensures),
+      entered-in t m (b .pre) (low .result) (high .result) (low .ensures) (high .ensures),
+      c .before .before .before .before .before .before .before .link .ensures,
+      search needs,
+      search needs,
+    )
+
+refused-requires : tie.Need-refused-requires
+refused-requires c κs = search needs
+
+same-length : tie.Need-same-length
+same-length c = search needs
+
+returns : tie.Need-returns
+returns c =
+    let b = c .before .before .before .before .before .before .before .before .before .before .before .before .before .before .before .before .before .before .before .before in
+    let t = b .args .t1 in
+    let m = b .args .m in
+    let before = b .args .out .now in
+    let low = c .before .before .before .before .before .before .before .before .before .before .before .before .before .before .before .before .before .wide in
+    let high = c .before .before .before .before .before .before .before .before .before .before .before .before .before .before .before .wide2 in
+    let are = entries-are t m (b .pre) (low .result) (high .result) (low .ensures) (high .ensures) in
+    let pass = c .before .before .before .before .list-rows in
+    let kept = nothing-before (pass .last .1 .1 .1 .1 .1 .1 .0) before (c .before .before .before .out .given .0) in
+    λ end. too-short _ (entriesNeeded (plantOf t) m) before are (pass .result) (pass .ensures .counted) end (omega (arith, c .before .if1 .taken)) (c .refused .result) (c .refused .ensures) _ kept
+
+list-rows-requires-2 : tie.Need-list-rows-requires-2
+list-rows-requires-2 c κs =
+    let b = c .before .before .before .before .before .before .before .before .before .before .before .before .before .before .before .before .before .before .before .before .before .before .before .before .before .before in
+    let t = b .args .t1 in
+    let m = b .args .m in
+    let low = c .before .before .before .before .before .before .before .before .before .before .before .before .before .before .before .before .before .before .before .before .before .before .before .wide in
+    let high = c .before .before .before .before .before .before .before .before .before .before .before .before .before .before .before .before .before .before .before .before .before .wide2 in (
+      left-in t m (b .pre) (low .result) (high .result) (low .ensures) (high .ensures),
+      entered-in t m (b .pre) (low .result) (high .result) (low .ensures) (high .ensures),
+      c .before .before .before .before .before .before .before .before .before .before .before .before .before .before .before .before .before .before .link .ensures,
+      search needs,
+      search needs,
+    )
+
+same-length-2 : tie.Need-same-length-2
+same-length-2 c = search needs
+
+returns-2 : tie.Need-returns-2
+returns-2 c =
+    let b = c .before .before .before .before .before .before .before .before .before .before .before .before .before .before .before .before .before .before .before .before .before .before .before .before .before .before .before .before .before in
+    let t = b .args .t1 in
+    let m = b .args .m in
+    let before = b .args .out .now in
+    let low = c .before .before .before .before .before .before .before .before .before .before .before .before .before .before .before .before .before .before .before .before .before .before .before .before .before .before .wide in
+    let high = c .before .before .before .before .before .before .before .before .before .before .before .before .before .before .before .before .before .before .before .before .before .before .before .before .wide2 in
+    let are = entries-are t m (b .pre) (low .result) (high .result) (low .ensures) (high .ensures) in
+    let pass = c .before .before .before .before .before .before .before .before .before .before .before .before .before .list-rows in
+    let kept = nothing-before (pass .last .1 .1 .1 .1 .1 .1 .0) before (c .before .before .before .before .before .before .before .before .before .before .before .before .out .given .0) in
+    let second = c .before .before .list-rows2 in
+    λ end. enough _ (entriesNeeded (plantOf t) m) before are (pass .result) (pass .ensures .counted) end (omega (arith, c .before .before .before .before .before .before .before .before .before .before .if1 .left)) _ kept (second .result) _ (second .ensures)
+
+pub list-machine-spec : {M : Type 1} → statement M
+list-machine-spec =
+    tie.close
+    (tie.spec
+    mul-wide
+    element-copy-out-wide
+    wide-requires
+    add-wide
+    mul-wide-2
+    element-copy-out-wide-2
+    wide-requires-2
+    link-requires
+    slice-relend-prefix-list-rows
+    slice-aggregate-list-rows
+    list-rows-requires
+    refused-requires
+    same-length
+    returns
+    list-rows-requires-2
+    same-length-2
+    returns-2)

@@ -1,0 +1,48 @@
+-- `step_of` meets its contract: each answer is that of the tests passed before it.
+use borrow.Author.Needs.{needs}
+use mathlib.Core.Path.{_≡_}
+use borrow.Author.Tests.{eq-eqb, ne-eqb, lt-ltb, le-ltb}
+use native.Mathlib.Omega.{arith}
+use lib.ListN.{getD}
+use Rattle.listing.specs.Inner.Ranges.{column}
+use Rattle.listing.proofs.step_of.Statement.{statement}
+use Rattle.listing.proofs.step_of.Tie as tie
+
+element-copy-out-state : tie.Need-element-copy-out-state
+element-copy-out-state c = search needs
+
+returns : tie.Need-returns
+returns c =
+    let a = c .before .before .args in
+    let state = column (a .entered .now) (a .k) in
+    rw (eq-eqb state (a .start) (omega (arith, c .if1 .taken)))
+
+returns-2 : tie.Need-returns-2
+returns-2 c =
+    let a = c .before .before .before .args in
+    let state = column (a .entered .now) (a .k) in
+    rw (ne-eqb state (a .start) (c .before .if1 .left), lt-ltb state (a .start) (omega (arith, c .if2 .taken)))
+
+cast-if3 : tie.Need-cast-if3
+cast-if3 c = search needs
+
+array-read-if3 : tie.Need-array-read-if3
+array-read-if3 c = search needs
+
+returns-3 : tie.Need-returns-3
+returns-3 c =
+    let a = c .before .before .before .before .args in
+    let state = column (a .entered .now) (a .k) in
+    let left : getD (a .t3) state 0 ≡ 0 → ⊥ = λ e. omega (arith, c .if3 .taken) in
+    rw (ne-eqb state (a .start) (c .before .before .if1 .left), le-ltb state (a .start) (omega (arith, c .before .if2 .left)), ne-eqb (getD (a .t3) state 0) 0 left)
+
+returns-4 : tie.Need-returns-4
+returns-4 c =
+    let a = c .before .before .before .before .args in
+    let state = column (a .entered .now) (a .k) in
+    rw (ne-eqb state (a .start) (c .before .before .if1 .left), le-ltb state (a .start) (omega (arith, c .before .if2 .left)), eq-eqb (getD (a .t3) state 0) 0 (omega (arith, c .if3 .left)))
+
+pub step-of-spec : {M : Type 1} → statement M
+step-of-spec =
+    tie.close
+    (tie.spec element-copy-out-state returns returns-2 cast-if3 array-read-if3 returns-3 returns-4)

@@ -1,0 +1,3 @@
+-- Definitions that only the contracts of private functions cite.
+pub mod Ranges
+pub mod Filling

@@ -1,0 +1,133 @@
+-- Laws of the contents and g: the first number above a limit, the checks 20 to 22, and the limit of W.
+use mathlib.Core.Path.{_≡_, refl, sym, ap, _∙_}
+use mathlib.Core.Logic.{_≢_}
+use mathlib.Core.Bool.{Bool, true, false, cond}
+use mathlib.Core.List.{List, [], _∷_}
+use Prim.Native.Nat.{ℕ, zero, suc, _+_, _*_, _≤_, _<_, zero-le}
+use native.Mathlib.Nat.{le-of-suc-le-suc, not-suc-le-zero, mul-le-mul}
+use native.Mathlib.Omega.{arith}
+use borrow.Author.Tests.{eq-eqb, ne-eqb, lt-ltb, le-ltb, eqb-true, ltb-false}
+use lib.Dec.{eqb, ltb}
+use lib.ListN.{length, getD, drop, length-append, List·getD-append}
+use lib.Seq.{getD-append-seam}
+use Rattle.livelock.specs.Plants.{Plant}
+use Rattle.livelock.specs.Lists.{below, sum}
+use Rattle.livelock.specs.Weights.{weight}
+use Rattle.plant.specs.Found.{found, fault}
+use Rattle.weighing.specs.Weighing.{firstAbove}
+use Rattle.weighing.proofs.FigureLaws.{sum-limit}
+use Rattle.weighing.proofs.WeighingLaws.{above-stops, above-goes-on, above-ends, no-plant}
+use Rattle.quoting.specs.Quoting.{content, amounts, checkedAmounts, checkedContents}
+use Rattle.quoting.specs.Inner.Checks.{AllAtMost, checkedPassing}
+
+-- ---- the first number above a limit
+
+-- Where the first is not among the numbers, none is above.
+pub none-above : (limit : ℕ) (xs : List ℕ) → length xs ≤ firstAbove limit xs → AllAtMost limit xs
+unfolding firstAbove
+none-above limit [] h i = zero-le
+none-above limit (x ∷ xs) h i = go (ltb limit x) refl h (none-above limit xs) i
+  where
+    go : (b : Bool) → ltb limit x ≡ b → suc (length xs) ≤ cond b 0 (suc (firstAbove limit xs)) → (length xs ≤ firstAbove limit xs → AllAtMost limit xs) → AllAtMost limit (x ∷ xs)
+    go true q l rest i = absurd (not-suc-le-zero l)
+    go false q l rest zero = ltb-false limit x q
+    go false q l rest (suc i) = rest (le-of-suc-le-suc l) i
+
+module _ (contents : List ℕ) (g : ℕ) where
+  -- g stands behind the contents: there is one number more,
+  pub amounts-length : length (amounts contents g) ≡ length contents + 1
+  amounts-length = length-append contents (g ∷ [])
+
+  -- the numbers before it are the contents,
+  content-at : (i : ℕ) → i < length contents → getD (amounts contents g) i 0 ≡ getD contents i 0
+  content-at i l = List·getD-append contents (g ∷ []) 0 i l
+
+  -- and it is the last.
+  g-at : (i : ℕ) → i ≡ length contents → getD (amounts contents g) i 0 ≡ g
+  g-at i e = ap (λ (k : ℕ). getD (amounts contents g) k 0) e ∙ getD-append-seam contents g [] 0
+
+  module _ (i x : ℕ) (rest : i + firstAbove 1000000 (drop i (amounts contents g)) ≡ x) where
+    -- A content above 1,000,000 is the first number above it,
+    pub content-stops : i < length contents → 1000000 < getD contents i 0 → i ≡ x
+    content-stops l a = above-stops 1000000 (amounts contents g) i x rest (omega (arith, amounts-length)) (rw (content-at i l) a)
+
+    -- and one that is not is passed over.
+    pub content-goes-on : i < length contents → getD contents i 0 ≤ 1000000 → i + 1 + firstAbove 1000000 (drop (i + 1) (amounts contents g)) ≡ x
+    content-goes-on l a = above-goes-on 1000000 (amounts contents g) i x rest (omega (arith, amounts-length)) (rw (content-at i l) a)
+
+    module _ (last : i ≡ length contents) where
+      -- After the contents, g above 1,000,000 is the first,
+      pub g-stops : 1000000 < g → length contents ≡ x
+      g-stops a = sym last ∙ above-stops 1000000 (amounts contents g) i x rest (omega (arith, amounts-length)) (rw (g-at i last) a)
+
+      -- and else there is none.
+      pub none-stops : g ≤ 1000000 → i + 1 ≡ x
+      none-stops a =
+          above-ends 1000000 (amounts contents g) (i + 1) x
+          (above-goes-on 1000000 (amounts contents g) i x rest (omega (arith, amounts-length)) (rw (g-at i last) a))
+          (omega (arith, amounts-length))
+
+-- ---- the checks
+
+module _ (contents : List ℕ) (g : ℕ) (passes : Bool) (P : Plant) (end : ℕ) where
+  -- Not one content for each type: fault 20.
+  pub refuse-20 : length contents ≢ P .types → fault 20 0 ≡ checkedPassing contents g passes P end
+  unfolding checkedContents
+  refuse-20 h = rw (ne-eqb (length contents) (P .types) h)
+
+  module _ (one-each : length contents ≡ P .types) where
+    -- A number above 1,000,000: fault 21 at the first.
+    pub refuse-21 : (i : ℕ) → i ≡ firstAbove 1000000 (amounts contents g) → i < length (amounts contents g) → fault 21 i ≡ checkedPassing contents g passes P end
+    unfolding checkedContents checkedAmounts
+    refuse-21 i q l =
+        rw (q, eq-eqb (length contents) (P .types) one-each, lt-ltb (firstAbove 1000000 (amounts contents g)) (length (amounts contents g)) (rw (← q) l))
+
+    module _ (small : length (amounts contents g) ≤ firstAbove 1000000 (amounts contents g)) where
+      -- Weights that do not pass: fault 22.
+      pub refuse-22 : passes ≡ false → fault 22 0 ≡ checkedPassing contents g passes P end
+      unfolding checkedContents checkedAmounts
+      refuse-22 q = rw (q, eq-eqb (length contents) (P .types) one-each, le-ltb (firstAbove 1000000 (amounts contents g)) (length (amounts contents g)) small)
+
+      -- Otherwise a ceiling is quoted.
+      pub refuse-none : passes ≡ true → found P end ≡ checkedPassing contents g passes P end
+      unfolding checkedContents checkedAmounts
+      refuse-none q = rw (q, eq-eqb (length contents) (P .types) one-each, le-ltb (firstAbove 1000000 (amounts contents g)) (length (amounts contents g)) small)
+
+-- ---- what the checks say when they find a plant
+
+-- The numbers are good for plant Q, which is plant P.
+pub record Amounts (contents : List ℕ) (g : ℕ) (Q P : Plant) : Type 0 where
+  pub same : Q ≡ P
+  pub one-each : length contents ≡ Q .types
+  pub small : AllAtMost 1000000 contents
+  pub few-progress : g ≤ 1000000
+
+-- The contents and g, of which none is above.
+amounts-limit : (contents : List ℕ) (g : ℕ) → AllAtMost 1000000 (amounts contents g) → AllAtMost 1000000 contents × (g ≤ 1000000)
+amounts-limit [] g h = (λ i. zero-le, h 0)
+amounts-limit (x ∷ xs) g h = let r = amounts-limit xs g (λ i. h (suc i)) in (λ i. go i (r .0), r .1)
+  where
+    go : (i : ℕ) → AllAtMost 1000000 xs → getD (x ∷ xs) i 0 ≤ 1000000
+    go zero rest = h 0
+    go (suc i) rest = rest i
+
+-- The checks 20 and 21 change no plant, and there is one content for each type, and no number above 1,000,000.
+pub contents-good : (contents : List ℕ) (g : ℕ) (Q P : Plant) (k end : ℕ) → checkedContents contents g Q k ≡ found P end → Amounts contents g Q P
+unfolding checkedContents checkedAmounts
+contents-good contents g Q P k end =
+    go (eqb (length contents) (Q .types)) (ltb (firstAbove 1000000 (amounts contents g)) (length (amounts contents g))) refl refl
+  where
+    go : (a b : Bool) → eqb (length contents) (Q .types) ≡ a → ltb (firstAbove 1000000 (amounts contents g)) (length (amounts contents g)) ≡ b
+        → cond a (cond b (fault 21 (firstAbove 1000000 (amounts contents g))) (found Q k)) (fault 20 0) ≡ found P end → Amounts contents g Q P
+    go true true p q e = no-plant _ _ P end e
+    go true false p q e =
+        let r = amounts-limit contents g (none-above 1000000 (amounts contents g) (ltb-false _ _ q)) in
+        record { same = cc; one-each = eqb-true _ _ p; small = r .0; few-progress = r .1 }
+    go false b p q e = no-plant _ _ P end e
+
+-- ---- the weight of the contents
+
+-- The sum of weight times content over at most 64 types is at most 64 × 1,000 × 1,000,000.
+pub contents-limit : (ws contents : List ℕ) (n : ℕ) → n ≤ 64 → AllAtMost 1000 ws → AllAtMost 1000000 contents → sum (λ t. weight ws t * content contents t) (below n) ≤ 64000000000
+contents-limit ws contents n few light small =
+    omega (arith, sum-limit (λ t. weight ws t * content contents t) 1000000000 n (λ t l. mul-le-mul (light t) (small t)))

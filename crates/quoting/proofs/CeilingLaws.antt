@@ -1,0 +1,141 @@
+-- Laws of the ceiling: what it means, how large it can be, and the input for which it is the largest.
+use mathlib.Core.Path.{_≡_, refl, ap, _∙_, subst}
+use mathlib.Core.List.{List, [], _∷_}
+use Prim.Native.Nat.{ℕ, zero, suc, _*_, _≤_, _<_}
+use native.Mathlib.Nat.{mul-le-mul, mul-le-mul-left, not-suc-le-zero}
+use native.Mathlib.Omega.{arith}
+use lib.ListN.{getD, replicate}
+use Rattle.livelock.specs.Lists.{below, sum, greatest}
+use Rattle.livelock.specs.Plants.{Plant}
+use Rattle.livelock.specs.Runs.{Configuration}
+use Rattle.livelock.specs.Weights.{weight, Passes}
+use Rattle.livelock.specs.Figures.{mostStates, perProgress, contentsWeight}
+use Rattle.livelock.specs.Cycles.{RowOf}
+use Rattle.livelock.proofs.ListLaws.{all-below, all-at}
+use Rattle.livelock.proofs.SumLaws.{sum-equal}
+use Rattle.plant.specs.Found.{Found, found, fault, andThen}
+use Rattle.plant.specs.Limits.{WithinLimits}
+use Rattle.plant.specs.Reading.{byteAt, byteThat, byteIn, readRows, rowsByte, readMachine, readMachines, readPlant}
+use Rattle.weighing.specs.Weighing.{firstAbove, checkedSizes, checkedWeights, checkedRoom, Bounded}
+use Rattle.weighing.specs.Weighing as weighing
+use Rattle.weighing.proofs.FigureLaws.{most-limit, base-limit, per-progress-limit}
+use Rattle.weighing.proofs.WeighingLaws.{no-plant, judged-good}
+use Rattle.quoting.specs.Classes.{edges, classOf}
+use Rattle.quoting.specs.Quoting.{content, checkedAmounts, checkedContents, checked, judged, ceilingFor, OpensWith, IsCeiling, largestCeiling}
+use Rattle.quoting.specs.Inner.Checks.{AllAtMost}
+use Rattle.quoting.proofs.EdgeLaws.{edges-limit, class-is}
+use Rattle.quoting.proofs.AmountLaws.{none-above, contents-good, contents-limit}
+
+-- ---- what a ceiling means
+
+-- Contents that agree below the type count weigh the same.
+same-weight : (P : Plant) (ws contents : List ℕ) (c : Configuration) → OpensWith P contents c → contentsWeight P ws (c .content) ≡ contentsWeight P ws (content contents)
+same-weight P ws contents c opens =
+    sum-equal (λ t. weight ws t * c .content t) (λ t. weight ws t * content contents t) (below (P .types)) (all-below _ (P .types) (λ t l. ap (λ (x : ℕ). weight ws t * x) (opens t l)))
+
+-- The bound of demand 3 gives the ceiling: with the same W, and no less for more progress rows.
+pub bound-for : (P : Plant) (ws contents : List ℕ) (g : ℕ) → Bounded P ws → IsCeiling P contents g (ceilingFor P ws contents g)
+bound-for P ws contents g bounded c events opens few =
+    omega (
+      arith,
+      bounded c events,
+      ap (λ (x : ℕ). mostStates P * x) (same-weight P ws contents c opens),
+      mul-le-mul-left (perProgress P ws) few,
+    )
+
+-- ---- checks after checks
+
+-- What is found after another thing was found.
+pub then-found : (x : Found Plant) (k : Plant → ℕ → Found Plant) (P : Plant) (end : ℕ) → andThen x k ≡ found P end
+    → (Q : Plant) × (next : ℕ) × (x ≡ found Q next) × (k Q next ≡ found P end)
+then-found (found Q next) k P end e = (Q, next, refl, e)
+then-found (fault number place) k P end e = no-plant number place P end e
+
+-- Quoting judges as weighing does with a list of 64 entries, and then the contents and g.
+pub judged-after : (file ws contents : List ℕ) (g : ℕ) → andThen (weighing.judged file ws 64) (checkedContents contents g) ≡ judged file ws contents g
+unfolding checked weighing.checked checkedRoom
+judged-after file ws contents g = of-file (readPlant file)
+  where
+    of-weights : (x : Found Plant) → andThen (andThen x (checkedRoom 64)) (checkedContents contents g) ≡ andThen x (checkedContents contents g)
+    of-weights (found P end) = refl
+    of-weights (fault number place) = refl
+
+    of-file : (x : Found Plant) → andThen (andThen x (weighing.checked ws 64)) (checkedContents contents g) ≡ andThen x (checked ws contents g)
+    of-file (found P end) = of-weights (checkedWeights ws P end)
+    of-file (fault number place) = refl
+
+-- ---- the largest ceiling
+
+-- What the file, the weights, the contents and g are within.
+pub record Within (ws contents : List ℕ) (g : ℕ) (P : Plant) : Type 0 where
+  pub limits : WithinLimits P
+  pub light : AllAtMost 1000 ws
+  pub small : AllAtMost 1000000 contents
+  pub few-progress : g ≤ 1000000
+
+-- Input that is judged to be a plant is within the limits.
+pub judged-within : (file ws contents : List ℕ) (g : ℕ) (P : Plant) (end : ℕ) → judged file ws contents g ≡ found P end → Within ws contents g P
+judged-within file ws contents g P end e =
+    let x = then-found (weighing.judged file ws 64) (checkedContents contents g) P end (judged-after file ws contents g ∙ e) in
+    let w = judged-good file ws 64 (x .0) (x .1) (x .2) in
+    let a = contents-good contents g (x .0) P (x .1) end (x .3) in
+    record {
+      limits = subst WithinLimits (a .same) (w .0);
+      light = none-above 1000 ws (w .1 .light);
+      small = a .small;
+      few-progress = a .few-progress;
+    }
+
+-- So F is at most 64,513,008, n × W at most 64 × 64,000,000,000 and G × g at most 4,096,063 × 1,000,000.
+pub ceiling-limit : (file ws contents : List ℕ) (g : ℕ) (P : Plant) (end : ℕ) → judged file ws contents g ≡ found P end → ceilingFor P ws contents g ≤ largestCeiling
+ceiling-limit file ws contents g P end e =
+    let w = judged-within file ws contents g P end e in
+    let light : (t : ℕ) → t < P .types → getD ws t 0 ≤ 1000 = λ t l. w .light t in
+    omega (
+      arith,
+      base-limit P (w .limits) ws light,
+      mul-le-mul (most-limit P (w .limits)) (contents-limit ws contents (P .types) (w .limits .few-types) (w .light) (w .small)),
+      mul-le-mul (per-progress-limit P (w .limits) ws light) (w .few-progress),
+    )
+
+-- Every class is at most 43.
+pub class-limit : (ceiling : ℕ) → classOf ceiling ≤ 43
+class-limit ceiling = omega (arith, class-is ceiling, edges-limit 43 ceiling)
+
+-- ---- where it is attained
+
+-- The bytes 40 00, n times: machines of 64 states without rows.
+unfoldable pub bareMachines : ℕ → List ℕ
+bareMachines zero = []
+bareMachines (suc n) = 0x40 ∷ 0x00 ∷ bareMachines n
+
+-- The file with 16 such machines and 64 types, weights of 1,000, contents of 1,000,000 and the plant that is read.
+abbrev pub largestFile : List ℕ
+largestFile = 0x10 ∷ 0x40 ∷ bareMachines 16
+
+abbrev pub largestWeights : List ℕ
+largestWeights = replicate 64 1000
+
+abbrev pub largestContents : List ℕ
+largestContents = replicate 64 1000000
+
+abbrev pub largestPlant : Plant
+largestPlant = record { types = 64; states = replicate 16 64; rows = [] }
+
+-- With g 1,000,000 this input is good and its weights pass, and the ceiling is the largest, of class 43.
+pub record LargestAttained : Type 0 where
+  pub good : judged largestFile largestWeights largestContents 1000000 ≡ found largestPlant 34
+  pub passes : Passes largestPlant largestWeights
+  pub ceiling : ceilingFor largestPlant largestWeights largestContents 1000000 ≡ largestCeiling
+  pub class : classOf largestCeiling ≡ 43
+
+pub largest-attained : LargestAttained
+unfolding bareMachines below sum greatest byteAt byteThat byteIn readRows rowsByte readMachine readMachines readPlant firstAbove checkedSizes checkedWeights checkedAmounts checkedContents checked edges classOf
+largest-attained =
+    record {
+      good = refl;
+      -- A cycle has a first row, and the plant has none.
+      passes = λ m c s q. absurd (not-suc-le-zero (all-at (RowOf largestPlant m) 0 c (s .of-machine) 0 (s .non-empty) .0));
+      ceiling = refl;
+      class = refl;
+    }

@@ -1,0 +1,6 @@
+-- Laws of quoting.
+pub mod BasicExamples
+pub mod EdgeLaws
+pub mod AmountLaws
+pub mod CeilingLaws
+pub mod OwedLaws

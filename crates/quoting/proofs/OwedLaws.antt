@@ -1,0 +1,287 @@
+-- Laws of what is owed: what follows the checks of the contents and g, and the whole answer made of that of weighing.
+use mathlib.Core.Path.{_≡_, refl, sym, ap, _∙_, subst}
+use mathlib.Core.Logic.{_↔_, _⊎_, inl, inr}
+use mathlib.Core.Bool.{Bool, true, false, cond, false≢true}
+use mathlib.Core.List.{List}
+use Prim.Native.Nat.{ℕ, _+_, _*_, _≤_, _<_}
+use lib.Dec.{eqb, ltb}
+use lib.ListN.{length, getD}
+use Rattle.livelock.specs.Plants.{Plant, WellFormed}
+use Rattle.livelock.specs.Weights.{Passes, FailingCycle}
+use Rattle.livelock.specs.Figures.{mostStates, perProgress}
+use Rattle.livelock.specs.Figures as Figures
+use Rattle.livelock.proofs.Decision.{decision, not-both}
+use Rattle.plant.specs.Found.{Found, found, fault, andThen}
+use Rattle.plant.specs.Limits.{WithinLimits}
+use Rattle.plant.specs.Reading.{noMachines}
+use Rattle.plant.specs.declared.Fault.{Fault}
+use Rattle.plant.proofs.OneToOne.{same-fault}
+use Rattle.weighing.specs.Weighing.{firstAbove}
+use Rattle.weighing.specs.Weighing as weighing
+use Rattle.weighing.specs.Answers as weighed
+use Rattle.weighing.specs.declared.Weighed.{Weighed}
+use Rattle.weighing.proofs.FigureLaws.{most-limit, base-limit, per-progress-limit}
+use Rattle.weighing.proofs.WeighingLaws.{Good, no-plant, judged-good}
+use Rattle.quoting.specs.Answers.{Answer, quoted, refused, answerOf}
+use Rattle.quoting.specs.Classes.{classOf}
+use Rattle.quoting.specs.Quoting.{amounts, checkedAmounts, checkedContents, judged, ceilingFor, OnPassing, Owed, for-fault, for-plant, largestCeiling}
+use Rattle.quoting.specs.Inner.Checks.{AllAtMost, weightOfContents, Checks, Priced, FiguresFit, quotedFor, OwedChecked}
+use Rattle.quoting.specs.declared.Check.the-variants as CheckVariants
+use Rattle.quoting.specs.declared.Quoted.{Quoted}
+use Rattle.quoting.specs.declared.Quoted.the-variants as QuotedVariants
+use Rattle.quoting.proofs.AmountLaws.{none-above, contents-good}
+use Rattle.quoting.proofs.CeilingLaws.{bound-for, then-found, judged-after, judged-within}
+use Rattle.quoting.proofs.CeilingLaws.{largestFile, largestWeights, largestContents, largestPlant, largest-attained}
+
+-- ---- after the checks of the contents and g
+
+-- A check without a fault: the numbers are good.
+pub check-good : (types : ℕ) (contents : List ℕ) (g : ℕ) (passes : Bool) → Checks types contents g passes CheckVariants.Good
+    → (length contents ≡ types) × AllAtMost 1000000 contents × (g ≤ 1000000)
+check-good types contents g passes ok =
+    let P : Plant = noMachines types in
+    let x = then-found (checkedContents contents g P 0) (λ Q e. cond passes (found Q e) (fault 22 0)) P 0 (sym (ok P 0 refl)) in
+    let a = contents-good contents g P (x .0) 0 (x .1) (x .2) in
+    (a .one-each, a .small, a .few-progress)
+
+module _ (passes : Bool) (base states progress : ℕ) (ws contents : List ℕ) (g : ℕ) where
+  -- A fault is handed on,
+  pub check-refused : (f : Fault) → Checks (length ws) contents g passes (CheckVariants.Fault f) → OwedChecked passes base states progress ws contents g (refused (f .number) (f .place))
+  check-refused f ok P end t = ap (quotedFor base states progress ws contents g) (ok P end t)
+
+  -- and without one the ceiling is that of the figures and W.
+  pub check-priced : (w : ℕ) (a : Answer) → w ≡ weightOfContents ws contents → Priced base states progress w g a
+      → Checks (length ws) contents g passes CheckVariants.Good → OwedChecked passes base states progress ws contents g a
+  check-priced w a e p ok P end t =
+      subst (λ (x : ℕ). a ≡ quoted (base + states * x + progress * g) (classOf (base + states * x + progress * g))) e p
+      ∙ ap (quotedFor base states progress ws contents g) (ok P end t)
+
+  -- What is owed after the checks: their fault, and for a plant what it is owed by its own.
+  checked-owed : (a : Answer) (P : Plant) (end : ℕ) → P .types ≡ length ws → OwedChecked passes base states progress ws contents g a
+      → (a ≡ quotedFor base states progress ws contents g (cond passes (found P end) (fault 22 0)) → Owed ws contents g a (found P end))
+      → Owed ws contents g a (checkedContents contents g P end)
+  unfolding checkedContents checkedAmounts
+  checked-owed a P end t given owed =
+      go (eqb (length contents) (P .types)) (ltb (firstAbove 1000000 (amounts contents g)) (length (amounts contents g))) (given P end t)
+    where
+      go : (x y : Bool)
+          → a ≡ quotedFor base states progress ws contents g
+          (andThen (cond x (cond y (fault 21 (firstAbove 1000000 (amounts contents g))) (found P end)) (fault 20 0)) (λ Q e. cond passes (found Q e) (fault 22 0)))
+          → Owed ws contents g a (cond x (cond y (fault 21 (firstAbove 1000000 (amounts contents g))) (found P end)) (fault 20 0))
+      go true true e = for-fault e
+      go true false e = owed e
+      go false y e = for-fault e
+
+-- ---- what weighing said
+
+-- The answer is no refusal.
+abbrev Weighs : weighed.Answer → Type 0
+Weighs (weighed.passed F n G) = Unit {0}
+Weighs (weighed.cycle k) = Unit {0}
+Weighs (weighed.refused number place) = ⊥
+
+-- The answer has figures.
+abbrev Passed : weighed.Answer → Type 0
+Passed (weighed.passed F n G) = Unit {0}
+Passed (weighed.cycle k) = ⊥
+Passed (weighed.refused number place) = ⊥
+
+-- What is owed for a call's result r is owed for what r is.
+pub owed-told : {ws before after : List ℕ} {x : Found Plant} {r r′ : Weighed} → weighing.Owed ws before after (weighed.answerOf r) x
+    → r ≡ r′ → weighing.Owed ws before after (weighed.answerOf r′) x
+owed-told {ws} {before} {after} {x} owed e = subst (λ (y : Weighed). weighing.Owed ws before after (weighed.answerOf y) x) e owed
+
+-- What weighing owes for x.
+module _ {ws before after : List ℕ} {a : weighed.Answer} where
+  -- An answer that is no refusal is owed for a plant.
+  weighs-plant : (x : Found Plant) → weighing.Owed ws before after a x → Weighs a → (P : Plant) × (end : ℕ) × (x ≡ found P end)
+  weighs-plant (fault number place) (weighing.for-fault h) w = absurd (subst Weighs (h .refusal) w)
+  weighs-plant (found P end) owed w = (P, end, refl)
+
+  -- An answer without figures is owed only where the weights do not pass,
+  not-passing : (P : Plant) (end : ℕ) → weighing.Owed ws before after a (found P end) → (Passed a → ⊥) → Passes P ws → ⊥
+  not-passing P end (weighing.for-plant passing failing) n p = n (subst Passed (sym (passing p .figures)) tt)
+
+  -- and one with figures only where they do.
+  passing-weights : (P : Plant) (end : ℕ) → WellFormed P → weighing.Owed ws before after a (found P end) → Passed a → Passes P ws × weighing.OnPassing P ws before after a
+  passing-weights P end formed (weighing.for-plant passing failing) w = go (decision P formed ws)
+    where
+      go : Passes P ws ⊎ ((c : List ℕ) × FailingCycle P ws c) → Passes P ws × weighing.OnPassing P ws before after a
+      go (inl p) = (p, passing p)
+      go (inr x) = absurd (subst Passed (failing (λ p. not-both P ws (x .0) p (x .1)) .count) w)
+
+-- ---- the whole answer
+
+-- Quoting finds what weighing finds with a list of 64 entries, and then checks the contents and g (`judged-after`). So a fault of weighing
+-- is the fault; and where weighing says "passed" or "cycle", its own promise says which plant was weighed and whether its weights pass,
+-- and the answer for that plant is what the private functions promise for every plant with so many types.
+
+-- The plant that was weighed, where weighing refused nothing.
+record WeighedPlant (file ws before after : List ℕ) (a : weighed.Answer) : Type 0 where
+  plant : Plant
+  end : ℕ
+  is : weighing.judged file ws 64 ≡ found plant end
+  limits : WithinLimits plant
+  good : Good ws plant plant
+  owed : weighing.Owed ws before after a (found plant end)
+
+module _ (file ws before after : List ℕ) (a : weighed.Answer) (owed : weighing.Owed ws before after a (weighing.judged file ws 64)) (weighs : Weighs a) where
+  -- There is such a plant,
+  weighed-plant : WeighedPlant file ws before after a
+  weighed-plant =
+      let x = weighs-plant (weighing.judged file ws 64) owed weighs in
+      let w = judged-good file ws 64 (x .0) (x .1) (x .2) in
+      record {
+        plant = x .0;
+        end = x .1;
+        is = x .2;
+        limits = w .0;
+        good = w .1;
+        owed = subst (λ (y : Found Plant). weighing.Owed ws before after a y) (x .2) owed;
+      }
+
+  -- so the weights are at most 64, none above 1,000.
+  pub weights-good : (length ws ≤ 64) × AllAtMost 1000 ws
+  weights-good =
+      let w = weighed-plant in
+      (subst (λ (n : ℕ). n ≤ 64) (sym (w .good .one-each)) (w .limits .few-types), none-above 1000 ws (w .good .light))
+
+module _ (file ws before after contents : List ℕ) (g : ℕ) where
+  -- What is owed for the plant that was weighed, its contents and g checked, is owed for the input.
+  for-input : {P : Plant} {end : ℕ} (b : Answer) → weighing.judged file ws 64 ≡ found P end
+      → Owed ws contents g b (checkedContents contents g P end) → Owed ws contents g b (judged file ws contents g)
+  for-input b is h =
+      subst (Owed ws contents g b) (ap (λ (y : Found Plant). andThen y (checkedContents contents g)) (sym is) ∙ judged-after file ws contents g) h
+
+  -- A fault of the file or of the weights is the answer.
+  pub quote-refused : (number place : ℕ) → weighing.Owed ws before after (weighed.refused number place) (weighing.judged file ws 64)
+      → Owed ws contents g (refused number place) (judged file ws contents g)
+  quote-refused number place owed = subst (Owed ws contents g (refused number place)) (judged-after file ws contents g) (go (weighing.judged file ws 64) owed)
+    where
+      go : (x : Found Plant) → weighing.Owed ws before after (weighed.refused number place) x → Owed ws contents g (refused number place) (andThen x (checkedContents contents g))
+      go (fault n q) (weighing.for-fault h) =
+          let r = h .refusal in
+          let e : refused number place ≡ refused n q = cc in
+          for-fault e
+      go (found P end) (weighing.for-plant passing failing) =
+          absurd (subst Weighs (sym (failing (λ p. subst Passed (sym (passing p .figures)) tt) .count)) tt)
+
+  -- Where a cycle was shown, the weights do not pass.
+  pub quote-failing : (k : ℕ) (b : Answer) → weighing.Owed ws before after (weighed.cycle k) (weighing.judged file ws 64)
+      → OwedChecked false 0 0 0 ws contents g b → Owed ws contents g b (judged file ws contents g)
+  quote-failing k b owed given =
+      let w = weighed-plant file ws before after (weighed.cycle k) owed tt in
+      for-input b (w .is)
+      (checked-owed false 0 0 0 ws contents g b (w .plant) (w .end) (sym (w .good .one-each)) given
+      (λ e. for-plant (λ p. absurd (not-passing (w .plant) (w .end) (w .owed) (λ n. n) p)) (λ n. e)))
+
+  module _ (F n G : ℕ) (owed : weighing.Owed ws before after (weighed.passed F n G) (weighing.judged file ws 64)) where
+    -- Where figures were handed back, the weights pass,
+    passing-plant : (w : WeighedPlant file ws before after (weighed.passed F n G)) → Passes (w .plant) ws × weighing.OnPassing (w .plant) ws before after (weighed.passed F n G)
+    passing-plant w = passing-weights (w .plant) (w .end) (w .limits .formed) (w .owed) tt
+
+    -- the figures are the plant's,
+    figures-are : (w : WeighedPlant file ws before after (weighed.passed F n G)) → (F ≡ Figures.base (w .plant) ws) × (n ≡ mostStates (w .plant)) × (G ≡ perProgress (w .plant) ws)
+    figures-are w = let e = passing-plant w .1 .figures in (cc, cc, cc)
+
+    -- so they are within their limits,
+    pub figures-fit : FiguresFit F n G
+    figures-fit =
+        let w = weighed-plant file ws before after (weighed.passed F n G) owed tt in
+        let f = figures-are w in
+        let light : (t : ℕ) → t < w .plant .types → getD ws t 0 ≤ 1000 = λ t l. none-above 1000 ws (w .good .light) t in
+        record {
+          base-limit = rw (f .0) (base-limit (w .plant) (w .limits) ws light);
+          states-limit = rw (f .1) (most-limit (w .plant) (w .limits));
+          progress-limit = rw (f .2) (per-progress-limit (w .plant) (w .limits) ws light);
+        }
+
+    -- and the ceiling made of them is the plant's,
+    ceiling-is : (w : WeighedPlant file ws before after (weighed.passed F n G)) → F + n * weightOfContents ws contents + G * g ≡ ceilingFor (w .plant) ws contents g
+    ceiling-is w = let f = figures-are w in rw (f .0, f .1, f .2, w .good .one-each)
+
+    -- which is what is owed.
+    pub quote-passing : (b : Answer) → OwedChecked true F n G ws contents g b → Owed ws contents g b (judged file ws contents g)
+    quote-passing b given =
+        let w = weighed-plant file ws before after (weighed.passed F n G) owed tt in
+        let p = passing-plant w in
+        for-input b (w .is)
+        (checked-owed true F n G ws contents g b (w .plant) (w .end) (sym (w .good .one-each)) given
+        (λ e. for-plant
+        (λ q. record { quote = e ∙ ap (λ (c : ℕ). quoted c (classOf c)) (ceiling-is w); bounds = bound-for (w .plant) ws contents g (p .1 .bounded) })
+        (λ q. absurd (q (p .0)))))
+
+-- ---- what the answer says
+
+-- The answer hands back a ceiling.
+abbrev pub HasCeiling : Answer → Type 0
+HasCeiling a = (ceiling : ℕ) × (class : ℕ) × (a ≡ quoted ceiling class)
+
+-- Whether an answer is one of quoting.
+abbrev isQuoted : Answer → Bool
+isQuoted (quoted ceiling class) = true
+isQuoted (refused number place) = false
+
+-- A refusal is no ceiling.
+not-quoted : {A : Type 0} (number place ceiling class : ℕ) → refused number place ≡ quoted ceiling class → A
+not-quoted number place ceiling class e = absurd (false≢true (ap isQuoted e))
+
+-- A plant was found whose weights pass.
+abbrev pub Quotable : List ℕ → Found Plant → Type 0
+Quotable ws x = (P : Plant) × (end : ℕ) × (x ≡ found P end) × Passes P ws
+
+module _ (ws contents : List ℕ) (g : ℕ) where
+  -- For one thing found, a ceiling is handed back exactly when it is a plant whose weights pass,
+  found-iff : (a : Answer) (x : Found Plant) → ((P : Plant) (end : ℕ) → x ≡ found P end → WellFormed P) → Owed ws contents g a x → HasCeiling a ↔ Quotable ws x
+  found-iff a (fault number place) formed (for-fault h) = (λ q. not-quoted number place (q .0) (q .1) (sym h ∙ q .2), λ q. no-plant number place (q .0) (q .1) (q .2))
+  found-iff a (found P end) formed (for-plant passing failing) = (λ q. (P, end, refl, passes q (decision P (formed P end refl) ws)), λ q. (_, _, passing (same q) .quote))
+    where
+      passes : HasCeiling a → Passes P ws ⊎ ((c : List ℕ) × FailingCycle P ws c) → Passes P ws
+      passes q (inl p) = p
+      passes q (inr x) = not-quoted 22 0 (q .0) (q .1) (sym (failing (λ p. not-both P ws (x .0) p (x .1))) ∙ q .2)
+
+      same : Quotable ws (found P end) → Passes P ws
+      same q = let e : q .0 ≡ P = cc in subst (λ (Q : Plant). Passes Q ws) e (q .3)
+
+  -- and two answers that are owed are one.
+  found-determined : (a b : Answer) (x : Found Plant) → ((P : Plant) (end : ℕ) → x ≡ found P end → WellFormed P) → Owed ws contents g a x → Owed ws contents g b x → a ≡ b
+  found-determined a b (fault number place) formed (for-fault h) (for-fault i) = h ∙ sym i
+  found-determined a b (found P end) formed (for-plant h f) (for-plant i k) = go (decision P (formed P end refl) ws)
+    where
+      go : Passes P ws ⊎ ((c : List ℕ) × FailingCycle P ws c) → a ≡ b
+      go (inl p) = h p .quote ∙ sym (i p .quote)
+      go (inr x) =
+          let fails : Passes P ws → ⊥ = λ p. not-both P ws (x .0) p (x .1) in
+          f fails ∙ sym (k fails)
+
+module _ (file ws contents : List ℕ) (g : ℕ) where
+  -- A plant that is quoted for is well formed, so its weights pass or a cycle shows that they do not.
+  formed-plant : (P : Plant) (end : ℕ) → judged file ws contents g ≡ found P end → WellFormed P
+  formed-plant P end e = judged-within file ws contents g P end e .limits .formed
+
+  -- For every input, a ceiling is handed back exactly when it is judged to be a plant whose weights pass,
+  pub quoted-iff : (a : Answer) → Owed ws contents g a (judged file ws contents g) → HasCeiling a ↔ Quotable ws (judged file ws contents g)
+  quoted-iff a = found-iff ws contents g a (judged file ws contents g) formed-plant
+
+  -- and the answer is determined.
+  pub answer-determined : (a b : Answer) → Owed ws contents g a (judged file ws contents g) → Owed ws contents g b (judged file ws contents g) → a ≡ b
+  answer-determined a b = found-determined ws contents g a b (judged file ws contents g) formed-plant
+
+-- The answer for the input that attains the largest ceiling.
+pub largest-quoted : (a : Answer) → Owed largestWeights largestContents 1000000 a (judged largestFile largestWeights largestContents 1000000) → a ≡ quoted largestCeiling 43
+largest-quoted a owed = go (subst (Owed largestWeights largestContents 1000000 a) (largest-attained .good) owed)
+  where
+    go : Owed largestWeights largestContents 1000000 a (found largestPlant 34) → a ≡ quoted largestCeiling 43
+    go (for-plant passing failing) =
+        passing (largest-attained .passes) .quote
+        ∙ (ap (λ (c : ℕ). quoted c (classOf c)) (largest-attained .ceiling) ∙ ap (quoted largestCeiling) (largest-attained .class))
+
+-- Different answers never mean the same.
+pub one-to-one : (a b : Quoted) → answerOf a ≡ answerOf b → a ≡ b
+one-to-one (QuotedVariants.Ceiling c k) (QuotedVariants.Ceiling c′ k′) e = cc
+one-to-one (QuotedVariants.Ceiling c k) (QuotedVariants.Refused f) e = cc
+one-to-one (QuotedVariants.Refused f) (QuotedVariants.Ceiling c k) e = cc
+one-to-one (QuotedVariants.Refused f) (QuotedVariants.Refused h) e =
+    let n : f .number ≡ h .number = cc in
+    let q : f .place ≡ h .place = cc in
+    ap QuotedVariants.Refused (same-fault f h n q)

@@ -1,0 +1,42 @@
+-- `price` meets its contract: no product and no sum overflows, since the figures, W and g are within their limits.
+use borrow.Author.Needs.{needs}
+use mathlib.Core.Path.{ap}
+use native.Mathlib.Nat.{mul-le-mul}
+use native.Mathlib.Omega.{arith}
+use Prim.Native.Nat.{_+_, _*_, _≤_}
+use Rattle.quoting.specs.Answers.{quoted}
+use Rattle.quoting.proofs.price.Statement.{statement}
+use Rattle.quoting.proofs.price.Tie as tie
+
+-- n × W is at most 64 × 64,000,000,000,
+states-part : (c : tie.Start) → c .args .states * c .args .weight ≤ 4096000000000
+states-part c = mul-le-mul (c .pre .0 .states-limit) (c .pre .1)
+
+-- and G × g at most 4,096,063 × 1,000,000.
+progress-part : (c : tie.Start) → c .args .progress * c .args .g ≤ 4096063000000
+progress-part c = mul-le-mul (c .pre .0 .progress-limit) (c .pre .2)
+
+mul-ceiling : tie.Need-mul-ceiling
+mul-ceiling c = record { fits = omega (arith, states-part c) }
+
+add-ceiling : tie.Need-add-ceiling
+add-ceiling c = record { fits = omega (arith, c .pre .0 .base-limit, states-part c) }
+
+mul-ceiling-2 : tie.Need-mul-ceiling-2
+mul-ceiling-2 c = record { fits = omega (arith, progress-part c) }
+
+add-ceiling-2 : tie.Need-add-ceiling-2
+add-ceiling-2 c = record { fits = omega (arith, c .pre .0 .base-limit, states-part c, progress-part c) }
+
+price-class-requires : tie.Need-price-class-requires
+price-class-requires c κs = search needs
+
+returns : tie.Need-returns
+returns c =
+    let a = c .before .args in
+    ap (quoted (a .base + a .states * a .weight + a .progress * a .g)) (c .price-class .ensures)
+
+pub price-spec : {M : Type 1} → statement M
+price-spec =
+    tie.close
+    (tie.spec mul-ceiling add-ceiling mul-ceiling-2 add-ceiling-2 price-class-requires returns)

@@ -1,0 +1,67 @@
+-- What the private functions of quoting ask and give.
+use mathlib.Core.Path.{_≡_}
+use mathlib.Core.Bool.{Bool, cond}
+use mathlib.Core.List.{List}
+use Prim.Native.Nat.{ℕ, _+_, _*_, _≤_}
+use lib.ListN.{length, getD}
+use lib.Dec.{leb}
+use Rattle.livelock.specs.Lists.{below, sum}
+use Rattle.livelock.specs.Plants.{Plant}
+use Rattle.livelock.specs.Weights.{weight}
+use Rattle.plant.specs.Found.{Found, found, fault, andThen}
+use Rattle.plant.specs.Answers.{faultFound}
+use Rattle.quoting.specs.Answers.{Answer, quoted, refused}
+use Rattle.quoting.specs.Classes.{classOf}
+use Rattle.quoting.specs.Quoting.{content, checkedContents}
+use Rattle.quoting.specs.declared.Check.{Check}
+use Rattle.quoting.specs.declared.Check.the-variants as Variants
+
+-- 1 for an edge not above the ceiling.
+abbrev pub oneIfNotAbove : ℕ → ℕ → ℕ
+oneIfNotAbove edge ceiling = cond (leb edge ceiling) 1 0
+
+-- No number of a list is above the limit.
+abbrev pub AllAtMost : ℕ → List ℕ → Type 0
+AllAtMost limit xs = (i : ℕ) → getD xs i 0 ≤ limit
+
+-- "W being the sum of weight times content", with a weight for each type.
+abbrev pub weightOfContents : List ℕ → List ℕ → ℕ
+weightOfContents ws contents = sum (λ t. weight ws t * content contents t) (below (length ws))
+
+-- "22 | the weights do not pass | 0", after 20 and 21.
+abbrev pub checkedPassing : List ℕ → ℕ → Bool → Plant → ℕ → Found Plant
+checkedPassing contents g passes P end = andThen (checkedContents contents g P end) (λ Q e. cond passes (found Q e) (fault 22 0))
+
+-- What a check says of a plant.
+abbrev pub checkFound : Check → Plant → ℕ → Found Plant
+checkFound Variants.Good P end = found P end
+checkFound (Variants.Fault f) P end = faultFound f
+
+-- The check says this fault of every plant.
+abbrev pub Refuses : ℕ → ℕ → Check → Type 0
+Refuses number place r = (P : Plant) (end : ℕ) → checkFound r P end ≡ fault number place
+
+-- The check is that of every plant with so many types.
+abbrev pub Checks : ℕ → List ℕ → ℕ → Bool → Check → Type 0
+Checks types contents g passes r = (P : Plant) (end : ℕ) → P .types ≡ types → checkFound r P end ≡ checkedPassing contents g passes P end
+
+-- The ceiling of these figures, and its class.
+abbrev pub Priced : ℕ → ℕ → ℕ → ℕ → ℕ → Answer → Type 0
+Priced base states progress weight g a =
+    a ≡ quoted (base + states * weight + progress * g) (classOf (base + states * weight + progress * g))
+
+-- Figures within the limits.
+pub record FiguresFit (base states progress : ℕ) : Type 0 where
+  pub base-limit : base ≤ 64513008
+  pub states-limit : states ≤ 64
+  pub progress-limit : progress ≤ 4096063
+
+-- What is said after weighing: the fault found, or the ceiling of the figures.
+abbrev pub quotedFor : ℕ → ℕ → ℕ → List ℕ → List ℕ → ℕ → Found Plant → Answer
+quotedFor base states progress ws contents g (fault number place) = refused number place
+quotedFor base states progress ws contents g (found P end) =
+    quoted (base + states * weightOfContents ws contents + progress * g) (classOf (base + states * weightOfContents ws contents + progress * g))
+
+abbrev pub OwedChecked : Bool → ℕ → ℕ → ℕ → List ℕ → List ℕ → ℕ → Answer → Type 0
+OwedChecked passes base states progress ws contents g a =
+    (P : Plant) (end : ℕ) → P .types ≡ length ws → a ≡ quotedFor base states progress ws contents g (checkedPassing contents g passes P end)

@@ -1,0 +1,5 @@
+-- What quoting says and owes.
+pub mod Classes
+pub mod Answers
+pub mod Quoting
+pub mod Inner

@@ -1,0 +1,69 @@
+-- What quoting owes (document 01, "Quoting" and "Where each fault is found", 9, 10 and 20 to 22).
+use mathlib.Core.Path.{_≡_}
+use mathlib.Core.Bool.{cond}
+use mathlib.Core.List.{List, [], _∷_, _++_}
+use Prim.Native.Nat.{ℕ, _≤_, _<_}
+use lib.ListN.{length, getD}
+use lib.Dec.{eqb, ltb}
+use Rattle.livelock.specs.Plants.{Plant}
+use Rattle.livelock.specs.Runs.{Configuration, Event, quietRows, progressRows}
+use Rattle.livelock.specs.Weights.{Passes}
+use Rattle.livelock.specs.Figures.{ceilingOf}
+use Rattle.plant.specs.Found.{Found, found, fault, andThen}
+use Rattle.plant.specs.Reading.{readPlant}
+use Rattle.weighing.specs.Weighing.{firstAbove, checkedWeights}
+use Rattle.quoting.specs.Answers.{Answer, quoted, refused}
+use Rattle.quoting.specs.Classes.{classOf}
+
+-- "contents (one 32-bit number for each type)": the content of type t.
+abbrev pub content : List ℕ → ℕ → ℕ
+content contents t = getD contents t 0
+
+-- "contents, g": the numbers given, g behind the contents, so that its index is the type count.
+abbrev pub amounts : List ℕ → ℕ → List ℕ
+amounts contents g = contents ++ (g ∷ [])
+
+-- "contents, g | 21 | above 1,000,000 | index; for g the type count".
+unfoldable pub checkedAmounts : List ℕ → ℕ → Plant → ℕ → Found Plant
+checkedAmounts contents g P end =
+    cond (ltb (firstAbove 1000000 (amounts contents g)) (length (amounts contents g))) (fault 21 (firstAbove 1000000 (amounts contents g))) (found P end)
+
+-- "contents | 20 | not one for each type | 0", then 21.
+unfoldable pub checkedContents : List ℕ → ℕ → Plant → ℕ → Found Plant
+checkedContents contents g P end = cond (eqb (length contents) (P .types)) (checkedAmounts contents g P end) (fault 20 0)
+
+-- "quoting 9, 10, 20, 21": a plant for which all numbers are good.
+unfoldable pub checked : List ℕ → List ℕ → ℕ → Plant → ℕ → Found Plant
+checked ws contents g P end = andThen (checkedWeights ws P end) (checkedContents contents g)
+
+-- "File first, then downward as each call reads its parts": the plant to quote for, or the fault.
+abbrev pub judged : List ℕ → List ℕ → List ℕ → ℕ → Found Plant
+judged file ws contents g = andThen (readPlant file) (checked ws contents g)
+
+-- "the ceiling is F + n × W + G × g".
+abbrev pub ceilingFor : Plant → List ℕ → List ℕ → ℕ → ℕ
+ceilingFor P ws contents g = ceilingOf P ws (content contents) g
+
+-- A run opens with these contents; its states are any.
+abbrev pub OpensWith : Plant → List ℕ → Configuration → Type 0
+OpensWith P contents c = (t : ℕ) → t < P .types → c .content t ≡ content contents t
+
+-- What a ceiling means: no run that opens with these contents, from any states, with at most g progress rows, has more quiet rows.
+abbrev pub IsCeiling : Plant → List ℕ → ℕ → ℕ → Type 0
+IsCeiling P contents g ceiling =
+    (c : Configuration) (events : List Event) → OpensWith P contents c → progressRows P c events ≤ g → quietRows P c events ≤ ceiling
+
+-- The ceiling by the formula, its class, and what it means.
+pub record OnPassing (P : Plant) (ws contents : List ℕ) (g : ℕ) (a : Answer) : Type 0 where
+  pub quote : a ≡ quoted (ceilingFor P ws contents g) (classOf (ceilingFor P ws contents g))
+  pub bounds : IsCeiling P contents g (ceilingFor P ws contents g)
+
+-- What is owed, by the input alone: for a fault its number and place; for a plant the ceiling, or "22 | the weights do not pass | 0".
+pub data Owed (ws contents : List ℕ) (g : ℕ) (a : Answer) : Found Plant → Type 0 where
+  for-fault : {number place : ℕ} → a ≡ refused number place → Owed ws contents g a (fault number place)
+  for-plant : {P : Plant} {end : ℕ} → (Passes P ws → OnPassing P ws contents g a) → ((Passes P ws → ⊥) → a ≡ refused 22 0)
+      → Owed ws contents g a (found P end)
+
+-- The largest ceiling within the limits.
+abbrev pub largestCeiling : ℕ
+largestCeiling = 8192127513008

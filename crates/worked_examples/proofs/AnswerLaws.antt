@@ -1,0 +1,37 @@
+-- What the contracts of weighing and quoting leave to an answer for weights that pass.
+use mathlib.Core.Path.{_≡_, sym, _∙_, subst}
+use mathlib.Core.List.{List}
+use Prim.Native.Nat.{ℕ, _≤_}
+use lib.ListN.{length}
+use Rattle.livelock.specs.Plants.{Plant}
+use Rattle.livelock.specs.Weights.{Passes}
+use Rattle.livelock.specs.Figures.{base, mostStates, perProgress}
+use Rattle.plant.specs.Found.{Found, found}
+use Rattle.plant.specs.Reading.{readPlant}
+use Rattle.weighing.specs.Answers.{Answer, passed}
+use Rattle.weighing.specs.Weighing.{firstAbove, judged, Owed, for-plant}
+use Rattle.weighing.proofs.WeighingLaws.{owed-same, refuse-none, judged-plant}
+use Rattle.quoting.specs.Answers as QuotingAnswers
+use Rattle.quoting.specs.Classes.{classOf}
+use Rattle.quoting.specs.Quoting as Quoting
+
+-- An answer of weighing that is owed for a plant in which the weights pass has their figures.
+figures-of : {ws before after : List ℕ} {a : Answer} {P : Plant} {end : ℕ} → Owed ws before after a (found P end) → Passes P ws
+    → a ≡ passed (base P ws) (mostStates P) (perProgress P ws)
+figures-of (for-plant passing failing) p = passing p .figures
+
+-- So has one that is owed for a file that reads as the plant, with good weights and a lent list of 64 entries or more.
+pub figures-owed : (file ws before after : List ℕ) (a : Answer) (P : Plant) (end : ℕ) → readPlant file ≡ found P end → length ws ≡ P .types
+    → length ws ≤ firstAbove 1000 ws → Passes P ws → 64 ≤ length before → Owed ws before after a (judged file ws (length before))
+    → a ≡ passed (base P ws) (mostStates P) (perProgress P ws)
+figures-owed file ws before after a P end reads one-each light p room owed =
+    let is : found P end ≡ judged file ws (length before) = refuse-none ws (length before) P end one-each light room ∙ judged-plant file ws (length before) P end reads in
+    figures-of (owed-same ws before after a (judged file ws (length before)) (found P end) (sym is) owed) p
+
+-- An answer of quoting that is owed for such a plant has the ceiling and its class.
+pub quote-owed : (ws contents : List ℕ) (g : ℕ) (a : QuotingAnswers.Answer) (P : Plant) (end : ℕ) (x : Found Plant) → x ≡ found P end → Passes P ws
+    → Quoting.Owed ws contents g a x → a ≡ QuotingAnswers.quoted (Quoting.ceilingFor P ws contents g) (classOf (Quoting.ceilingFor P ws contents g))
+quote-owed ws contents g a P end x e p owed = on-passing (subst (Quoting.Owed ws contents g a) e owed)
+  where
+    on-passing : Quoting.Owed ws contents g a (found P end) → a ≡ QuotingAnswers.quoted (Quoting.ceilingFor P ws contents g) (classOf (Quoting.ceilingFor P ws contents g))
+    on-passing (Quoting.for-plant passing failing) = passing p .quote

@@ -1,0 +1,81 @@
+-- The collected theorem: every starred example of document 01 holds of the definitions.
+use mathlib.Core.Path.{_≡_, refl, ap}
+use mathlib.Core.List.{List, [], _∷_}
+use Prim.Native.Nat.{ℕ, _≤_}
+use native.Mathlib.Nat.{le-refl}
+use native.Mathlib.Omega.{arith}
+use lib.ListN.{length, drop-of-length-le}
+use Rattle.livelock.specs.Lists.{below, sum, sumℤ, greatest}
+use Rattle.livelock.specs.Plants.{hasProgress}
+use Rattle.livelock.specs.Weights.{cycleWeight}
+use Rattle.livelock.specs.CycleSets.{setEffect}
+use Rattle.livelock.proofs.Tests.{every, isWalk, isDistinct}
+use Rattle.livelock.proofs.Decision.{not-both}
+use Rattle.livelock.proofs.BasicExamples.{panelAndProbe, plantA, plantB}
+use Rattle.livelock.proofs.PassingExamples.{passes-2-1, shown-1-1, none-pass-in-B}
+use Rattle.plant.specs.Found.{found}
+use Rattle.weighing.specs.Weighing.{firstAbove, checkedSizes, checkedWeights}
+use Rattle.quoting.specs.Classes.{edges, classOf}
+use Rattle.quoting.specs.Quoting.{checkedAmounts, checkedContents, checked, judged}
+use Rattle.listing.specs.Listings.{flattened}
+use Rattle.listing.specs.Cycles.{joined, selected, unleft, paths, cyclesThrough}
+use Rattle.listing.specs.Listing as Listing
+use Rattle.cycle_sets.specs.Sets.{numberIn, rowsAt, entryEnds, entryAt, entryBegins, entriesAt}
+use Rattle.cycle_sets.specs.Confirming.{lowestNegative}
+use Rattle.worked_examples.specs.Files.{fileA, oneState}
+use Rattle.worked_examples.specs.Table.{Examples}
+use Rattle.worked_examples.proofs.Plants.{onePlant, rowPlant, reads-A, reads-B, reads-one-state, reads-quiet-row, reads-progress-row}
+use Rattle.worked_examples.proofs.Plants.{passes-1-0, shown-1-2, one-state-passes, quiet-row-fails, progress-row-passes}
+use Rattle.worked_examples.proofs.AnswerLaws.{figures-owed, quote-owed}
+
+-- The probe's cycle is the one of machine 1, and takes 3 entries.
+needs-3 : Listing.judged fileA 1 3 ≡ found (2 ∷ 2 ∷ 3 ∷ []) 20
+unfolding panelAndProbe below sum joined selected unleft paths cyclesThrough flattened Listing.checkedRoom Listing.checkedSize Listing.checked
+needs-3 = rw reads-A
+
+-- A list of 3 holds them and nothing else.
+fills-3 : (before : List ℕ) → length before ≡ 3 → Listing.filled (Listing.judged fileA 1 (length before)) before ≡ (2 ∷ 2 ∷ 3 ∷ [])
+fills-3 before e = let short : length before ≤ 3 = omega (arith, e) in rw (e, needs-3, drop-of-length-le before short)
+
+-- The table holds. Each number of it is computed here from the definitions.
+pub examples : Examples
+unfolding panelAndProbe onePlant below sum sumℤ greatest cycleWeight setEffect every isWalk isDistinct hasProgress firstAbove checkedSizes checkedWeights edges classOf checkedAmounts checkedContents checked numberIn rowsAt entryEnds entryAt entryBegins entriesAt lowestNegative
+examples =
+    record {
+      weights-2-1-cycle = record { plant = plantA; end = 20; reads = reads-A; weighs = refl };
+      weights-2-1 = λ before after a room owed. figures-owed fileA (2 ∷ 1 ∷ []) before after a plantA 20 reads-A refl (le-refl 2) passes-2-1 room owed;
+      weights-1-0 = λ before after a room owed. figures-owed fileA (1 ∷ 0 ∷ []) before after a plantA 20 reads-A refl (le-refl 2) passes-1-0 room owed;
+      weights-1-1 =
+          record {
+            plant = plantA;
+            end = 20;
+            reads = reads-A;
+            rightful = shown-1-1;
+            weighs = refl;
+            not-passing = λ p. not-both plantA (1 ∷ 1 ∷ []) (2 ∷ 3 ∷ []) p shown-1-1;
+          };
+      weights-1-2 =
+          record {
+            plant = plantA;
+            end = 20;
+            reads = reads-A;
+            rightful = shown-1-2;
+            weighs = refl;
+            not-passing = λ p. not-both plantA (1 ∷ 2 ∷ []) (2 ∷ 3 ∷ []) p shown-1-2;
+          };
+      quote-39 =
+          record {
+            plant = plantA;
+            end = 20;
+            reads = reads-A;
+            contents-weigh = refl;
+            answer = λ a owed. quote-owed (2 ∷ 1 ∷ []) (3 ∷ 4 ∷ []) 1 a plantA 20 (judged fileA (2 ∷ 1 ∷ []) (3 ∷ 4 ∷ []) 1) (rw reads-A) passes-2-1 owed;
+          };
+      both-cycles = rw reads-B;
+      none-in-B = record { plant = plantB; end = 20; reads = reads-B; none = λ ws long p. none-pass-in-B ws p };
+      panel-alone = rw reads-B;
+      listing-1 = record { answer = ap Listing.answered needs-3; filled = fills-3 };
+      one-state = λ before after a room owed. figures-owed oneState [] before after a onePlant 4 reads-one-state refl (le-refl 0) one-state-passes room owed;
+      quiet-row = record { plant = rowPlant _; end = 5; reads = reads-quiet-row; none = λ ws long p. quiet-row-fails ws p };
+      progress-row = record { plant = rowPlant _; end = 5; reads = reads-progress-row; all = λ ws long. progress-row-passes ws };
+    }

@@ -1,0 +1,101 @@
+-- The published test's running example, and its answers.
+use mathlib.Core.Path.{_≡_, refl, sym}
+use mathlib.Core.Bool.{true, false}
+use mathlib.Core.Option.{none, some}
+use mathlib.Core.List.{List, [], _∷_, _++_}
+use Prim.Native.Nat.{ℕ}
+use native.Mathlib.Nat.{le-refl}
+use Rattle.livelock.specs.Lists.{below, sum, sumℤ, greatest}
+use Rattle.livelock.specs.Plants.{Row, Plant, hasProgress}
+use Rattle.livelock.specs.Weights.{Passes}
+use Rattle.livelock.specs.CycleSets.{setEffect}
+use Rattle.livelock.proofs.Tests.{every, isWalk, isDistinct, well-formed-iff}
+use Rattle.livelock.proofs.Graphs.{via, longest}
+use Rattle.livelock.proofs.Decision.{statePotential, passing-iff}
+use Rattle.livelock.proofs.Exclusion.{exclusion}
+use Rattle.plant.specs.Found.{found}
+use Rattle.plant.specs.Reading.{byteAt, byteThat, byteIn, mapByte, stateField, typeField, readRow, readRows, rowsByte, readMachine, readMachines, readPlant}
+use Rattle.weighing.specs.Weighing.{firstAbove}
+use Rattle.cycle_sets.specs.Answers.{confirmed}
+use Rattle.cycle_sets.specs.Sets.{numberIn, rowsAt, entryEnds, entryAt, entryBegins, entriesAt}
+use Rattle.cycle_sets.specs.Confirming.{lowestNegative}
+use Rattle.cycle_sets.proofs.ConfirmingLaws.{confirmed-iff}
+use Rattle.worked_examples.specs.Files.{clients, twoClients, twoClientsInTurn}
+use Rattle.worked_examples.specs.Table.{SetGives, NoWeightsPass, PublishedExample}
+use Rattle.worked_examples.proofs.AnswerLaws.{figures-owed}
+
+-- The rows of the clients, machines 0 and 1. Types 0 to 2 are client 0's request, acknowledgement and release, types 3 to 5 are client 1's.
+unfoldable clientRows : List Row
+clientRows =
+    record { machine = 0; left = 0; entered = 1; sent = some 0; taken = none; progress = false }
+    ∷ record { machine = 0; left = 1; entered = 2; sent = none; taken = some 1; progress = false }
+    ∷ record { machine = 0; left = 2; entered = 3; sent = none; taken = none; progress = true }
+    ∷ record { machine = 0; left = 3; entered = 0; sent = some 2; taken = none; progress = false }
+    ∷ record { machine = 1; left = 0; entered = 1; sent = some 3; taken = none; progress = false }
+    ∷ record { machine = 1; left = 1; entered = 2; sent = none; taken = some 4; progress = false }
+    ∷ record { machine = 1; left = 2; entered = 3; sent = none; taken = none; progress = false }
+    ∷ record { machine = 1; left = 3; entered = 0; sent = some 5; taken = none; progress = false }
+    ∷ []
+
+-- The plant with a server of so many states and these rows, machine 2.
+abbrev served : ℕ → List Row → Plant
+served states server = record { types = 6; states = 4 ∷ 4 ∷ states ∷ []; rows = clientRows ++ server }
+
+-- The server that chooses whom to serve.
+unfoldable choosing : Plant
+choosing =
+    served 5
+    (record { machine = 2; left = 0; entered = 1; sent = none; taken = some 0; progress = false }
+    ∷ record { machine = 2; left = 1; entered = 2; sent = some 1; taken = none; progress = false }
+    ∷ record { machine = 2; left = 2; entered = 0; sent = none; taken = some 2; progress = false }
+    ∷ record { machine = 2; left = 0; entered = 3; sent = none; taken = some 3; progress = false }
+    ∷ record { machine = 2; left = 3; entered = 4; sent = some 4; taken = none; progress = false }
+    ∷ record { machine = 2; left = 4; entered = 0; sent = none; taken = some 5; progress = false }
+    ∷ [])
+
+-- The server that serves the clients in turn.
+unfoldable inTurn : Plant
+inTurn =
+    served 6
+    (record { machine = 2; left = 0; entered = 1; sent = none; taken = some 0; progress = false }
+    ∷ record { machine = 2; left = 1; entered = 2; sent = some 1; taken = none; progress = false }
+    ∷ record { machine = 2; left = 2; entered = 3; sent = none; taken = some 2; progress = false }
+    ∷ record { machine = 2; left = 3; entered = 4; sent = none; taken = some 3; progress = false }
+    ∷ record { machine = 2; left = 4; entered = 5; sent = some 4; taken = none; progress = false }
+    ∷ record { machine = 2; left = 5; entered = 0; sent = none; taken = some 5; progress = false }
+    ∷ [])
+
+reads-choosing : readPlant twoClients ≡ found choosing 59
+unfolding clients twoClients clientRows choosing byteAt byteThat byteIn mapByte stateField typeField readRow readRows rowsByte readMachine readMachines readPlant
+reads-choosing = refl
+
+reads-in-turn : readPlant twoClientsInTurn ≡ found inTurn 59
+unfolding clients twoClientsInTurn clientRows inTurn byteAt byteThat byteIn mapByte stateField typeField readRow readRows rowsByte readMachine readMachines readPlant
+reads-in-turn = refl
+
+in-turn-passes : Passes inTurn (2 ∷ 0 ∷ 0 ∷ 0 ∷ 1 ∷ 0 ∷ [])
+unfolding clientRows inTurn below greatest every statePotential longest via hasProgress
+in-turn-passes = passing-iff inTurn (well-formed-iff inTurn .0 refl) (2 ∷ 0 ∷ 0 ∷ 0 ∷ 1 ∷ 0 ∷ []) .0 refl
+
+-- The second client and the server's second choice, once each, are confirmed,
+second-client-confirmed : SetGives twoClients (1 ∷ 1 ∷ 4 ∷ 4 ∷ 5 ∷ 6 ∷ 7 ∷ 2 ∷ 1 ∷ 3 ∷ 11 ∷ 12 ∷ 13 ∷ []) confirmed
+unfolding clientRows choosing below sum sumℤ setEffect every isWalk isDistinct hasProgress numberIn rowsAt entryEnds entryAt entryBegins entriesAt lowestNegative
+second-client-confirmed = rw reads-choosing
+
+-- so they are a balanced set of the plant that the file reads as, and no weights pass in it.
+none-passes : NoWeightsPass twoClients
+none-passes =
+    let set : List ℕ = 1 ∷ 1 ∷ 4 ∷ 4 ∷ 5 ∷ 6 ∷ 7 ∷ 2 ∷ 1 ∷ 3 ∷ 11 ∷ 12 ∷ 13 ∷ [] in
+    let b = confirmed-iff twoClients set confirmed (sym second-client-confirmed) .0 refl in
+    record { plant = b .plant; end = b .file-end; reads = b .file-reads; none = λ ws long p. exclusion (b .plant) ws p (b .entries) (b .balanced) }
+
+pub published : PublishedExample
+unfolding clientRows inTurn below sum greatest firstAbove
+published =
+    record {
+      second-client = second-client-confirmed;
+      none-pass = none-passes;
+      corrected =
+          λ before after a room owed.
+          figures-owed twoClientsInTurn (2 ∷ 0 ∷ 0 ∷ 0 ∷ 1 ∷ 0 ∷ []) before after a inTurn 59 reads-in-turn refl (le-refl 6) in-turn-passes room owed;
+    }

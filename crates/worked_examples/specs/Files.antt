@@ -1,0 +1,76 @@
+-- The plant files of the worked examples, byte by byte (document 01, "The probe and the panel", and the published livelock test).
+use mathlib.Core.List.{List, [], _∷_, _++_}
+use Prim.Native.Nat.{ℕ}
+
+-- "20 bytes: 02 02 / 02 02 / 06 01 00 / 1B 01 00 01 / 02 02 / 0A 01 00 / 07 01 00 01", with the map byte of row 1 given.
+unfoldable pub panelAndProbeBytes : ℕ → List ℕ
+panelAndProbeBytes map =
+    0x02 ∷ 0x02
+    ∷ 0x02 ∷ 0x02
+    ∷ 0x06 ∷ 0x01 ∷ 0x00
+    ∷ map ∷ 0x01 ∷ 0x00 ∷ 0x01
+    ∷ 0x02 ∷ 0x02
+    ∷ 0x0A ∷ 0x01 ∷ 0x00
+    ∷ 0x07 ∷ 0x01 ∷ 0x00 ∷ 0x01
+    ∷ []
+
+-- "Plant A".
+abbrev pub fileA : List ℕ
+fileA = panelAndProbeBytes 0x1B
+
+-- "A with 0B for 1B (plant B)".
+abbrev pub fileB : List ℕ
+fileB = panelAndProbeBytes 0x0B
+
+-- "One machine, one state, no rows, no types".
+unfoldable pub oneState : List ℕ
+oneState = 0x01 ∷ 0x00 ∷ 0x01 ∷ 0x00 ∷ []
+
+-- "That machine with one row 00", or "with 10".
+unfoldable pub oneRow : ℕ → List ℕ
+oneRow map = 0x01 ∷ 0x00 ∷ 0x01 ∷ 0x01 ∷ map ∷ []
+
+-- Three machines, six types, and the two clients of the published test's running example: each sends a request, takes an
+-- acknowledgement, computes (client 0 with progress) and sends a release.
+unfoldable pub clients : List ℕ
+clients =
+    0x03 ∷ 0x06
+    ∷ 0x04 ∷ 0x04
+    ∷ 0x06 ∷ 0x01 ∷ 0x00
+    ∷ 0x0B ∷ 0x01 ∷ 0x02 ∷ 0x01
+    ∷ 0x13 ∷ 0x02 ∷ 0x03
+    ∷ 0x07 ∷ 0x03 ∷ 0x00 ∷ 0x02
+    ∷ 0x04 ∷ 0x04
+    ∷ 0x06 ∷ 0x01 ∷ 0x03
+    ∷ 0x0B ∷ 0x01 ∷ 0x02 ∷ 0x04
+    ∷ 0x03 ∷ 0x02 ∷ 0x03
+    ∷ 0x07 ∷ 0x03 ∷ 0x00 ∷ 0x05
+    ∷ []
+
+-- The running example: the server chooses whom to serve.
+unfoldable pub twoClients : List ℕ
+twoClients =
+    clients
+    ++ (
+    0x05 ∷ 0x06
+    ∷ 0x0A ∷ 0x01 ∷ 0x00
+    ∷ 0x07 ∷ 0x01 ∷ 0x02 ∷ 0x01
+    ∷ 0x0B ∷ 0x02 ∷ 0x00 ∷ 0x02
+    ∷ 0x0B ∷ 0x00 ∷ 0x03 ∷ 0x03
+    ∷ 0x07 ∷ 0x03 ∷ 0x04 ∷ 0x04
+    ∷ 0x0B ∷ 0x04 ∷ 0x00 ∷ 0x05
+    ∷ [])
+
+-- The corrected example: the server serves the clients in turn.
+unfoldable pub twoClientsInTurn : List ℕ
+twoClientsInTurn =
+    clients
+    ++ (
+    0x06 ∷ 0x06
+    ∷ 0x0A ∷ 0x01 ∷ 0x00
+    ∷ 0x07 ∷ 0x01 ∷ 0x02 ∷ 0x01
+    ∷ 0x0B ∷ 0x02 ∷ 0x03 ∷ 0x02
+    ∷ 0x0B ∷ 0x03 ∷ 0x04 ∷ 0x03
+    ∷ 0x07 ∷ 0x04 ∷ 0x05 ∷ 0x04
+    ∷ 0x0B ∷ 0x05 ∷ 0x00 ∷ 0x05
+    ∷ [])

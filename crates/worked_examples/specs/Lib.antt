@@ -1,0 +1,3 @@
+-- The starred worked examples: the files, and the table of what is said of them.
+pub mod Files
+pub mod Table

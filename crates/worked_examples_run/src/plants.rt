@@ -1,0 +1,44 @@
+// The plant files of the worked examples.
+
+// Plant A: the panel and the probe.
+pub const PLANT_A: [u8; 20] =
+    *b"\x02\x02\x02\x02\x06\x01\x00\x1B\x01\x00\x01\x02\x02\x0A\x01\x00\x07\x01\x00\x01";
+
+// Plant B: plant A with 0B for 1B, so that no row has progress.
+pub const PLANT_B: [u8; 20] =
+    *b"\x02\x02\x02\x02\x06\x01\x00\x0B\x01\x00\x01\x02\x02\x0A\x01\x00\x07\x01\x00\x01";
+
+// One machine, one state, no rows, no types.
+pub const ONE_STATE: [u8; 4] = *b"\x01\x00\x01\x00";
+
+// That machine with one row 00.
+pub const QUIET_ROW: [u8; 5] = *b"\x01\x00\x01\x01\x00";
+
+// That machine with one row 10.
+pub const PROGRESS_ROW: [u8; 5] = *b"\x01\x00\x01\x01\x10";
+
+// One machine of 64 states.
+pub const STATES_64: [u8; 4] = *b"\x01\x00\x40\x00";
+
+// One machine of 65 states.
+pub const STATES_65: [u8; 4] = *b"\x01\x00\x41\x00";
+
+// One machine of two states whose only cycle is at state 1.
+pub const CYCLE_AT_STATE_1: [u8; 6] = *b"\x01\x00\x02\x01\x01\x01";
+
+// Rows 0 and 1 lead from state 0 to state 1, and row 2 leads back.
+pub const PARALLEL_ROWS: [u8; 11] = *b"\x01\x00\x02\x03\x02\x01\x02\x01\x03\x01\x00";
+
+// Row 0 is at state 1 and row 1 at state 0.
+pub const ROWS_BEFORE_STATES: [u8; 8] = *b"\x01\x00\x02\x02\x01\x01\x01\x00";
+
+// Machine 0 has one state, machine 1 has two.
+pub const FIRST_SMALLER: [u8; 6] = *b"\x02\x00\x01\x00\x02\x00";
+
+// The published test's running example: two clients, and a server that chooses between them.
+pub const TWO_CLIENTS: [u8; 59] =
+    *b"\x03\x06\x04\x04\x06\x01\x00\x0B\x01\x02\x01\x13\x02\x03\x07\x03\x00\x02\x04\x04\x06\x01\x03\x0B\x01\x02\x04\x03\x02\x03\x07\x03\x00\x05\x05\x06\x0A\x01\x00\x07\x01\x02\x01\x0B\x02\x00\x02\x0B\x00\x03\x03\x07\x03\x04\x04\x0B\x04\x00\x05";
+
+// The corrected example: the server serves the two clients in turn.
+pub const TWO_CLIENTS_IN_TURN: [u8; 59] =
+    *b"\x03\x06\x04\x04\x06\x01\x00\x0B\x01\x02\x01\x13\x02\x03\x07\x03\x00\x02\x04\x04\x06\x01\x03\x0B\x01\x02\x04\x03\x02\x03\x07\x03\x00\x05\x06\x06\x0A\x01\x00\x07\x01\x02\x01\x0B\x02\x03\x02\x0B\x03\x04\x03\x07\x04\x05\x04\x0B\x05\x00\x05";

@@ -1,0 +1,145 @@
+//! Safe wrappers around the C interface of Hemtaluq: slices in, enums out.
+
+/// Why a call was refused: the number of the fault and where it was met.
+#[derive(Debug, Clone, Copy, PartialEq, Eq)]
+pub struct Fault {
+    pub number: u8,
+    pub place: usize,
+}
+
+/// The counts of a plant file.
+#[derive(Debug, Clone, Copy, PartialEq, Eq)]
+pub struct Counts {
+    pub machines: usize,
+    pub types: u8,
+    pub rows: usize,
+}
+
+/// What weighing says: F, n and G, or the rows of a quiet simple cycle that weighs zero or more.
+#[derive(Debug, Clone, PartialEq, Eq)]
+pub enum Weighed {
+    Passed { base: u64, states: u64, per_progress: u64 },
+    Cycle(Vec<u16>),
+}
+
+/// A ceiling and its price class.
+#[derive(Debug, Clone, Copy, PartialEq, Eq)]
+pub struct Quote {
+    pub ceiling: u64,
+    pub price_class: u32,
+}
+
+/// What confirming says: balanced, or the lowest type with a negative sum, and that sum.
+#[derive(Debug, Clone, Copy, PartialEq, Eq)]
+pub enum Confirmed {
+    Balanced,
+    Negative { message_type: usize, sum: i64 },
+}
+
+#[repr(C)]
+struct ReadAnswer {
+    kind: u8,
+    number: u8,
+    types: u8,
+    place: usize,
+    machines: usize,
+    rows: usize,
+}
+
+#[repr(C)]
+struct WeighAnswer {
+    kind: u8,
+    number: u8,
+    place: usize,
+    base: u64,
+    states: u64,
+    per_progress: u64,
+    rows: usize,
+}
+
+#[repr(C)]
+struct QuoteAnswer {
+    kind: u8,
+    number: u8,
+    price_class: u32,
+    place: usize,
+    ceiling: u64,
+}
+
+#[repr(C)]
+struct ListAnswer {
+    kind: u8,
+    number: u8,
+    place: usize,
+    entries: usize,
+}
+
+#[repr(C)]
+struct ConfirmAnswer {
+    kind: u8,
+    number: u8,
+    place: usize,
+    message_type: usize,
+    sum: i64,
+}
+
+const REFUSED: u8 = 0;
+const CYCLE: u8 = 3;
+const NEGATIVE: u8 = 7;
+
+#[link(name = "hemtaluq", kind = "static")]
+extern "C" {
+    fn hemtaluq_read(file: *const u8, file_length: usize) -> ReadAnswer;
+    fn hemtaluq_weigh(file: *const u8, file_length: usize, weights: *const u16, weight_count: usize, cycle: *mut u16, cycle_length: usize) -> WeighAnswer;
+    fn hemtaluq_quote(file: *const u8, file_length: usize, weights: *const u16, weight_count: usize, contents: *const u32, content_count: usize, g: u32) -> QuoteAnswer;
+    fn hemtaluq_list(file: *const u8, file_length: usize, machine: u32, out: *mut u16, out_length: usize) -> ListAnswer;
+    fn hemtaluq_confirm(file: *const u8, file_length: usize, set: *const u32, set_length: usize) -> ConfirmAnswer;
+}
+
+/// The counts of machines, types and rows of a plant file.
+pub fn read(file: &[u8]) -> Result<Counts, Fault> {
+    let a = unsafe { hemtaluq_read(file.as_ptr(), file.len()) };
+    if a.kind == REFUSED {
+        return Err(Fault { number: a.number, place: a.place });
+    }
+    Ok(Counts { machines: a.machines, types: a.types, rows: a.rows })
+}
+
+/// Whether weights pass.
+pub fn weigh(file: &[u8], weights: &[u16]) -> Result<Weighed, Fault> {
+    let mut cycle = [0u16; 64];
+    let a = unsafe { hemtaluq_weigh(file.as_ptr(), file.len(), weights.as_ptr(), weights.len(), cycle.as_mut_ptr(), cycle.len()) };
+    match a.kind {
+        REFUSED => Err(Fault { number: a.number, place: a.place }),
+        CYCLE => Ok(Weighed::Cycle(cycle[..a.rows].to_vec())),
+        _ => Ok(Weighed::Passed { base: a.base, states: a.states, per_progress: a.per_progress }),
+    }
+}
+
+/// The ceiling for contents and g.
+pub fn quote(file: &[u8], weights: &[u16], contents: &[u32], g: u32) -> Result<Quote, Fault> {
+    let a = unsafe { hemtaluq_quote(file.as_ptr(), file.len(), weights.as_ptr(), weights.len(), contents.as_ptr(), contents.len(), g) };
+    if a.kind == REFUSED {
+        return Err(Fault { number: a.number, place: a.place });
+    }
+    Ok(Quote { ceiling: a.ceiling, price_class: a.price_class })
+}
+
+/// The simple cycles of a machine: row count, then rows, in the front of `out`; how many entries were used.
+pub fn list(file: &[u8], machine: u32, out: &mut [u16]) -> Result<usize, Fault> {
+    let a = unsafe { hemtaluq_list(file.as_ptr(), file.len(), machine, out.as_mut_ptr(), out.len()) };
+    if a.kind == REFUSED {
+        return Err(Fault { number: a.number, place: a.place });
+    }
+    Ok(a.entries)
+}
+
+/// Whether a set of repeated quiet cycles is balanced.
+pub fn confirm(file: &[u8], set: &[u32]) -> Result<Confirmed, Fault> {
+    let a = unsafe { hemtaluq_confirm(file.as_ptr(), file.len(), set.as_ptr(), set.len()) };
+    match a.kind {
+        REFUSED => Err(Fault { number: a.number, place: a.place }),
+        NEGATIVE => Ok(Confirmed::Negative { message_type: a.message_type, sum: a.sum }),
+        _ => Ok(Confirmed::Balanced),
+    }
+}

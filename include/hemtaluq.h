@@ -1,0 +1,144 @@
+/* Hemtaluq: ceilings for plants on a message bus. The C interface of the proved calls.
+ *
+ * A plant is given as the bytes of a plant file. Every call reads them anew, judges every length and every number that it
+ * is given, and keeps nothing. No call allocates, blocks, or keeps a pointer.
+ *
+ * The caller's part: every pointer is valid for its length, aligned, and not null, for length 0 too; and a list that a
+ * call may write to (cycle, out) overlaps nothing else that the call is given.
+ *
+ * Every answer has a kind. With HEMTALUQ_REFUSED, number and place say which fault was met first and where. Fields that
+ * an answer does not use are 0, and a list that was lent keeps its contents unless the kind says that it was written.
+ */
+#ifndef HEMTALUQ_H
+#define HEMTALUQ_H
+
+#include <stddef.h>
+#include <stdint.h>
+
+#ifdef __cplusplus
+extern "C" {
+#endif
+
+/* What an answer is. */
+enum hemtaluq_kind {
+    HEMTALUQ_REFUSED = 0,   /* a fault: number and place */
+    HEMTALUQ_COUNTS = 1,    /* read: the file reads as a plant */
+    HEMTALUQ_PASSED = 2,    /* weigh: every quiet simple cycle weighs below zero */
+    HEMTALUQ_CYCLE = 3,     /* weigh: a quiet simple cycle that weighs zero or more was written to the lent list */
+    HEMTALUQ_CEILING = 4,   /* quote: a ceiling and its price class */
+    HEMTALUQ_LISTED = 5,    /* list: the simple cycles were written to the lent list */
+    HEMTALUQ_CONFIRMED = 6, /* confirm: the set is balanced */
+    HEMTALUQ_NEGATIVE = 7   /* confirm: a type's sum is below zero */
+};
+
+/* The number of a refusal, and what its place is. */
+enum hemtaluq_fault {
+    HEMTALUQ_FILE_ENDS = 1,         /* the file ends before a byte that it needs; the file's length */
+    HEMTALUQ_COUNT_LIMITS = 2,      /* count of machines or of types outside limits; that byte */
+    HEMTALUQ_STATE_LIMITS = 3,      /* a machine with 0 or more than 64 states; that byte */
+    HEMTALUQ_MAP_BYTE = 4,          /* bits 5 to 7 of a map byte, or bits 2 and 3 together; that byte */
+    HEMTALUQ_NOT_A_STATE = 5,       /* not a state of the machine; that byte */
+    HEMTALUQ_NOT_A_TYPE = 6,        /* not a type; that byte */
+    HEMTALUQ_TOTAL_ROWS = 7,        /* more than 1,024 rows so far; that byte */
+    HEMTALUQ_BYTES_REMAIN = 8,      /* bytes remain after the last row; the first of them */
+    HEMTALUQ_WEIGHT_COUNT = 9,      /* not one weight for each type; 0 */
+    HEMTALUQ_WEIGHT_LIMIT = 10,     /* a weight above 1,000; its index */
+    HEMTALUQ_CYCLE_ROOM = 11,       /* the lent cycle list is shorter than 64; 0 */
+    HEMTALUQ_NO_MACHINE = 12,       /* no such machine; 0 */
+    HEMTALUQ_MACHINE_SIZE = 13,     /* the machine has more than 24 states or 48 rows; 0 */
+    HEMTALUQ_LISTING_ROOM = 14,     /* the lent listing is shorter than the entries needed; 0 */
+    HEMTALUQ_SET_ENDS = 15,         /* the list ends within an entry; the list's length */
+    HEMTALUQ_SET_NUMBER = 16,       /* machine, repeats, row count or row number outside limits; its index */
+    HEMTALUQ_NOT_QUIET_CYCLE = 17,  /* not a quiet simple cycle of the machine; index of the entry's first number */
+    HEMTALUQ_SET_ENTRIES = 18,      /* the list is empty, or a 257th entry begins; the index where it begins */
+    HEMTALUQ_CONTENT_COUNT = 20,    /* not one content for each type; 0 */
+    HEMTALUQ_AMOUNT_LIMIT = 21,     /* a content or g above 1,000,000; its index, for g the type count */
+    HEMTALUQ_NOT_PASSING = 22       /* the weights do not pass; 0 */
+};
+
+/* Limits. */
+#define HEMTALUQ_MOST_MACHINES 16
+#define HEMTALUQ_MOST_TYPES 64
+#define HEMTALUQ_MOST_STATES 64         /* of one machine */
+#define HEMTALUQ_MOST_ROWS 1024         /* of all machines together */
+#define HEMTALUQ_LONGEST_FILE 4130      /* bytes of the longest file that reads as a plant */
+#define HEMTALUQ_LARGEST_WEIGHT 1000
+#define HEMTALUQ_LARGEST_AMOUNT 1000000 /* a content, g, or the repeats of an entry */
+#define HEMTALUQ_CYCLE_ENTRIES 64       /* the least length of the list lent to hemtaluq_weigh */
+#define HEMTALUQ_LISTED_STATES 24       /* the most states of a machine that is listed */
+#define HEMTALUQ_LISTED_ROWS 48         /* the most rows of a machine that is listed */
+#define HEMTALUQ_MOST_ENTRIES 256       /* of a cycle set */
+#define HEMTALUQ_LARGEST_CEILING UINT64_C(8192127513008)
+
+/* The counts of machines, types and rows of a plant file. */
+typedef struct {
+    uint8_t kind;    /* HEMTALUQ_COUNTS or HEMTALUQ_REFUSED */
+    uint8_t number;  /* refused: the number of the fault */
+    uint8_t types;   /* counts: message types, 0 to 64 */
+    size_t place;    /* refused: where it was met */
+    size_t machines; /* counts: machines, 1 to 16 */
+    size_t rows;     /* counts: rows of all machines, 0 to 1,024 */
+} hemtaluq_read_answer;
+
+hemtaluq_read_answer hemtaluq_read(const uint8_t *file, size_t file_length);
+
+/* Whether weights pass: one for each type, 0 to 1,000. The list cycle has at least 64 entries.
+ * Passed: from any states and any contents, in whichever order the machines move and whatever the bus loses, the quiet
+ * rows that happen number at most base + states * W + per_progress * g, where W sums weight times opening content over
+ * the types and g counts the progress rows that happen. The list keeps its contents.
+ * Cycle: the first entries of the list are the rows of a quiet simple cycle that weighs zero or more, in running order;
+ * its later entries are kept. */
+typedef struct {
+    uint8_t kind;          /* HEMTALUQ_PASSED, HEMTALUQ_CYCLE or HEMTALUQ_REFUSED */
+    uint8_t number;        /* refused: the number of the fault */
+    size_t place;          /* refused: where it was met */
+    uint64_t base;         /* passed: F */
+    uint64_t states;       /* passed: n, the most states in one machine */
+    uint64_t per_progress; /* passed: G */
+    size_t rows;           /* cycle: how many rows are shown, 1 to 64 */
+} hemtaluq_weigh_answer;
+
+hemtaluq_weigh_answer hemtaluq_weigh(const uint8_t *file, size_t file_length, const uint16_t *weights, size_t weight_count,
+                                     uint16_t *cycle, size_t cycle_length);
+
+/* The ceiling F + n * W + G * g for weights, contents (one for each type) and g, each at most 1,000,000: no run that
+ * opens with these contents, from any states, with at most g progress rows, has more quiet rows. */
+typedef struct {
+    uint8_t kind;         /* HEMTALUQ_CEILING or HEMTALUQ_REFUSED */
+    uint8_t number;       /* refused: the number of the fault */
+    uint32_t price_class; /* ceiling: how many of the 43 edges 1, 2, 4, ... are not above it, 0 to 43 */
+    size_t place;         /* refused: where it was met */
+    uint64_t ceiling;     /* ceiling: the figure, at most HEMTALUQ_LARGEST_CEILING */
+} hemtaluq_quote_answer;
+
+hemtaluq_quote_answer hemtaluq_quote(const uint8_t *file, size_t file_length, const uint16_t *weights, size_t weight_count,
+                                     const uint32_t *contents, size_t content_count, uint32_t g);
+
+/* Every simple cycle of one machine, quiet or not, each once: its row count, then its rows, beginning with the row that
+ * leaves its lowest state; cycles in ascending order of their row numbers, compared from the first row on. */
+typedef struct {
+    uint8_t kind;   /* HEMTALUQ_LISTED or HEMTALUQ_REFUSED */
+    uint8_t number; /* refused: the number of the fault */
+    size_t place;   /* refused: where it was met */
+    size_t entries; /* listed: how many entries of out were used; the rest is kept */
+} hemtaluq_list_answer;
+
+hemtaluq_list_answer hemtaluq_list(const uint8_t *file, size_t file_length, uint32_t machine, uint16_t *out, size_t out_length);
+
+/* Whether a set of repeated quiet cycles sends at least what it takes of each type. The list holds 1 to 256 entries:
+ * machine, repeats (1 to 1,000,000), row count (1 to 64), rows, which may begin anywhere on the cycle. */
+typedef struct {
+    uint8_t kind;        /* HEMTALUQ_CONFIRMED, HEMTALUQ_NEGATIVE or HEMTALUQ_REFUSED */
+    uint8_t number;      /* refused: the number of the fault */
+    size_t place;        /* refused: where it was met */
+    size_t message_type; /* negative: the lowest type whose sum is below zero */
+    int64_t sum;         /* negative: that sum */
+} hemtaluq_confirm_answer;
+
+hemtaluq_confirm_answer hemtaluq_confirm(const uint8_t *file, size_t file_length, const uint32_t *set, size_t set_length);
+
+#ifdef __cplusplus
+}
+#endif
+
+#endif

@@ -1,0 +1,216 @@
+/* Calls every function of the C interface at its edges. The expected answers are written from the scope document. */
+#include <stdio.h>
+#include <string.h>
+#include "hemtaluq.h"
+
+#define LENGTH(list) (sizeof(list) / sizeof((list)[0]))
+
+static int checks, failed;
+
+static void check(const char *what, int good) {
+    checks++;
+    if (!good) {
+        failed++;
+        printf("interface.c: wrong: %s\n", what);
+    }
+}
+
+/* Lists of length 0 that are lent still have a valid pointer. */
+static const uint8_t no_bytes[1] = {0};
+static const uint16_t no_weights[1] = {0};
+static const uint32_t no_numbers[1] = {0};
+static uint16_t no_entries[1];
+
+static const uint8_t plant_a[] = {2, 2, 2, 2, 0x06, 1, 0, 0x1B, 1, 0, 1, 2, 2, 0x0A, 1, 0, 0x07, 1, 0, 1};
+static const uint8_t plant_b[] = {2, 2, 2, 2, 0x06, 1, 0, 0x0B, 1, 0, 1, 2, 2, 0x0A, 1, 0, 0x07, 1, 0, 1};
+static const uint8_t one_state[] = {1, 0, 1, 0};
+static const uint16_t weights_2_1[] = {2, 1};
+
+/* The largest plant: 16 machines of 64 states, 64 types, 1,024 rows of four bytes. */
+static uint8_t largest[HEMTALUQ_LONGEST_FILE + 1];
+
+static void make_largest(void) {
+    size_t at = 0;
+    largest[at++] = 16;
+    largest[at++] = 64;
+    for (int m = 0; m < 16; m++) {
+        largest[at++] = 64;
+        largest[at++] = 64;
+        for (int k = 0; k < 64; k++) {
+            largest[at++] = 0x0B;
+            largest[at++] = (uint8_t)k;
+            largest[at++] = (uint8_t)((k + 1) % 64);
+            largest[at++] = (uint8_t)((k + m) % 64);
+        }
+    }
+    check("the longest file has 4,130 bytes", at == HEMTALUQ_LONGEST_FILE);
+}
+
+static void read_is(const char *what, const uint8_t *file, size_t length, hemtaluq_read_answer e) {
+    hemtaluq_read_answer a = hemtaluq_read(file, length);
+    check(what, a.kind == e.kind && a.number == e.number && a.types == e.types && a.place == e.place && a.machines == e.machines && a.rows == e.rows);
+}
+
+static void read_refused(const char *what, const uint8_t *file, size_t length, uint8_t number, size_t place) {
+    hemtaluq_read_answer e = {HEMTALUQ_REFUSED, number, 0, place, 0, 0};
+    read_is(what, file, length, e);
+}
+
+static void reading(void) {
+    hemtaluq_read_answer a = {HEMTALUQ_COUNTS, 0, 2, 0, 2, 4}, most = {HEMTALUQ_COUNTS, 0, 64, 0, 16, 1024};
+    const uint8_t machines_17[] = {17, 0}, states_65[] = {1, 0, 65, 0}, map[] = {1, 0, 1, 1, 0x20}, both[] = {1, 1, 1, 1, 0x0C, 0, 0};
+    const uint8_t state[] = {1, 0, 2, 1, 0x01, 2}, type[] = {1, 1, 1, 1, 0x04, 1}, more[] = {1, 0, 1, 0, 0};
+    uint8_t rows[5 + 4 * 257 + 2];
+    size_t at = 0;
+    rows[at++] = 5;
+    rows[at++] = 0;
+    for (int m = 0; m < 4; m++) {
+        rows[at++] = 1;
+        rows[at++] = 255;
+        memset(rows + at, 0, 255);
+        at += 255;
+    }
+    rows[at++] = 1;
+    rows[at++] = 5;
+    read_is("plant A", plant_a, sizeof plant_a, a);
+    read_is("the largest plant", largest, HEMTALUQ_LONGEST_FILE, most);
+    read_refused("an empty file", no_bytes, 0, HEMTALUQ_FILE_ENDS, 0);
+    read_refused("the largest plant cut", largest, HEMTALUQ_LONGEST_FILE - 1, HEMTALUQ_FILE_ENDS, HEMTALUQ_LONGEST_FILE - 1);
+    read_refused("17 machines", machines_17, sizeof machines_17, HEMTALUQ_COUNT_LIMITS, 0);
+    read_refused("65 states", states_65, sizeof states_65, HEMTALUQ_STATE_LIMITS, 2);
+    read_refused("bit 5", map, sizeof map, HEMTALUQ_MAP_BYTE, 4);
+    read_refused("bits 2 and 3", both, sizeof both, HEMTALUQ_MAP_BYTE, 4);
+    read_refused("state 2 of 2", state, sizeof state, HEMTALUQ_NOT_A_STATE, 5);
+    read_refused("type 1 of 1", type, sizeof type, HEMTALUQ_NOT_A_TYPE, 5);
+    read_refused("1,025 rows", rows, at, HEMTALUQ_TOTAL_ROWS, at - 1);
+    read_refused("a byte too many", more, sizeof more, HEMTALUQ_BYTES_REMAIN, 4);
+    read_refused("a byte after the largest plant", largest, sizeof largest, HEMTALUQ_BYTES_REMAIN, HEMTALUQ_LONGEST_FILE);
+}
+
+/* Weighs with a list of sevens and checks the answer, and that the list from `kept` on still holds sevens. */
+static void weigh_is(const char *what, const uint8_t *file, size_t length, const uint16_t *weights, size_t count, size_t room, hemtaluq_weigh_answer e, size_t kept) {
+    uint16_t cycle[70];
+    int good = 1;
+    for (size_t i = 0; i < 70; i++) cycle[i] = 7;
+    hemtaluq_weigh_answer a = hemtaluq_weigh(file, length, weights, count, cycle, room);
+    for (size_t i = kept; i < 70; i++) good = good && cycle[i] == 7;
+    check(what, good && a.kind == e.kind && a.number == e.number && a.place == e.place && a.base == e.base && a.states == e.states
+                    && a.per_progress == e.per_progress && a.rows == e.rows);
+}
+
+static void weighing(void) {
+    const uint16_t w10[] = {1, 0}, w11[] = {1, 1}, high[] = {1000, 1001}, three[] = {1, 2, 3};
+    hemtaluq_weigh_answer p21 = {HEMTALUQ_PASSED, 0, 0, 10, 2, 9, 0}, p10 = {HEMTALUQ_PASSED, 0, 0, 6, 2, 5, 0};
+    hemtaluq_weigh_answer shown = {HEMTALUQ_CYCLE, 0, 0, 0, 0, 0, 2}, none = {HEMTALUQ_PASSED, 0, 0, 0, 1, 0, 0};
+    hemtaluq_weigh_answer r9 = {HEMTALUQ_REFUSED, 9, 0, 0, 0, 0, 0}, r10 = {HEMTALUQ_REFUSED, 10, 1, 0, 0, 0, 0}, r11 = {HEMTALUQ_REFUSED, 11, 0, 0, 0, 0, 0};
+    uint16_t cycle[64], ones[64];
+    for (size_t t = 0; t < 64; t++) ones[t] = 1;
+    weigh_is("A, weights 2, 1", plant_a, sizeof plant_a, weights_2_1, 2, 64, p21, 0);
+    weigh_is("A, weights 1, 0", plant_a, sizeof plant_a, w10, 2, 70, p10, 0);
+    weigh_is("A, weights 1, 1", plant_a, sizeof plant_a, w11, 2, 64, shown, 2);
+    weigh_is("one state, no types", one_state, sizeof one_state, no_weights, 0, 64, none, 0);
+    weigh_is("a weight too many", plant_a, sizeof plant_a, three, 3, 64, r9, 0);
+    weigh_is("weight 1,001", plant_a, sizeof plant_a, high, 2, 64, r10, 0);
+    weigh_is("a list of 63", plant_a, sizeof plant_a, weights_2_1, 2, 63, r11, 0);
+    hemtaluq_weigh_answer a = hemtaluq_weigh(plant_a, sizeof plant_a, w11, 2, cycle, 64);
+    check("the probe's rows are shown", a.rows == 2 && ((cycle[0] == 2 && cycle[1] == 3) || (cycle[0] == 3 && cycle[1] == 2)));
+    a = hemtaluq_weigh(largest, HEMTALUQ_LONGEST_FILE, ones, 64, cycle, 64);
+    /* S is 16 * 63, n 64 and w 1. */
+    check("the largest plant passes", a.kind == HEMTALUQ_PASSED && a.base == 1008 + 64 * 1008 && a.states == 64 && a.per_progress == 63 + 64 * 64);
+}
+
+static void quote_is(const char *what, const uint8_t *file, size_t length, const uint16_t *weights, size_t count, const uint32_t *contents, size_t amounts, uint32_t g, hemtaluq_quote_answer e) {
+    hemtaluq_quote_answer a = hemtaluq_quote(file, length, weights, count, contents, amounts, g);
+    check(what, a.kind == e.kind && a.number == e.number && a.place == e.place && a.ceiling == e.ceiling && a.price_class == e.price_class);
+}
+
+static void quoting(void) {
+    const uint32_t c34[] = {3, 4}, most[] = {1000000, 1000000}, above[] = {1000000, 1000001};
+    const uint16_t w11[] = {1, 1};
+    const uint8_t machines[] = {16, 64, 64, 0, 64, 0, 64, 0, 64, 0, 64, 0, 64, 0, 64, 0, 64, 0, 64, 0, 64, 0, 64, 0, 64, 0, 64, 0, 64, 0, 64, 0, 64, 0};
+    hemtaluq_quote_answer q39 = {HEMTALUQ_CEILING, 0, 6, 0, 39}, zero = {HEMTALUQ_CEILING, 0, 0, 0, 0}, top = {HEMTALUQ_CEILING, 0, 43, 0, HEMTALUQ_LARGEST_CEILING};
+    hemtaluq_quote_answer millions = {HEMTALUQ_CEILING, 0, 23, 0, 10 + 2 * 3000000};
+    hemtaluq_quote_answer r20 = {HEMTALUQ_REFUSED, 20, 0, 0, 0}, r21 = {HEMTALUQ_REFUSED, 21, 0, 1, 0}, rg = {HEMTALUQ_REFUSED, 21, 0, 2, 0}, r22 = {HEMTALUQ_REFUSED, 22, 0, 0, 0};
+    uint16_t weights[64];
+    uint32_t contents[64];
+    for (size_t t = 0; t < 64; t++) {
+        weights[t] = HEMTALUQ_LARGEST_WEIGHT;
+        contents[t] = HEMTALUQ_LARGEST_AMOUNT;
+    }
+    quote_is("A, contents 3, 4, g 1", plant_a, sizeof plant_a, weights_2_1, 2, c34, 2, 1, q39);
+    quote_is("one state", one_state, sizeof one_state, no_weights, 0, no_numbers, 0, 0, zero);
+    quote_is("the largest ceiling", machines, sizeof machines, weights, 64, contents, 64, HEMTALUQ_LARGEST_AMOUNT, top);
+    quote_is("contents of 1,000,000", plant_a, sizeof plant_a, weights_2_1, 2, most, 2, 0, millions);
+    quote_is("a content too few", plant_a, sizeof plant_a, weights_2_1, 2, c34, 1, 1, r20);
+    quote_is("content 1,000,001", plant_a, sizeof plant_a, weights_2_1, 2, above, 2, 1, r21);
+    quote_is("g 1,000,001", plant_a, sizeof plant_a, weights_2_1, 2, c34, 2, 1000001, rg);
+    quote_is("weights that do not pass", plant_a, sizeof plant_a, w11, 2, c34, 2, 1, r22);
+}
+
+static void list_is(const char *what, const uint8_t *file, size_t length, uint32_t machine, size_t room, hemtaluq_list_answer e, const uint16_t *after) {
+    uint16_t out[8] = {7, 7, 7, 7, 7, 7, 7, 7};
+    hemtaluq_list_answer a = hemtaluq_list(file, length, machine, out, room);
+    check(what, a.kind == e.kind && a.number == e.number && a.place == e.place && a.entries == e.entries && memcmp(out, after, sizeof out) == 0);
+}
+
+static void listing(void) {
+    const uint16_t kept[8] = {7, 7, 7, 7, 7, 7, 7, 7}, probe[8] = {2, 2, 3, 7, 7, 7, 7, 7};
+    const uint8_t states_25[] = {1, 0, 25, 0};
+    hemtaluq_list_answer three = {HEMTALUQ_LISTED, 0, 0, 3}, none = {HEMTALUQ_LISTED, 0, 0, 0};
+    hemtaluq_list_answer r12 = {HEMTALUQ_REFUSED, 12, 0, 0}, r13 = {HEMTALUQ_REFUSED, 13, 0, 0}, r14 = {HEMTALUQ_REFUSED, 14, 0, 0};
+    list_is("A's machine 1, lent 8", plant_a, sizeof plant_a, 1, 8, three, probe);
+    list_is("A's machine 1, lent 3", plant_a, sizeof plant_a, 1, 3, three, probe);
+    list_is("A's machine 1, lent 2", plant_a, sizeof plant_a, 1, 2, r14, kept);
+    list_is("no rows, lent 0", one_state, sizeof one_state, 0, 0, none, kept);
+    list_is("machine 2 of 2", plant_a, sizeof plant_a, 2, 8, r12, kept);
+    list_is("machine 4,294,967,295", plant_a, sizeof plant_a, 4294967295u, 8, r12, kept);
+    list_is("25 states", states_25, sizeof states_25, 0, 8, r13, kept);
+    hemtaluq_list_answer a = hemtaluq_list(largest, HEMTALUQ_LONGEST_FILE, 15, no_entries, 0);
+    check("the largest plant's machine 15", a.kind == HEMTALUQ_REFUSED && a.number == HEMTALUQ_MACHINE_SIZE);
+}
+
+static void confirm_is(const char *what, const uint8_t *file, size_t length, const uint32_t *set, size_t count, hemtaluq_confirm_answer e) {
+    hemtaluq_confirm_answer a = hemtaluq_confirm(file, length, set, count);
+    check(what, a.kind == e.kind && a.number == e.number && a.place == e.place && a.message_type == e.message_type && a.sum == e.sum);
+}
+
+static void confirming(void) {
+    const uint32_t both[] = {0, 1, 2, 0, 1, 1, 1, 2, 2, 3}, wrong[] = {0, 1, 2, 0, 1, 1, 1, 2, 2, 2}, far[] = {0, 1, 2, 0, 4};
+    hemtaluq_confirm_answer yes = {HEMTALUQ_CONFIRMED, 0, 0, 0, 0}, no = {HEMTALUQ_NEGATIVE, 0, 0, 1, -1}, least = {HEMTALUQ_NEGATIVE, 0, 0, 63, -16384000000};
+    hemtaluq_confirm_answer r15 = {HEMTALUQ_REFUSED, 15, 4, 0, 0}, r16 = {HEMTALUQ_REFUSED, 16, 4, 0, 0}, r17 = {HEMTALUQ_REFUSED, 17, 5, 0, 0};
+    hemtaluq_confirm_answer r18 = {HEMTALUQ_REFUSED, 18, 0, 0, 0}, many = {HEMTALUQ_REFUSED, 18, 256 * 5, 0, 0}, a17 = {HEMTALUQ_REFUSED, 17, 0, 0, 0};
+    static uint32_t entries[257 * 5], heavy[256 * 67];
+    static uint8_t taking[2 + 2 + 64 * 4];
+    for (size_t i = 0; i < LENGTH(entries); i++) entries[i] = both[i % 5];
+    taking[0] = 1;
+    taking[1] = 64;
+    taking[2] = taking[3] = 64;
+    for (size_t k = 0; k < 64; k++) {
+        uint8_t row[4] = {0x0B, (uint8_t)k, (uint8_t)((k + 1) % 64), 63};
+        memcpy(taking + 4 + 4 * k, row, 4);
+    }
+    for (size_t i = 0; i < LENGTH(heavy); i++) {
+        size_t j = i % 67;
+        heavy[i] = j == 0 ? 0 : j == 1 ? HEMTALUQ_LARGEST_AMOUNT : j == 2 ? 64 : (uint32_t)(j - 3);
+    }
+    confirm_is("B, both cycles once", plant_b, sizeof plant_b, both, 10, yes);
+    confirm_is("B, the panel's cycle alone", plant_b, sizeof plant_b, both, 5, no);
+    confirm_is("A, a progress cycle", plant_a, sizeof plant_a, both, 10, a17);
+    confirm_is("the list ends", plant_b, sizeof plant_b, both, 4, r15);
+    confirm_is("row 4 of 4", plant_b, sizeof plant_b, far, 5, r16);
+    confirm_is("a broken chain", plant_b, sizeof plant_b, wrong, 10, r17);
+    confirm_is("an empty list", plant_b, sizeof plant_b, no_numbers, 0, r18);
+    confirm_is("257 entries", plant_b, sizeof plant_b, entries, LENGTH(entries), many);
+    confirm_is("256 entries of 64 rows and 1,000,000 repeats", taking, sizeof taking, heavy, LENGTH(heavy), least);
+}
+
+int main(void) {
+    make_largest();
+    reading();
+    weighing();
+    quoting();
+    listing();
+    confirming();
+    printf("interface.c: %d checks, %d failed\n", checks, failed);
+    return failed != 0;
+}

@@ -1,0 +1,147 @@
+"""Compare `list` with a second implementation, on random plants and lent lists.
+
+The second one goes through all closed walks of a machine that leave no state twice, from every state, turns each so that
+it begins at its lowest state, drops what comes twice and sorts. `tests/compiled.py` runs it.
+"""
+import itertools
+import random
+import struct
+import subprocess
+import sys
+
+import reading
+
+CASES = 12000
+MOST_CYCLES = 3000
+
+
+# ---- the second implementation
+
+def cycles(plant, machine):
+    """The cycles of a machine in order, or None where there are too many for this test."""
+    _, _, rows = plant
+    mine = [(k, r[1], r[2]) for k, r in enumerate(rows) if r[0] == machine]
+    found, walks = set(), [((k,), (a,), b) for k, a, b in mine]
+    while walks:
+        path, left, at = walks.pop()
+        if at == left[0]:
+            turn = left.index(min(left))
+            found.add(path[turn:] + path[:turn])
+            if len(found) > MOST_CYCLES:
+                return None
+        elif at not in left:
+            walks += [(path + (k,), left + (a,), b) for k, a, b in mine if a == at]
+    return sorted(found)
+
+
+def owed(data, machine, before):
+    """The answer and the list afterwards, or None where this test does not judge."""
+    try:
+        plant = reading.read_plant(data)
+        if machine >= len(plant[1]):
+            raise reading.Fault(12, 0)
+        if plant[1][machine] > 24 or sum(r[0] == machine for r in plant[2]) > 48:
+            raise reading.Fault(13, 0)
+        listed = cycles(plant, machine)
+        if listed is None:
+            return None
+        entries = list(itertools.chain.from_iterable((len(c),) + c for c in listed))
+        if len(before) < len(entries):
+            raise reading.Fault(14, 0)
+    except reading.Fault as fault:
+        return 'refused %d %d' % fault.args, before
+    return 'entries %d' % len(entries), entries + before[len(entries):]
+
+
+# ---- cases
+
+def plant_file(rng):
+    machines = rng.choice([1, 1, 2, 3])
+    data = [machines, 1]
+    for _ in range(machines):
+        states = rng.choice([1, 2, 3, 4, 6, 24, 24, 25, 64])
+        count = rng.choice([0, 1, 2, 3, 5, 8, 12, 20, 48, 49])
+        if count > 12 and states < 24:
+            count = 8
+        data += [states, count]
+        near = rng.random() < 0.5
+        for _ in range(count):
+            left = rng.randrange(states)
+            entered = min(states - 1, rng.randrange(left + 2)) if near and count > 12 else rng.randrange(states)
+            data += [3 | rng.choice([0, 16, 4, 8]), left, entered]
+            data += [0] if data[-3] & 12 else []
+    return bytes(data)
+
+
+def ring(states, parallel):
+    rows = [row for s in range(states) for row in [3, s, (s + 1) % states] * parallel]
+    return bytes([1, 0, states, states * parallel] + rows)
+
+
+def cases(rng):
+    plant_a = bytes.fromhex('0202 0202 060100 1b010001 0202 0a0100 07010001')
+    for room in range(6):
+        yield plant_a, 1, [7] * room
+        yield bytes([1, 0, 2, 2, 3, 1, 1, 3, 0, 0]), 0, [7] * room
+    for states, rows in ((24, 48), (25, 48), (24, 49), (25, 49)):
+        yield bytes([1, 0, states, rows] + [3, states - 1, 0] * rows), 0, [7] * 8
+    for room in (0, 161, 162, 163, 5 * 243 + 243 - 1, 5 * 243 + 243, 2000):
+        yield ring(3, 3), 0, [9] * room
+        yield ring(5, 3), 0, [9] * room
+    for _ in range(CASES):
+        data = plant_file(rng)
+        if rng.random() < 0.03:
+            data = reading.damaged(rng, data)
+        machine = rng.choice([0] * 12 + [1, 1, 2, 3, 16, 4294967295])
+        answer = owed(data, machine, [0] * 65535)
+        if answer is None:
+            continue
+        needed = int(answer[0].split()[1]) if answer[0].startswith('entries') else 4
+        room = max(0, needed + rng.choice([-2, -1, -1, 0, 0, 0, 1, 5]))
+        yield data, machine, [rng.randrange(65536) for _ in range(room)]
+
+
+DRIVER = '''#include <stdio.h>
+#include <stdlib.h>
+#include "hemtaluq.h"
+int main(void) {
+    uint32_t head[3];
+    while (fread(head, 4, 3, stdin) == 3) {
+        uint8_t *file = malloc(head[0] + 1);
+        uint16_t *out = malloc(2 * head[2] + 2);
+        if (fread(file, 1, head[0], stdin) != head[0] || fread(out, 2, head[2], stdin) != head[2]) return 1;
+        hemtaluq_list_answer l = hemtaluq_list(file, head[0], head[1], out, head[2]);
+        if (l.kind == HEMTALUQ_LISTED) printf("entries %zu", l.entries);
+        if (l.kind == HEMTALUQ_REFUSED) printf("refused %d %zu", l.number, l.place);
+        printf(" :");
+        for (uint32_t i = 0; i < head[2]; i++) printf(" %d", out[i]);
+        printf("\\n");
+        free(file); free(out);
+    }
+    return 0;
+}
+'''
+
+
+def compare(driver, seed):
+    rng = random.Random(seed)
+    given = list(cases(rng))
+    stream = b''.join(struct.pack('<III', len(d), m, len(b)) + d + struct.pack('<%dH' % len(b), *b) for d, m, b in given)
+    printed = subprocess.run([driver], input=stream, capture_output=True, check=True).stdout.decode().split('\n')[:-1]
+    if len(printed) != len(given):
+        sys.exit('listing.py: %d answers to %d cases' % (len(printed), len(given)))
+    kinds, most = {}, 0
+    for (data, machine, before), line in zip(given, printed):
+        answer, after = line.split(' :')
+        expected, kept = owed(data, machine, before)
+        if answer != expected or [int(x) for x in after.split()] != kept:
+            sys.exit('listing.py: plant %s, machine %d, room %d: %s, but owed is %s :%s'
+                     % (data.hex(' '), machine, len(before), line[:400], expected, ''.join(' %d' % x for x in kept)[:400]))
+        kind = ' '.join(answer.split()[:2]) if answer.startswith('refused') else 'entries'
+        kinds[kind] = kinds.get(kind, 0) + 1
+        most = max(most, int(answer.split()[1])) if kind == 'entries' else most
+    for kind in ('entries', 'refused 12', 'refused 13', 'refused 14'):
+        if kinds.get(kind, 0) < 10:
+            sys.exit('listing.py: %s was met %d times only' % (kind, kinds.get(kind, 0)))
+    print('listing.py: seed %d: %d cases, of which %d list cycles (up to %d entries) and %d are refused with 14'
+          % (seed, len(given), kinds['entries'], most, kinds['refused 14']))

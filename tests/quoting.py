@@ -1,0 +1,136 @@
+"""Compare `quote` with a second implementation, on random plants, weights, contents and numbers of progress rows.
+
+The second one adds weights one message at a time and takes the class from the binary digits of the ceiling; whether the
+weights pass comes from weighing.py. For quotes that are given, a run that opens with the contents and puts progress off
+is held to the ceiling. `tests/compiled.py` runs it.
+"""
+import random
+import struct
+import subprocess
+import sys
+
+import reading
+import weighing
+
+CASES = 20000
+LARGEST = (bytes([16, 64] + [64, 0] * 16), [1000] * 64, [1000000] * 64, 1000000)
+PLANT_A = bytes.fromhex('0202 0202 060100 1b010001 0202 0a0100 07010001')
+
+
+# ---- the second implementation
+
+def owed(data, weights, contents, g):
+    """The line that is owed."""
+    try:
+        plant = reading.read_plant(data)
+        types = plant[0]
+        if len(weights) != types:
+            raise reading.Fault(9, 0)
+        for i, w in enumerate(weights):
+            if w > 1000:
+                raise reading.Fault(10, i)
+        if len(contents) != types:
+            raise reading.Fault(20, 0)
+        for i, x in enumerate(contents + [g]):
+            if x > 1000000:
+                raise reading.Fault(21, i)
+        if not weighing.passes(plant, weights):
+            raise reading.Fault(22, 0)
+    except reading.Fault as fault:
+        return 'refused %d %d' % fault.args
+    f, n, per_progress = weighing.figures(plant, weights)
+    ceiling = f + n * sum(w * x for w, x in zip(weights, contents)) + per_progress * g
+    return 'ceiling %d class %d' % (ceiling, len(bin(ceiling)) - 2 if ceiling else 0)
+
+
+# ---- cases
+
+def cases(rng):
+    yield LARGEST
+    yield PLANT_A, [2, 1], [3, 4], 1
+    for amount in (999999, 1000000, 1000001, 4294967295):
+        yield PLANT_A, [2, 1], [amount, 4], 1
+        yield PLANT_A, [2, 1], [3, amount], 1
+        yield PLANT_A, [2, 1], [3, 4], amount
+        yield PLANT_A, [1, 1], [3, 4], amount
+    yield bytes([1, 0, 1, 0]), [], [], 0
+    for _ in range(CASES):
+        data = weighing.plant_file(rng)
+        if rng.random() < 0.03:
+            data = reading.damaged(rng, data)
+        try:
+            types = reading.read_plant(data)[0]
+        except reading.Fault:
+            types = rng.randrange(4)
+        count = types + rng.choice([0] * 40 + [1])
+        largest = rng.choice([1, 3, 1000])
+        weights = [rng.randint(0, largest) for _ in range(count)]
+        if weights and rng.random() < 0.02:
+            weights[rng.randrange(count)] = 1001
+        contents = [rng.choice([0, 1, rng.randrange(1000), 1000000]) for _ in range(types + rng.choice([0] * 40 + [1]))]
+        if contents and rng.random() < 0.05:
+            contents[rng.randrange(len(contents))] = rng.choice([1000001, 4294967295])
+        yield data, weights, contents, rng.choice([0, 1, 2, rng.randrange(1000), 1000000] * 8 + [1000001, 4294967295])
+
+
+def hold_run(rng, data, weights, contents, g, ceiling):
+    """A run that opens with the contents, from random states, takes quiet rows while one can happen, and at most g others."""
+    types, states, rows = reading.read_plant(data)
+    state, content, quiet, progress = [rng.randrange(s) for s in states], list(contents), 0, 0
+    for _ in range(400):
+        can = [r for r in rows if state[r[0]] == r[1] and (r[4] is None or content[r[4]]) and (not r[5] or progress < g)]
+        if not can:
+            break
+        row = rng.choice([r for r in can if not r[5]] or can)
+        state[row[0]] = row[2]
+        for t, by in ((row[3], 1), (row[4], -1)):
+            if t is not None:
+                content[t] += by
+        quiet, progress = quiet + (not row[5]), progress + row[5]
+    if quiet > ceiling:
+        sys.exit('quoting.py: %d quiet rows, but the ceiling is %d: %s, weights %s' % (quiet, ceiling, data.hex(' '), weights))
+
+
+DRIVER = '''#include <stdio.h>
+#include <stdlib.h>
+#include "hemtaluq.h"
+int main(void) {
+    uint32_t head[4];
+    while (fread(head, 4, 4, stdin) == 4) {
+        uint8_t *file = malloc(head[0] + 1);
+        uint16_t *weights = malloc(2 * head[1] + 2);
+        uint32_t *contents = malloc(4 * head[2] + 4);
+        if (fread(file, 1, head[0], stdin) != head[0] || fread(weights, 2, head[1], stdin) != head[1] || fread(contents, 4, head[2], stdin) != head[2]) return 1;
+        hemtaluq_quote_answer q = hemtaluq_quote(file, head[0], weights, head[1], contents, head[2], head[3]);
+        if (q.kind == HEMTALUQ_CEILING) printf("ceiling %llu class %u\\n", (unsigned long long)q.ceiling, (unsigned)q.price_class);
+        if (q.kind == HEMTALUQ_REFUSED) printf("refused %d %zu\\n", q.number, q.place);
+        free(file); free(weights); free(contents);
+    }
+    return 0;
+}
+'''
+
+
+def compare(driver, seed):
+    rng = random.Random(seed)
+    given = list(cases(rng))
+    stream = b''.join(struct.pack('<IIII', len(d), len(w), len(c), g) + d + struct.pack('<%dH' % len(w), *w) + struct.pack('<%dI' % len(c), *c)
+                      for d, w, c, g in given)
+    printed = subprocess.run([driver], input=stream, capture_output=True, check=True).stdout.decode().split('\n')[:-1]
+    if len(printed) != len(given):
+        sys.exit('quoting.py: %d answers to %d cases' % (len(printed), len(given)))
+    kinds = {}
+    for (data, weights, contents, g), line in zip(given, printed):
+        expected = owed(data, weights, contents, g)
+        if line != expected:
+            sys.exit('quoting.py: plant %s, weights %s, contents %s, g %d: %s, but owed is %s' % (data.hex(' '), weights, contents, g, line, expected))
+        kind = ' '.join(line.split()[:2]) if line.startswith('refused') else 'ceiling'
+        kinds[kind] = kinds.get(kind, 0) + 1
+        if kind == 'ceiling' and rng.random() < 0.1:
+            hold_run(rng, data, weights, contents, g, int(line.split()[1]))
+    if printed[0] != 'ceiling 8192127513008 class 43' or printed[1] != 'ceiling 39 class 6':
+        sys.exit('quoting.py: %s and %s in place of the two figures of the scope document' % tuple(printed[:2]))
+    for kind in ('ceiling', 'refused 9', 'refused 10', 'refused 20', 'refused 21', 'refused 22'):
+        if kinds.get(kind, 0) < 10:
+            sys.exit('quoting.py: %s was met %d times only' % (kind, kinds.get(kind, 0)))
+    print('quoting.py: seed %d: %d cases, of which %d have a ceiling and %d are refused with 22' % (seed, len(given), kinds['ceiling'], kinds['refused 22']))
