@@ -1,0 +1,274 @@
+"""Part A: the five calls held against the independent implementation of evidence_independent.py, through the static library.
+
+- plants of many shapes (evidence_plants.py), each put to all five calls, but to no listing where cycles are too many to go through;
+- every truncation of a set of files, every other value of each of their bytes, every byte taken out, and bytes put in;
+- the edges of the older tests: the longest file, 1,024 and 1,025 rows, 256 and 257 entries, the largest ceiling;
+- for a set of plants every length of each list: weights, contents, the two lent lists, the cycle set cut off anywhere.
+"""
+import itertools
+import random
+import sys
+
+import cycle_sets
+import evidence_calls as calls
+import evidence_independent
+import evidence_plants as plants
+import listing
+import quoting
+import reading
+from evidence_independent import Refused, TooMany
+
+PLANTS = 20500
+# The planted errors, and the calls that must show them.
+ERRORS = [
+    (calls.CALLS, evidence_independent.READING_ERRORS),
+    (('weigh',), evidence_independent.WEIGHING_ERRORS),
+    (('quote',), evidence_independent.QUOTING_ERRORS),
+    (('list',), evidence_independent.LISTING_ERRORS),
+    (('confirm',), evidence_independent.CONFIRMING_ERRORS),
+]
+INDEPENDENT = evidence_independent.Independent()
+
+
+# ---- the comparison
+
+def owed(other, call, plant, q, got):
+    """The answer that is owed; of the cycles that may be shown, the one that was, if it may."""
+    if call == 'read':
+        return other.read(plant)
+    if call == 'quote':
+        return other.quote(plant, q.weights, q.contents, q.g)
+    if call == 'confirm':
+        return other.confirm(plant, q.set)
+    if call == 'list':
+        return other.list(plant, q.machine, q.list_room) + ' kept'
+    answer = other.weigh(plant, q.weights, q.cycle_room)
+    if answer is not None:
+        return answer + ' kept'
+    words = got.split()
+    shown = words[0] == 'cycle' and words[-1] == 'kept' and other.shows(plant, q.weights, [int(x) for x in words[1:-1]])
+    return got if shown else 'a quiet simple cycle of weight zero or more, the rest kept'
+
+
+def disagreement(other, q, got):
+    """The first call whose answer is not the one owed, or None."""
+    plant = fault = None
+    try:
+        plant = other.plant(q.file)
+    except Refused as refused:
+        fault = refused
+    for call in q.calls:
+        try:
+            if fault:
+                raise fault
+            expected = owed(other, call, plant, q, got[call])
+        except Refused as refused:
+            expected = str(refused) + (' kept' if call in ('weigh', 'list') else '')
+        except TooMany:
+            if other is INDEPENDENT:
+                raise
+            continue
+        if got[call] != expected:
+            return '%s: %s, but owed is %s' % (call, got[call][:300], expected[:300])
+    return None
+
+
+def compare(part, program, requests):
+    got = calls.answers(program, requests)
+    for q, answer in zip(requests, got):
+        wrong = disagreement(INDEPENDENT, q, answer)
+        if wrong:
+            sys.exit('evidence: %s: file %s, weights %s, contents %s, g %d, machine %d, rooms %d and %d, set %s: %s'
+                     % (part, q.file.hex(' '), q.weights, q.contents, q.g, q.machine, q.cycle_room, q.list_room, q.set, wrong))
+    return list(zip(requests, got))
+
+
+# ---- requests
+
+def room_for(rng, plant, machine):
+    """A room about the entries needed, and which calls are made: no listing where cycles are too many to go through."""
+    try:
+        return max(0, len(INDEPENDENT.entries(plant, machine)) + rng.choice([-1, 0, 0, 1, 5])), calls.CALLS
+    except Refused:
+        return rng.choice([0, 3]), calls.CALLS
+    except TooMany:
+        return 0, tuple(c for c in calls.CALLS if c != 'list')
+
+
+def set_for(rng, plant):
+    """Entries of cycles, most of them quiet, each turned to begin anywhere; at times spoilt."""
+    found = []
+    for m in rng.sample(range(len(plant.states)), min(3, len(plant.states))):
+        try:
+            found += [(m, c) for c in (INDEPENDENT.quiet_cycles(plant, m) if rng.random() < 0.9 else INDEPENDENT.cycles(plant, m)) if len(c) <= 64]
+        except TooMany:
+            continue
+    numbers = []
+    for _ in range(rng.choice([1, 1, 2, 3, 6])):
+        if found:
+            m, c = rng.choice(found)
+            turn = rng.randrange(len(c))
+            numbers += [m, rng.choice([1, 1, 2, 3, 1000000]), len(c)] + list(c[turn:] + c[:turn])
+    return cycle_sets.spoilt(rng, numbers) if rng.random() < 0.3 else numbers
+
+
+def request_for(rng, data):
+    """All calls on a file that reads as a plant."""
+    plant = INDEPENDENT.plant(data)
+    machine = rng.choice([rng.randrange(len(plant.states))] * 30 + [len(plant.states), 16, 4294967295])
+    room, made = room_for(rng, plant, machine)
+    g = rng.choice([0, 1, 2, rng.randrange(1000), 1000000] * 10 + [1000001, 4294967295])
+    return calls.request(data, plants.weights_for(rng, plant.types), rng.choice([64] * 40 + [63, 65, 70, 0]),
+                         plants.contents_for(rng, plant.types), g, machine, room, set_for(rng, plant), made)
+
+
+def shaped(rng, count):
+    """Plants of many shapes, no file twice."""
+    makers = [maker for maker, share in plants.SHAPES for _ in range(share)]
+    seen, found = set(), []
+    for i in itertools.count():
+        data = plants.plant_file(rng, *makers[i * 7919 % len(makers)](rng))
+        if data not in seen:
+            seen.add(data)
+            found.append(request_for(rng, data))
+        if len(found) == count:
+            return found
+
+
+def edges():
+    """Files, sets and figures at the limits, most of them from the older tests."""
+    for data in itertools.chain(reading.edges(), reading.shapes()):
+        yield calls.request(data, calls=('read', 'weigh', 'quote', 'confirm'))
+    for data, numbers in itertools.islice(cycle_sets.cases(random.Random(0)), 11):
+        yield calls.request(data, set=numbers, calls=('confirm',))
+    for data, weights, contents, g in itertools.islice(quoting.cases(random.Random(0)), 19):
+        yield calls.request(data, weights, contents=contents, g=g, calls=('weigh', 'quote'))
+    for data, machine, before in itertools.islice(listing.cases(random.Random(0)), 30):
+        yield calls.request(data, machine=machine, list_room=len(before), calls=('list',))
+    for power in range(20):
+        for amount in (2 ** power - 1, 2 ** power, 2 ** power + 1):
+            yield calls.request(bytes([1, 1, 1, 0]), [1], contents=[min(amount, 1000000)], calls=('quote',))
+    for last in (3, 4, 5, 6, 254, 255):
+        yield calls.request(bytes([5, 0] + ([1, 255] + [16] * 255) * 4 + [1, last] + [16] * last))
+    for weight in (999, 1000, 1001):
+        yield calls.request(plants.PLANT_A, [weight, 1], contents=[0, 0], calls=('weigh', 'quote'))
+
+
+def damaged_files(long):
+    """Files for damage, each with weights that pass or fail and a set, so that all five calls have something to do."""
+    rng = random.Random(11)
+    yield plants.PLANT_A, [2, 1]
+    yield plants.PLANT_B, [2, 1]
+    yield bytes([1, 0, 1, 1, 0]), []
+    yield bytes([1, 64, 3, 3, 3, 0, 1, 2, 2, 8, 63]), [1] * 64
+    for maker, count in ((plants.small, 3), (plants.passing, 4), (plants.rings, 2), (plants.first_not_largest, 2), (plants.many_machines, 1)):
+        while count:
+            data = plants.plant_file(rng, *maker(rng))
+            if 15 <= len(data) <= (150 if long else 60):
+                count -= 1
+                yield data, [t + 1 for t in range(data[1])]
+
+
+def variants(data):
+    """Every truncation, every other value of each byte, every byte taken out; some bytes put in."""
+    for i in range(len(data)):
+        yield data[:i]
+        yield data[:i] + data[i + 1:]
+        for b in range(256):
+            if b != data[i]:
+                yield data[:i] + bytes([b]) + data[i + 1:]
+    for i in range(len(data) + 1):
+        for b in (0, 1, 3, 16, 64, 255):
+            yield data[:i] + bytes([b]) + data[i:]
+
+
+def damaged(long):
+    rng = random.Random(12)
+    for data, weights in damaged_files(long):
+        plant = INDEPENDENT.plant(data)
+        numbers = set_for(rng, plant)
+        contents = [rng.randrange(5) for _ in range(plant.types)]
+        for i, variant in enumerate(variants(data)):
+            machine = i % len(plant.states)
+            made = calls.CALLS
+            try:
+                machine_room = len(INDEPENDENT.entries(INDEPENDENT.plant(variant), machine)) - (i % 3 == 0)
+            except Refused:
+                machine_room = i % 8
+            except TooMany:
+                machine_room, made = 0, ('read', 'weigh', 'quote', 'confirm')
+            yield calls.request(variant, weights, 64, contents, i % 4, machine, max(0, machine_room), numbers, made)
+
+
+def longest_truncations():
+    """Every truncation of a longest file: 16 machines, 64 states each, 1,024 rows, 4,130 bytes."""
+    data = bytes([16, 64] + [x for m in range(16) for x in [64, 64] + [x for k in range(64) for x in (11, k, (k + 1) % 64, (k + m) % 64)]])
+    for i in range(len(data) + 1):
+        yield calls.request(data[:i], [1] * 64, contents=[1] * 64, set=[0, 1, 64] + list(range(64)))
+
+
+def lengths(rng, count):
+    """Every length of each list that a call gets, for some plants."""
+    for _ in range(count):
+        data = plants.plant_file(rng, *rng.choice([plants.small, plants.passing, plants.rings])(rng))
+        q = request_for(rng, data)._replace(cycle_room=64)
+        types = data[1]
+        q = q._replace(weights=[t + 1 for t in range(types)], contents=[1] * types, g=1)
+        for room in range(71):
+            yield q._replace(cycle_room=room, calls=('weigh',))
+        for k in range(types + 3):
+            yield q._replace(weights=[1] * k, calls=('weigh', 'quote'))
+            yield q._replace(contents=[1] * k, calls=('quote',))
+        for k in range(len(q.set)):
+            yield q._replace(set=q.set[:k], calls=('confirm',))
+        if 'list' in q.calls and q.machine < data[0]:
+            for room in range(min(q.list_room + 8, 400)):
+                yield q._replace(list_room=room, calls=('list',))
+
+
+# ---- the part
+
+def catches(pairs):
+    """How many planted errors the comparison finds, each by the calls that it is planted for; all of them must be found."""
+    found = 0
+    for made, errors in ERRORS:
+        for name, other in errors:
+            if not any(disagreement(other, q._replace(calls=[c for c in q.calls if c in made]), got) for q, got in pairs):
+                sys.exit('evidence: answers: the planted error "%s" is not found' % name)
+            found += 1
+    return found
+
+
+def kinds(pairs):
+    """How often each answer was met."""
+    count = {}
+    for _, got in pairs:
+        for call, answer in got.items():
+            words = answer.split()
+            kind = ' '.join([call, words[0]] + words[1:2] * (words[0] == 'refused'))
+            count[kind] = count.get(kind, 0) + 1
+    return count
+
+
+NEEDED = (['read counts', 'weigh passed', 'weigh cycle', 'quote ceiling', 'list listed', 'confirm confirmed', 'confirm negative']
+          + ['%s refused %d' % (call, k) for call in calls.CALLS for k in range(1, 9)]
+          + ['weigh refused %d' % k for k in (9, 10, 11)] + ['quote refused %d' % k for k in (9, 10, 20, 21, 22)]
+          + ['list refused %d' % k for k in (12, 13, 14)] + ['confirm refused %d' % k for k in (15, 16, 17, 18)])
+
+
+def main(program, seed, long):
+    rng = random.Random(seed)
+    limits = compare('limits', program, list(edges()))
+    whole = compare('plants', program, shaped(rng, PLANTS * (10 if long else 1)))
+    harmed = compare('damage', program, list(damaged(long)) + list(longest_truncations()))
+    lent = compare('lengths', program, list(lengths(rng, 400 if long else 80)))
+    met = kinds(limits + whole + harmed + lent)
+    for kind in NEEDED:
+        if met.get(kind, 0) < 3:
+            sys.exit('evidence: answers: %s was met %d times only' % (kind, met.get(kind, 0)))
+    found = catches(limits + whole[:3000] + harmed[:5000] + lent[:500])
+    unlisted = sum('list' not in q.calls for q, _ in whole + harmed)
+    print('evidence: answers: %d plants, %d damaged files, %d lists of other lengths and %d limits agree with the independent '
+          'implementation (%d pass, %d show a cycle, %d machines of them judged by means; %d listings, %d left out for too many cycles); %d planted errors found'
+          % (len(whole), len({q.file for q, _ in harmed}), len(lent), len(limits), met['weigh passed'], met['weigh cycle'], INDEPENDENT.by_mean,
+             met['list listed'], unlisted, found))

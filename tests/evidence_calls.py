@@ -1,0 +1,156 @@
+"""The proved calls through the static library of dist/: a C program that reads requests and prints one line of answers to each.
+
+A request has a plant file and what the five calls need besides. The program fills the lent lists from a generator, calls,
+and prints what was written, then `kept`, or `touched` where another entry, or a place before or behind the list, changed.
+It says so too when a field that an answer does not use is not 0, or when a list that is only read changed.
+"""
+import os
+import struct
+import subprocess
+import sys
+from collections import namedtuple
+
+ROOT = os.path.dirname(os.path.dirname(os.path.abspath(__file__)))
+CALLS = ('read', 'weigh', 'quote', 'list', 'confirm')
+
+# A request: `calls` says which of the five are made; `cycle_room` and `list_room` are the lengths of the lent lists.
+Request = namedtuple('Request', 'file weights cycle_room contents g machine list_room set calls')
+
+DRIVER = r'''#include <stdio.h>
+#include <stdlib.h>
+#include <string.h>
+#include "hemtaluq.h"
+#define GUARD 8
+static uint32_t seed = 2006;
+static uint16_t *lend(size_t room, uint16_t **copy) {
+    size_t bytes = (room + 2 * GUARD) * 2;
+    uint16_t *list = malloc(bytes);
+    for (size_t i = 0; i < room + 2 * GUARD; i++) { seed = seed * 1664525u + 1013904223u; list[i] = (uint16_t)(seed >> 16); }
+    *copy = malloc(bytes);
+    memcpy(*copy, list, bytes);
+    return list;
+}
+static void lent(uint16_t *list, uint16_t *copy, size_t room, size_t used) {
+    for (size_t i = 0; i < used && i < room; i++) printf(" %d", list[GUARD + i]);
+    if (used <= room) memcpy(copy + GUARD, list + GUARD, 2 * used);
+    printf(used <= room && memcmp(list, copy, (room + 2 * GUARD) * 2) == 0 ? " kept" : " touched");
+    free(list); free(copy);
+}
+static void zero(uint64_t unused) { if (unused) printf(" an unused field is not 0"); }
+static void *take(size_t size, uint32_t count, void **copy) {
+    void *list = malloc(size * count + size);
+    if (fread(list, size, count, stdin) != count) exit(1);
+    *copy = malloc(size * count + size);
+    memcpy(*copy, list, size * count);
+    return list;
+}
+static void put_back(void *list, void *copy, size_t bytes) {
+    if (memcmp(list, copy, bytes)) printf("; a list that is only read changed");
+    free(list); free(copy);
+}
+static void put_read(const uint8_t *f, uint32_t n) {
+    hemtaluq_read_answer a = hemtaluq_read(f, n);
+    if (a.kind == HEMTALUQ_COUNTS) { printf("counts %zu %d %zu", a.machines, a.types, a.rows); zero(a.number | a.place); }
+    else if (a.kind == HEMTALUQ_REFUSED) { printf("refused %d %zu", a.number, a.place); zero(a.types | a.machines | a.rows); }
+    else printf("kind %d", a.kind);
+}
+static void put_weigh(const uint8_t *f, uint32_t n, const uint16_t *w, uint32_t count, uint32_t room) {
+    uint16_t *copy, *list = lend(room, &copy);
+    hemtaluq_weigh_answer a = hemtaluq_weigh(f, n, w, count, list + GUARD, room);
+    unsigned long long base = a.base, states = a.states, per_progress = a.per_progress;
+    if (a.kind == HEMTALUQ_PASSED) { printf("passed %llu %llu %llu", base, states, per_progress); zero(a.number | a.place | a.rows); }
+    else if (a.kind == HEMTALUQ_CYCLE) { printf("cycle"); zero(a.number | a.place | a.base | a.states | a.per_progress); }
+    else if (a.kind == HEMTALUQ_REFUSED) { printf("refused %d %zu", a.number, a.place); zero(a.base | a.states | a.per_progress | a.rows); }
+    else printf("kind %d", a.kind);
+    lent(list, copy, room, a.kind == HEMTALUQ_CYCLE ? a.rows : 0);
+}
+static void put_quote(const uint8_t *f, uint32_t n, const uint16_t *w, uint32_t count, const uint32_t *c, uint32_t contents, uint32_t g) {
+    hemtaluq_quote_answer a = hemtaluq_quote(f, n, w, count, c, contents, g);
+    if (a.kind == HEMTALUQ_CEILING) { printf("ceiling %llu %u", (unsigned long long)a.ceiling, (unsigned)a.price_class); zero(a.number | a.place); }
+    else if (a.kind == HEMTALUQ_REFUSED) { printf("refused %d %zu", a.number, a.place); zero(a.ceiling | a.price_class); }
+    else printf("kind %d", a.kind);
+}
+static void put_list(const uint8_t *f, uint32_t n, uint32_t machine, uint32_t room) {
+    uint16_t *copy, *list = lend(room, &copy);
+    hemtaluq_list_answer a = hemtaluq_list(f, n, machine, list + GUARD, room);
+    if (a.kind == HEMTALUQ_LISTED) { printf("listed"); zero(a.number | a.place); }
+    else if (a.kind == HEMTALUQ_REFUSED) { printf("refused %d %zu", a.number, a.place); zero(a.entries); }
+    else printf("kind %d", a.kind);
+    lent(list, copy, room, a.kind == HEMTALUQ_LISTED ? a.entries : 0);
+}
+static void put_confirm(const uint8_t *f, uint32_t n, const uint32_t *s, uint32_t count) {
+    hemtaluq_confirm_answer a = hemtaluq_confirm(f, n, s, count);
+    if (a.kind == HEMTALUQ_CONFIRMED) { printf("confirmed"); zero(a.number | a.place | a.message_type | (uint64_t)a.sum); }
+    else if (a.kind == HEMTALUQ_NEGATIVE) { printf("negative %zu %lld", a.message_type, (long long)a.sum); zero(a.number | a.place); }
+    else if (a.kind == HEMTALUQ_REFUSED) { printf("refused %d %zu", a.number, a.place); zero(a.message_type | (uint64_t)a.sum); }
+    else printf("kind %d", a.kind);
+}
+int main(void) {
+    uint32_t h[9];
+    while (fread(h, 4, 9, stdin) == 9) {
+        void *copies[4];
+        uint8_t *file = take(1, h[0], &copies[0]);
+        uint16_t *weights = take(2, h[1], &copies[1]);
+        uint32_t *contents = take(4, h[3], &copies[2]), *set = take(4, h[7], &copies[3]);
+        if (h[8] & 1) put_read(file, h[0]);
+        printf(";");
+        if (h[8] & 2) put_weigh(file, h[0], weights, h[1], h[2]);
+        printf(";");
+        if (h[8] & 4) put_quote(file, h[0], weights, h[1], contents, h[3], h[4]);
+        printf(";");
+        if (h[8] & 8) put_list(file, h[0], h[5], h[6]);
+        printf(";");
+        if (h[8] & 16) put_confirm(file, h[0], set, h[7]);
+        put_back(file, copies[0], h[0]); put_back(weights, copies[1], 2 * h[1]);
+        put_back(contents, copies[2], 4 * h[3]); put_back(set, copies[3], 4 * h[7]);
+        printf("\n");
+    }
+    return 0;
+}
+'''
+
+
+def run(command, **more):
+    done = subprocess.run(command, cwd=ROOT, capture_output=True, **more)
+    if done.returncode != 0:
+        sys.exit('evidence: %s failed:\n%s' % (' '.join(command), (done.stdout + done.stderr).decode(errors='replace')[-3000:]))
+    return done.stdout
+
+
+def compiled(folder, name, source, library=True):
+    """The path of a C program, built in a folder of its own; with the static library where it is asked for."""
+    path = os.path.join(folder, name)
+    with open(path + '.c', 'w', encoding='utf-8') as out:
+        out.write(source)
+    run(['gcc', '-O2', '-Wall', '-Wextra', '-Werror', '-Idist', path + '.c'] + (['-Ldist', '-lhemtaluq'] if library else []) + ['-o', path])
+    return path
+
+
+def build(folder):
+    if not os.path.exists(os.path.join(ROOT, 'dist', 'libhemtaluq.a')):
+        run(['tools/dist'])
+    return compiled(folder, 'calls', DRIVER)
+
+
+def packed(q):
+    head = (len(q.file), len(q.weights), q.cycle_room, len(q.contents), q.g, q.machine, q.list_room, len(q.set), sum(1 << CALLS.index(c) for c in q.calls))
+    return (struct.pack('<9I', *head) + q.file + struct.pack('<%dH' % len(q.weights), *q.weights)
+            + struct.pack('<%dI' % len(q.contents), *q.contents) + struct.pack('<%dI' % len(q.set), *q.set))
+
+
+def answers(program, requests):
+    """For each request a dictionary from calls to answers."""
+    lines = run([program], input=b''.join(packed(q) for q in requests)).decode().split('\n')[:-1]
+    if len(lines) != len(requests):
+        sys.exit('evidence: %d answers to %d requests' % (len(lines), len(requests)))
+    result = []
+    for line in lines:
+        parts = line.split(';')
+        if len(parts) != 5:
+            sys.exit('evidence: %s' % line[:400])
+        result.append({c: a for c, a in zip(CALLS, parts) if a})
+    return result
+
+
+def request(file, weights=(), cycle_room=64, contents=(), g=0, machine=0, list_room=0, set=(), calls=CALLS):
+    return Request(bytes(file), list(weights), cycle_room, list(contents), g, machine, list_room, list(set), calls)

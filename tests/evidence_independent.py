@@ -1,0 +1,336 @@
+"""An independent implementation of the scope document: reading, weighing, quoting, listing, confirming, and the line of `ceiling`.
+
+It was written from the document, not from the definitions or the code, and goes through all cycles wherever that is
+feasible: weights are judged on every quiet simple cycle, listings are made by enumeration and sorting. Where a machine
+has too many cycles for that, weights are judged by the greatest mean weight of a quiet cycle (weighing.py).
+
+Each decision that a reader of the document could get wrong is a method of its own. PLANTED has copies with one error
+each; the comparisons in evidence_answers.py and evidence_program.py must find every one of them.
+"""
+from collections import namedtuple
+
+import weighing
+
+Row = namedtuple('Row', 'machine left entered sent taken progress')
+Plant = namedtuple('Plant', 'types states rows')
+STEPS = 4000
+
+
+class Refused(Exception):
+    def __str__(self):
+        return 'refused %d %d' % self.args
+
+
+class TooMany(Exception):
+    """A machine has more cycles than this implementation goes through."""
+
+
+class Independent:
+    most_rows = 1024
+    judged = None
+    by_mean = 0
+
+    # ---- reading
+
+    def map_fits(self, b):
+        return b < 32 and not (b & 4 and b & 8)
+
+    def state_fits(self, b, states):
+        return b < states
+
+    def next_left(self, row):
+        """The state that a row without its bit 0 leaves, after this row of the same machine."""
+        return row.left
+
+    def plant(self, data):
+        at = 0
+
+        def byte(number, fits):
+            nonlocal at
+            if at == len(data):
+                raise Refused(1, at)
+            b = data[at]
+            if not fits(b):
+                raise Refused(number, at)
+            at += 1
+            return b
+
+        machines = byte(2, lambda b: 1 <= b <= 16)
+        types = byte(2, lambda b: b <= 64)
+        states, rows = [], []
+        for m in range(machines):
+            states.append(byte(3, lambda b: 1 <= b <= 64))
+            count = byte(7, lambda b: len(rows) + b <= self.most_rows)
+            left = 0
+            for _ in range(count):
+                rows.append(self.row(byte, m, states[m], types, left))
+                left = self.next_left(rows[-1])
+        if at < len(data):
+            raise Refused(8, at)
+        return Plant(types, states, rows)
+
+    def row(self, byte, machine, states, types, left):
+        bits = byte(4, self.map_fits)
+        if bits & 1:
+            left = byte(5, lambda b: self.state_fits(b, states))
+        entered = byte(5, lambda b: self.state_fits(b, states)) if bits & 2 else left
+        sent = byte(6, lambda b: b < types) if bits & 4 else None
+        taken = byte(6, lambda b: b < types) if bits & 8 else None
+        return Row(machine, left, entered, sent, taken, bits & 16 != 0)
+
+    def read(self, plant):
+        return 'counts %d %d %d' % (len(plant.states), plant.types, len(plant.rows))
+
+    # ---- cycles
+
+    def is_quiet(self, rows):
+        return not any(r.progress for r in rows)
+
+    def starts(self, states):
+        """The lowest states that cycles are looked for from."""
+        return range(states)
+
+    def candidates(self, plant, numbers):
+        return numbers
+
+    def cycles(self, plant, machine, quiet_only=False):
+        """All simple cycles of a machine as tuples of row numbers, each from its lowest state, in ascending order."""
+        mine = [k for k, r in enumerate(plant.rows) if r.machine == machine and not (quiet_only and r.progress)]
+        onward = {}
+        for k in self.candidates(plant, mine):
+            onward.setdefault(plant.rows[k].left, []).append((k, plant.rows[k].entered))
+        found, steps = [], 0
+        for start in self.starts(plant.states[machine]):
+            paths = [((), (), start)]
+            while paths:
+                path, left, at = paths.pop()
+                for k, entered in onward.get(at, ()):
+                    if entered == start:
+                        found.append(path + (k,))
+                    elif entered > start and entered not in left:
+                        paths.append((path + (k,), left + (entered,), entered))
+                steps += 1
+                if steps > STEPS:
+                    raise TooMany()
+        return self.ordered(found)
+
+    def ordered(self, cycles):
+        return sorted(cycles)
+
+    def quiet_cycles(self, plant, machine):
+        try:
+            every = self.cycles(plant, machine)
+        except TooMany:
+            every = self.cycles(plant, machine, quiet_only=True)
+        return [c for c in every if self.is_quiet([plant.rows[k] for k in c])]
+
+    def effect(self, plant, cycle):
+        effect = [0] * plant.types
+        for k in cycle:
+            if plant.rows[k].sent is not None:
+                effect[plant.rows[k].sent] += 1
+            if plant.rows[k].taken is not None:
+                effect[plant.rows[k].taken] -= 1
+        return effect
+
+    # ---- weighing
+
+    def good(self, weight):
+        return weight < 0
+
+    def machine_passes(self, plant, machine, weights):
+        try:
+            cycles = self.quiet_cycles(plant, machine)
+        except TooMany:
+            self.by_mean += 1
+            mean = weighing.greatest_mean(plant.states[machine], weighing.quiet_edges(plant, machine, weights))
+            return mean is None or self.good(mean)
+        return all(self.good(sum(w * e for w, e in zip(weights, self.effect(plant, c)))) for c in cycles)
+
+    def passes(self, plant, weights):
+        """Weighing and quoting ask the same of one plant; the last answer is kept."""
+        if self.judged is None or self.judged[0] is not plant or self.judged[1] != weights:
+            self.judged = plant, list(weights), all(self.machine_passes(plant, m, weights) for m in range(len(plant.states)))
+        return self.judged[2]
+
+    def most_states(self, plant):
+        return max(plant.states)
+
+    def figures(self, plant, weights):
+        n, s, w = self.most_states(plant), sum(x - 1 for x in plant.states), max(weights, default=0)
+        return s + n * w * s, n, n - 1 + n * n * w
+
+    def check_weights(self, plant, weights):
+        if len(weights) != plant.types:
+            raise Refused(9, 0)
+        for i, w in enumerate(weights):
+            if w > 1000:
+                raise Refused(10, i)
+
+    def shows(self, plant, weights, cycle):
+        """Whether a list of rows is a quiet simple cycle that weighs zero or more."""
+        if not cycle or any(k >= len(plant.rows) for k in cycle):
+            return False
+        rows = [plant.rows[k] for k in cycle]
+        turned = rows[1:] + rows[:1]
+        return (all(r.machine == rows[0].machine and r.entered == t.left for r, t in zip(rows, turned))
+                and len({r.left for r in rows}) == len(rows) and self.is_quiet(rows)
+                and not self.good(sum(w * e for w, e in zip(weights, self.effect(plant, cycle)))))
+
+    def weigh(self, plant, weights, room):
+        """What is owed: figures, or None where a cycle is to be shown."""
+        self.check_weights(plant, weights)
+        if room < 64:
+            raise Refused(11, 0)
+        return 'passed %d %d %d' % self.figures(plant, weights) if self.passes(plant, weights) else None
+
+    # ---- quoting
+
+    def price_class(self, ceiling):
+        return sum(2 ** k <= ceiling for k in range(43))
+
+    def quote(self, plant, weights, contents, g):
+        self.check_weights(plant, weights)
+        if len(contents) != plant.types:
+            raise Refused(20, 0)
+        for i, x in enumerate(list(contents) + [g]):
+            if x > 1000000:
+                raise Refused(21, i)
+        if not self.passes(plant, weights):
+            raise Refused(22, 0)
+        f, n, per_progress = self.figures(plant, weights)
+        ceiling = f + n * sum(w * x for w, x in zip(weights, contents)) + per_progress * g
+        return 'ceiling %d %d' % (ceiling, self.price_class(ceiling))
+
+    # ---- listing
+
+    def entries(self, plant, machine):
+        if machine >= len(plant.states):
+            raise Refused(12, 0)
+        if plant.states[machine] > 24 or sum(r.machine == machine for r in plant.rows) > 48:
+            raise Refused(13, 0)
+        return [x for c in self.cycles(plant, machine) for x in (len(c),) + c]
+
+    def list(self, plant, machine, room):
+        entries = self.entries(plant, machine)
+        if room < len(entries):
+            raise Refused(14, 0)
+        return ' '.join(['listed'] + [str(x) for x in entries])
+
+    # ---- cycle sets
+
+    def is_quiet_cycle(self, plant, machine, cycle):
+        rows = [plant.rows[k] for k in cycle]
+        at = rows[0].left
+        for r in rows:
+            if r.machine != machine or r.left != at:
+                return False
+            at = r.entered
+        return at == rows[0].left and len({r.left for r in rows}) == len(rows) and self.is_quiet(rows)
+
+    def too_many_entries(self, count):
+        return count == 256
+
+    def confirm(self, plant, numbers):
+        at, entries, sums = 0, 0, [0] * plant.types
+
+        def number(low, high):
+            nonlocal at
+            if at == len(numbers):
+                raise Refused(15, at)
+            if not low <= numbers[at] <= high:
+                raise Refused(16, at)
+            at += 1
+            return numbers[at - 1]
+
+        while at < len(numbers) or not entries:
+            begins = at
+            if at == len(numbers) or self.too_many_entries(entries):
+                raise Refused(18, at)
+            machine = number(0, len(plant.states) - 1)
+            repeats = number(1, 1000000)
+            cycle = [number(0, len(plant.rows) - 1) for _ in range(number(1, 64))]
+            if not self.is_quiet_cycle(plant, machine, cycle):
+                raise Refused(17, begins)
+            sums = [s + repeats * e for s, e in zip(sums, self.effect(plant, cycle))]
+            entries += 1
+        return self.verdict(sums)
+
+    def verdict(self, sums):
+        for t, s in enumerate(sums):
+            if s < 0:
+                return 'negative %d %d' % (t, s)
+        return 'confirmed'
+
+    # ---- the program
+
+    def weights_of(self, data):
+        if len(data) % 2:
+            raise Refused(9, 0)
+        return [data[i] + 256 * data[i + 1] for i in range(0, len(data), 2)]
+
+    def judge_line(self, plant_file, weights_file, line):
+        """None for a right line of the program, else what is owed. A file is None where it is missing."""
+        try:
+            plant = self.plant(plant_file or b'')
+            weights = self.weights_of(weights_file or b'')
+            owed = self.weigh(plant, weights, 64)
+        except Refused as refused:
+            owed = str(refused)
+        if owed is not None:
+            return None if line == owed + '\n' else owed
+        words = line[:-1].split(' ')
+        right = line.endswith('\n') and words[0] == 'cycle' and all(w.isdigit() and str(int(w)) == w for w in words[1:])
+        return None if right and self.shows(plant, weights, [int(w) for w in words[1:]]) else 'a cycle that weighs zero or more'
+
+
+# ---- planted errors
+
+def planted(name, **methods):
+    return name, type('Planted', (Independent,), methods)()
+
+
+def without_parallel_rows(self, plant, numbers):
+    """Of the rows with the same two states only the first."""
+    ends = {}
+    for k in numbers:
+        ends.setdefault((plant.rows[k].left, plant.rows[k].entered), k)
+    return sorted(ends.values())
+
+
+READING_ERRORS = [
+    planted('a row without bit 0 leaves the state entered before', next_left=lambda self, row: row.entered),
+    planted('bit 5 of a map byte is let by', map_fits=lambda self, b: b < 64 and not (b & 4 and b & 8)),
+    planted('bits 2 and 3 may stand together', map_fits=lambda self, b: b < 32),
+    planted('a state may be the count of states', state_fits=lambda self, b, states: b <= states),
+    planted('only 1,023 rows', most_rows=1023),
+]
+WEIGHING_ERRORS = [
+    planted('weight zero is good', good=lambda self, weight: weight <= 0),
+    planted('only cycles through state 0 are judged', starts=lambda self, states: range(1)),
+    planted('a cycle with one progress row is quiet', is_quiet=lambda self, rows: sum(r.progress for r in rows) <= 1),
+    planted('n is taken from the first machine', most_states=lambda self, plant: plant.states[0]),
+]
+QUOTING_ERRORS = [
+    planted('an edge equal to the ceiling does not count', price_class=lambda self, c: sum(2 ** k < c for k in range(43))),
+    planted('42 edges', price_class=lambda self, c: sum(2 ** k <= c for k in range(42))),
+    planted('the class begins at 1', price_class=lambda self, c: max(1, sum(2 ** k <= c for k in range(43)))),
+]
+LISTING_ERRORS = [
+    planted('parallel rows are dropped', candidates=without_parallel_rows),
+    planted('self loops are dropped', candidates=lambda self, plant, ks: [k for k in ks if plant.rows[k].left != plant.rows[k].entered]),
+    planted('shorter cycles come first', ordered=lambda self, cycles: sorted(cycles, key=lambda c: (len(c), c))),
+]
+CONFIRMING_ERRORS = [
+    planted('every set is confirmed', verdict=lambda self, sums: 'confirmed'),
+    planted('a sum of zero is negative', verdict=lambda self, sums: 'negative 0 0' if 0 in sums else Independent.verdict(self, sums)),
+    planted('257 entries', too_many_entries=lambda self, count: count == 257),
+    planted('progress cycles are added', is_quiet_cycle=lambda self, plant, m, c: Independent.is_quiet_cycle(
+        self, plant._replace(rows=[r._replace(progress=False) for r in plant.rows]), m, c)),
+]
+PROGRAM_ERRORS = [
+    planted('the high byte comes first', weights_of=lambda self, data: [data[i] * 256 + data[i + 1] for i in range(0, len(data) - 1, 2)]),
+    planted('an odd last byte is dropped', weights_of=lambda self, data: Independent.weights_of(self, data[:len(data) // 2 * 2])),
+    planted('the count of weights is not judged', check_weights=lambda self, plant, weights: None),
+    planted('weight zero is good', good=lambda self, weight: weight <= 0),
+]

@@ -1,0 +1,152 @@
+"""Plants of many shapes, as files, with the values that the tests put to them."""
+PLANT_A = bytes.fromhex('0202 0202 060100 1b010001 0202 0a0100 07010001')
+PLANT_B = bytes.fromhex('0202 0202 060100 0b010001 0202 0a0100 07010001')
+
+
+# ---- files
+
+def row_bytes(rng, previous, left, entered, sent, taken, progress):
+    """A row; a field that may be left out is left out at times."""
+    bits = 16 if progress else 0
+    fields = []
+    if left != previous or rng.random() < 0.5:
+        bits, fields = bits | 1, fields + [left]
+    if entered != left or rng.random() < 0.5:
+        bits, fields = bits | 2, fields + [entered]
+    if sent is not None:
+        bits, fields = bits | 4, fields + [sent]
+    if taken is not None:
+        bits, fields = bits | 8, fields + [taken]
+    return [bits] + fields
+
+
+def plant_file(rng, types, machines):
+    """A file of machines, each a count of states and a list of rows (left, entered, sent, taken, progress)."""
+    data = [len(machines), types]
+    for states, rows in machines:
+        data += [states, len(rows)]
+        previous = 0
+        for row in rows:
+            data += row_bytes(rng, previous, *row)
+            previous = row[0]
+    return bytes(data)
+
+
+# ---- machines
+
+def message(rng, types):
+    """What a row sends and takes."""
+    kind, t = rng.choice(['sends', 'takes', 'takes', 'neither']), rng.randrange(types) if types else None
+    return (t if kind == 'sends' else None, t if kind == 'takes' else None)
+
+
+def loose(rng, states, count, types):
+    """Rows between any states: parallel rows, self loops and states that nothing enters come about by themselves."""
+    return [(rng.randrange(states), rng.randrange(states)) + message(rng, types) + (rng.random() < 0.2,) for _ in range(count)]
+
+
+def ring(rng, states, count, types):
+    """One ring through all states, some of its rows in parallel, most of it quiet."""
+    rows = []
+    for i in range(count):
+        left = i % states
+        rows.append((left, (left + 1) % states) + message(rng, types) + (rng.random() < 0.05,))
+    rng.shuffle(rows)
+    return rows
+
+
+def falling(rng, states, count, types):
+    """Rows onward send a light type or nothing, rows back take a heavier one: weights 1, 2, 3, ... pass, or just fail."""
+    rows = []
+    for _ in range(count):
+        left, entered = rng.randrange(states), rng.randrange(states)
+        entered = min(entered, left + rng.choice([1, 1, 2])) if entered > left else max(entered, left - types)
+        if entered > left:
+            rows.append((left, entered, 0 if rng.random() < 0.5 else None, None, rng.random() < 0.1))
+        else:
+            heavy = min(types - 1, left - entered + (0 if rng.random() < 0.03 else 1))
+            rows.append((left, entered, None, rng.randint(heavy, types - 1), rng.random() < 0.1))
+    return rows
+
+
+# ---- shapes: a name, how many of 1,000, and the plant
+
+def small(rng):
+    types = rng.choice([0, 1, 2, 3, 8])
+    return types, [(s, loose(rng, s, rng.choice([0, 1, 2, 4, 8]), types)) for s in rng.choices([1, 2, 3, 4, 9], k=rng.choice([1, 1, 2, 3]))]
+
+
+def many_machines(rng):
+    types = rng.choice([0, 1, 5, 64])
+    return types, [(s, loose(rng, s, rng.randint(0, 3), types)) for s in rng.choices([1, 1, 2, 3, 64], k=rng.randint(4, 16))]
+
+
+def first_not_largest(rng):
+    types = rng.choice([1, 2, 3])
+    return types, [(1, [])] + [(s, falling(rng, s, rng.randint(1, 6), types)) for s in rng.choices([2, 3, 5, 24], k=rng.randint(1, 3))]
+
+
+def one_state(rng):
+    types = rng.choice([0, 1, 64])
+    return types, [(1, loose(rng, 1, rng.randint(0, 12), types)) for _ in range(rng.choice([1, 2, 16]))]
+
+
+def many_types(rng):
+    return 64, [(s, [(rng.randrange(s), rng.randrange(s)) + message(rng, 64) + (rng.random() < 0.3,) for _ in range(rng.randint(0, 10))])
+                for s in rng.choices([1, 2, 3, 6], k=rng.randint(1, 4))]
+
+
+def rings(rng):
+    types = rng.choice([0, 1, 2, 6])
+    return types, [(s, ring(rng, s, s + rng.choice([0, 0, 1, 2, 5]), types)) for s in rng.choices([1, 2, 3, 7, 24, 64], k=rng.choice([1, 2, 3]))]
+
+
+def passing(rng):
+    types = rng.choice([2, 3, 6])
+    return types, [(s, falling(rng, s, rng.choice([1, 3, 6, 12, 24]), types)) for s in rng.choices([1, 2, 3, 4, 24, 64], k=rng.choice([1, 2, 3]))]
+
+
+def large(rng):
+    """Up to 64 states, 255 rows of a machine and 1,024 rows in all."""
+    types, kind = rng.choice([6, 64]), rng.choice([loose, falling, falling, ring])
+    counts = rng.choice([[255, 255, 255, 255, 4], [64] * 16, [255], [255, 9], [48] * 3])
+    return types, [(s, kind(rng, s, c, types)) for s, c in zip(rng.choices([64, 64, 24, 33], k=len(counts)), counts)]
+
+
+def exchange(rng):
+    """Machines with one quiet ring each, or two that share a state, which take some types and send others."""
+    types, machines = rng.choice([2, 3, 4]), []
+    for _ in range(rng.randint(2, 5)):
+        states, rows = rng.choice([2, 3, 4, 5]), []
+        for left in range(states):
+            rows.append((left, (left + 1) % states) + message(rng, types) + (rng.random() < 0.04,))
+        rows.append((0, 0, None, rng.randrange(types), False) if rng.random() < 0.2 else (states - 1, 0) + message(rng, types) + (False,))
+        machines.append((states, rows))
+    return types, machines
+
+
+SHAPES = [(small, 340), (exchange, 50), (many_machines, 90), (first_not_largest, 120), (one_state, 70), (many_types, 80), (rings, 90), (passing, 140), (large, 20)]
+
+
+def weights_for(rng, types):
+    """Weights of several sizes; those of `falling` most often, at times too large or too many."""
+    kind = rng.random()
+    if kind < 0.5:
+        weights = [min(1000, t + 1) for t in range(types)]
+    elif kind < 0.7:
+        weights = [(t + 1) * rng.choice([1, 10, 15]) for t in range(types)]
+    else:
+        largest = rng.choice([0, 1, 3, 1000])
+        weights = [rng.randint(0, largest) for _ in range(types)]
+    if weights and rng.random() < 0.02:
+        weights[rng.randrange(types)] = rng.choice([1000, 1001, 65535])
+    if rng.random() < 0.02:
+        weights = weights[1:] if rng.random() < 0.5 else weights + [0]
+    return weights
+
+
+def contents_for(rng, types):
+    contents = [rng.choice([0, 0, 1, 2, rng.randrange(1000), 1000000]) for _ in range(types)]
+    if contents and rng.random() < 0.02:
+        contents[rng.randrange(types)] = rng.choice([1000001, 4294967295])
+    return contents + [0] if rng.random() < 0.02 else contents

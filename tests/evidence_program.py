@@ -1,0 +1,96 @@
+"""Part E: the program `ceiling` as a process, its line held against the independent implementation of evidence_independent.py.
+
+Each case is a folder with plant.bin and weights.bin, whole, damaged, of odd length, empty or missing; in place of a file
+there may also be a link to nothing or a folder, which cannot be read and counts as empty.
+"""
+import os
+import random
+import subprocess
+import sys
+import tempfile
+
+import evidence_calls as calls
+import evidence_independent
+import evidence_plants as plants
+import reading
+
+CASES = 600
+INDEPENDENT = evidence_independent.Independent()
+PROGRAM = os.path.join(calls.ROOT, 'target', 'bin', 'ceiling')
+
+
+def weights_bytes(weights):
+    return b''.join(bytes([w % 256, w // 256]) for w in weights)
+
+
+def fixed_cases():
+    """The examples of the scope document, and files at their edges."""
+    for weights in ([2, 1], [1, 0], [1, 1], [1, 2], [1000, 1], [1001, 1], [1, 65535], [2], [2, 1, 0], [], [256, 1], [1, 256]):
+        yield plants.PLANT_A, weights_bytes(weights)
+        yield plants.PLANT_B, weights_bytes(weights)
+    for weights in (None, b'', b'\x02', b'\x02\x00\x01', b'\x02\x00\x01\x00\x00', b'\x02\x00\x01\x04'):
+        for plant in (None, b'', plants.PLANT_A, plants.PLANT_A + b'\x00', bytes([1, 0, 1, 0]), bytes([1, 0, 1, 1, 0]), bytes([1, 0, 1, 1, 16])):
+            yield plant, weights
+    for data in reading.edges():
+        yield data, bytes(2 * 64)
+        yield data, bytes(2 * 64 + 1)
+        yield data, b''
+    for length in (126, 127, 128, 129, 130, 131, 4095, 4096, 4097, 70000):
+        yield bytes([1, 64, 1, 0]), b'\x01\x00' * (length // 2) + b'\x01' * (length % 2)
+
+
+def drawn_cases(rng, count):
+    makers = [plants.small, plants.passing, plants.rings, plants.exchange, plants.first_not_largest, plants.many_types, plants.large]
+    for _ in range(count):
+        types, machines = rng.choice(makers)(rng)
+        data = plants.plant_file(rng, types, machines)
+        weights = weights_bytes(plants.weights_for(rng, types))
+        if rng.random() < 0.15:
+            data = reading.damaged(rng, data)
+        if rng.random() < 0.1:
+            weights = reading.damaged(rng, weights)
+        yield data if rng.random() < 0.96 else None, weights if rng.random() < 0.96 else None
+
+
+def put(folder, name, data, odd):
+    """Write a file; a missing one is at times a link to nothing, or a folder."""
+    path = os.path.join(folder, name)
+    if data is not None:
+        with open(path, 'wb') as out:
+            out.write(data)
+    elif odd == 1:
+        os.symlink('nowhere', path)
+    elif odd == 2:
+        os.mkdir(path)
+
+
+def line_of(plant, weights, odd):
+    with tempfile.TemporaryDirectory() as folder:
+        put(folder, 'plant.bin', plant, odd)
+        put(folder, 'weights.bin', weights, odd)
+        done = subprocess.run([PROGRAM], cwd=folder, capture_output=True, timeout=60)
+    if done.returncode != 0 or done.stderr:
+        sys.exit('evidence: program: exit code %d, %s' % (done.returncode, done.stderr[-300:]))
+    return done.stdout.decode('ascii')
+
+
+def main(seed, long):
+    if not os.path.exists(PROGRAM):
+        calls.run(['rt', 'check', 'ceiling'])
+    cases = list(fixed_cases()) + list(drawn_cases(random.Random(seed + 4), CASES * (5 if long else 1)))
+    pairs = [(plant, weights, line_of(plant, weights, i % 3)) for i, (plant, weights) in enumerate(cases)]
+    kinds = {}
+    for plant, weights, line in pairs:
+        owed = INDEPENDENT.judge_line(plant, weights, line)
+        if owed:
+            sys.exit('evidence: program: plant %s, weights %s: %r, but owed is %s'
+                     % (plant and plant.hex(), weights and weights.hex(), line[:300], owed))
+        kinds[line.split()[0]] = kinds.get(line.split()[0], 0) + 1
+    if pairs[0][2] != 'passed 10 2 9\n' or len(kinds) != 3 or min(kinds.values()) < 30:
+        sys.exit('evidence: program: %r for plant A; %s' % (pairs[0][2], kinds))
+    for name, other in evidence_independent.PROGRAM_ERRORS:
+        if not any(other.judge_line(*pair) for pair in pairs):
+            sys.exit('evidence: program: the planted error "%s" is not found' % name)
+    missing = sum(plant is None or weights is None for plant, weights in cases)
+    print('evidence: program: %d runs of ceiling (%d pass, %d show a cycle, %d are refused; a file is missing in %d); %d planted errors found'
+          % (len(pairs), kinds['passed'], kinds['cycle'], kinds['refused'], missing, len(evidence_independent.PROGRAM_ERRORS)))

@@ -1,0 +1,439 @@
+"""Part D: runs, as the scope document has them, held to the bound F + n * W + G * g with the figures of hemtaluq_weigh.
+
+- A simulator in C draws event lists and judges the bound after every event: random ones, most of whose events cannot
+  happen or name what the plant lacks; greedy ones, which put progress off; adversarial ones, which take the quiet row after
+  which most is left to come. The simulator is itself held against the one of definitions.py.
+- On small plants a search through all configurations finds the most quiet rows that a run can have. This never exceeds the
+  ceiling of hemtaluq_quote, meets it at times, and exceeds each of six weaker formulas.
+- data/weaker.txt has for each weaker formula runs that exceed it, found by the search. They are run in every test.
+
+    python3 tests/evidence_runs.py        # makes data/weaker.txt anew
+"""
+import functools
+import itertools
+import os
+import random
+import subprocess
+import sys
+import tempfile
+
+import definitions
+import evidence_calls as calls
+import evidence_independent
+import evidence_plants as plants
+
+EVENTS = 3000000
+REPLAYS = 300
+SMALL = 1500
+WEAKER = os.path.join(calls.ROOT, 'tests', 'data', 'weaker.txt')
+INDEPENDENT = evidence_independent.Independent()
+MODES = ('random', 'greedy', 'adversarial')
+
+SIMULATOR = r'''/* Runs of plants. Each job has a plant, weights, figures, and a way to draw events, or a list of events. */
+#include <stdint.h>
+#include <stdio.h>
+#include <stdlib.h>
+#define ROWS 1024
+static int types, machines, rows, states[16], machine[ROWS], left[ROWS], entered[ROWS], sent[ROWS], taken[ROWS], progress[ROWS];
+static int error, state[16];
+static long long weight[64], content[64], potential[16][64], f, n, per_progress, factor;
+static long long quiet, others, lost, offered, happened, opening;
+static uint64_t seed;
+static unsigned draw(unsigned below) { seed = seed * 6364136223846793005u + 1442695040888963407u; return (unsigned)((seed >> 33) % below); }
+static int can(int k) {
+    if (k < 0 || k >= rows) return 0;
+    return (state[machine[k]] == left[k] || error == 3) && (taken[k] < 0 || content[taken[k]] > 0);
+}
+static void happen(int k) {
+    state[machine[k]] = entered[k];
+    if (taken[k] >= 0 && error != 1) content[taken[k]]--;
+    if (sent[k] >= 0) content[sent[k]] += error == 2 && draw(4) == 0 ? 2 : 1;
+    if (progress[k] && error != 4) others++; else quiet++;
+    happened++;
+}
+static void event_row(int k) { offered++; if (can(k)) happen(k); }
+static void event_loss(int t) { offered++; if (t < types && content[t] > 0) { content[t]--; lost++; happened++; } }
+static long long bound(void) { return f + factor * opening + per_progress * others; }
+static void begin(int most) {
+    opening = quiet = others = 0;
+    for (int m = 0; m < machines; m++) state[m] = (int)draw((unsigned)states[m]);
+    for (int t = 0; t < types; t++) { content[t] = draw(3) ? 0 : draw((unsigned)most + 1); opening += weight[t] * content[t]; }
+}
+static long long rise(int k) {
+    return n * ((sent[k] >= 0 ? weight[sent[k]] : 0) - (taken[k] >= 0 ? weight[taken[k]] : 0)) + potential[machine[k]][entered[k]] - potential[machine[k]][left[k]];
+}
+/* A row that can happen: quiet if there is one. The adversary takes the one after which the rank is highest. */
+static int choose(int mode) {
+    int best = -1, ties = 0;
+    for (int k = 0; k < rows; k++) {
+        if (!can(k)) continue;
+        int better = best < 0 || progress[k] < progress[best] || (mode == 2 && progress[k] == progress[best] && rise(k) > rise(best));
+        int equal = best >= 0 && progress[k] == progress[best] && (mode == 1 || rise(k) == rise(best));
+        if (better) { best = k; ties = 1; }
+        else if (equal && draw((unsigned)++ties) == 0) best = k;
+    }
+    return best;
+}
+static int step(int mode) {
+    unsigned kind = draw(64);
+    if (mode == 0 ? kind < 6 : kind < 1 && mode == 1) { event_loss((int)draw((unsigned)types + 2)); return 1; }
+    if (mode == 0 || kind >= 56) { event_row((int)draw((unsigned)rows + 3)); return 1; }
+    int k = choose(mode);
+    if (k < 0) return 0;
+    event_row(k);
+    return 1;
+}
+static void drawn(int mode, long long wanted) {
+    for (long long runs = 0; happened < wanted && offered + runs < 40 * wanted; runs++) {
+        begin(mode == 0 ? 50 : draw(2) ? 5 : 200);
+        for (int length = 0; length < 2000 && happened < wanted && step(mode); length++)
+            if (quiet > bound()) { printf("exceeded %lld %lld %lld %lld\n", quiet, others, opening, bound()); return; }
+    }
+    printf("held %lld %lld %lld\n", offered, happened, lost);
+}
+static long long number(void) { long long x; if (scanf("%lld", &x) != 1) exit(1); return x; }
+static void replay(void) {
+    quiet = others = 0;
+    for (int m = 0; m < machines; m++) state[m] = (int)number();
+    for (int t = 0; t < types; t++) content[t] = number();
+    for (int count = (int)number(); count > 0; count--) { long long kind = number(); if (kind) event_loss((int)number()); else event_row((int)number()); }
+    printf("ran %lld %lld", quiet, others);
+    for (int m = 0; m < machines; m++) printf(" %d", state[m]);
+    printf("\n");
+}
+int main(void) {
+    for (long long jobs = number(); jobs > 0; jobs--) {
+        offered = happened = lost = 0;
+        types = (int)number(); machines = (int)number(); rows = (int)number();
+        for (int m = 0; m < machines; m++) states[m] = (int)number();
+        for (int k = 0; k < rows; k++) {
+            machine[k] = (int)number(); left[k] = (int)number(); entered[k] = (int)number();
+            sent[k] = (int)number(); taken[k] = (int)number(); progress[k] = (int)number();
+        }
+        for (int t = 0; t < types; t++) weight[t] = number();
+        for (int m = 0; m < machines; m++) for (int s = 0; s < states[m]; s++) potential[m][s] = number();
+        f = number(); n = number(); per_progress = number(); factor = number();
+        error = (int)number(); seed = (uint64_t)number();
+        int mode = (int)number();
+        if (mode == 3) replay(); else drawn(mode, number());
+    }
+    return 0;
+}
+'''
+
+
+# ---- jobs of the simulator
+
+def potentials(plant, weights):
+    """For each machine and state the greatest length of a quiet walk from it, a row having length 1 + n * weight."""
+    n, found = max(plant.states), []
+    for m, states in enumerate(plant.states):
+        edges = [(r.left, r.entered, 1 + n * (weights[r.sent] if r.sent is not None else 0) - n * (weights[r.taken] if r.taken is not None else 0))
+                 for r in plant.rows if r.machine == m and not r.progress]
+        best = [0] * states
+        for _ in range(states - 1):
+            best = [max([0] + [length + best[b] for a, b, length in edges if a == s]) for s in range(states)]
+        found += best
+    return found
+
+
+@functools.lru_cache(None)
+def plant_numbers(data, weights):
+    """A plant as the simulator reads it, weights and potentials included."""
+    plant = INDEPENDENT.plant(data)
+    numbers = [plant.types, len(plant.states), len(plant.rows)] + plant.states
+    for r in plant.rows:
+        numbers += [r.machine, r.left, r.entered, -1 if r.sent is None else r.sent, -1 if r.taken is None else r.taken, int(r.progress)]
+    return numbers + list(weights) + potentials(plant, weights)
+
+
+def simulated(simulator, jobs):
+    text = ' '.join(str(x) for job in [[len(jobs)]] + jobs for x in job)
+    done = subprocess.run([simulator], input=text, capture_output=True, text=True)
+    lines = done.stdout.split('\n')[:-1]
+    if done.returncode != 0 or len(lines) != len(jobs):
+        sys.exit('evidence: runs: %d answers to %d jobs' % (len(lines), len(jobs)))
+    return [line.split() for line in lines]
+
+
+# ---- plants with weights that pass
+
+def tight(rng):
+    """A ring that takes one message in each round; others that send in all their rows and are reset by a progress row."""
+    n = rng.choice([1, 2, 3, 4])
+    ring = [(s, (s + 1) % n, None, 0 if s == 0 else None, False) for s in range(n)]
+    machines = [(n, ring)]
+    for _ in range(rng.randint(1, 15)):
+        states = rng.choice([1, n, n])
+        machines.append((states, [(s, s + 1, 0, None, False) for s in range(states - 1)] + [(states - 1, 0, rng.choice([0, None]), None, True)]))
+    rng.shuffle(machines)
+    return 1, machines
+
+
+def with_passing_weights(program, rng, makers, count, largest):
+    """Plants, weights and the figures F, n and G that the library gives for them."""
+    requests = []
+    for _ in range(count):
+        types, machines = rng.choice(makers)(rng)
+        data = plants.plant_file(rng, types, machines)
+        tries = [[t + 1 for t in range(types)]] + [[rng.randint(0, rng.choice([1, 3, largest])) for _ in range(types)] for _ in range(6)]
+        tries = [[0] * types] * (rng.random() < 0.3) + tries
+        requests += [calls.request(data, [min(w, largest) for w in weights], calls=('weigh',)) for weights in tries]
+    found = []
+    for q, got in zip(requests, calls.answers(program, requests)):
+        words = got['weigh'].split()
+        if words[0] == 'passed' and not (found and found[-1][0] == q.file):
+            found.append((q.file, q.weights, tuple(int(x) for x in words[1:4])))
+    return found
+
+
+# ---- weaker formulas: F, the factor of W, and G
+
+def weaker(plant, weights):
+    n, s, w = max(plant.states), sum(x - 1 for x in plant.states), max(weights, default=0)
+    first = plant.states[0]
+    return {
+        'without-S': (n * w * s, n, n - 1 + n * n * w),
+        'without-nwS': (s, n, n - 1 + n * n * w),
+        'without-n-1': (s + n * w * s, n, n * n * w),
+        'without-nnw': (s + n * w * s, n, n - 1),
+        'n-of-machine-0': (s + first * w * s, first, first - 1 + first * first * w),
+        'W-for-nW': (s + n * w * s, 1, n - 1 + n * n * w),
+    }
+
+
+FORMULAS = list(weaker(evidence_independent.Plant(0, [1], []), []))
+SIMULATOR_ERRORS = {1: 'a row takes no message away', 2: 'the bus doubles messages', 3: 'a row happens in any state', 4: 'progress rows count as quiet'}
+
+
+def job(case, bound, mode, seed, events, error=0):
+    """A job of the simulator; the bound has F, the factor of W, and G."""
+    data, weights, (_, n, _) = case
+    f, factor, per_progress = bound
+    return plant_numbers(data, tuple(weights)) + [f, n, per_progress, factor, error, seed, mode, events]
+
+
+def hold_runs(simulator, cases, events):
+    """Every case in every mode; how many events were offered, were losses that happened, and happened in each mode."""
+    each = events // (2 * len(cases)) + 1
+    jobs = [job(c, c[2], mode, i, each) for i, c in enumerate(cases) for mode in range(3)]
+    offered, lost, happened = 0, 0, [0, 0, 0]
+    for i, words in enumerate(simulated(simulator, jobs)):
+        if words[0] != 'held':
+            data, weights, figures = cases[i // 3]
+            sys.exit('evidence: runs: plant %s, weights %s, figures %s, %s: quiet rows, others, W, bound: %s'
+                     % (data.hex(), weights, figures, MODES[i % 3], words[1:]))
+        offered, lost = offered + int(words[1]), lost + int(words[3])
+        happened[i % 3] += int(words[2])
+    return offered, lost, happened
+
+
+def hold_simulator(simulator, rng, cases):
+    """The simulator counts as the one of definitions.py does, on random lists of events."""
+    jobs, owed = [], []
+    for case in rng.choices(cases, k=REPLAYS):
+        plant = INDEPENDENT.plant(case[0])
+        states = [rng.randrange(s) for s in plant.states]
+        contents = [rng.randint(0, 3) for _ in range(plant.types)]
+        events = definitions.random_events(rng, plant, 200)
+        quiet, progress, end = definitions.simulate(plant, states, contents, events)
+        owed.append([str(x) for x in [quiet, progress] + end])
+        listed = [x for kind, k in events for x in (int(kind == 'loss'), k)]
+        jobs.append(job(case, (0, 0, 0), 3, 0, 0)[:-1] + states + contents + [len(events)] + listed)
+    for words, numbers in zip(simulated(simulator, jobs), owed):
+        if words[1:] != numbers:
+            sys.exit('evidence: runs: the two simulators differ: %s and %s' % (words, numbers))
+
+
+def catches(simulator, cases):
+    """Wrong simulators and weaker bounds: each must be exceeded."""
+    for error, name in SIMULATOR_ERRORS.items():
+        if all(w[0] == 'held' for w in simulated(simulator, [job(c, c[2], 1, i, 3000, error) for i, c in enumerate(cases)])):
+            sys.exit('evidence: runs: the planted error "%s" is not found' % name)
+    for name in FORMULAS:
+        jobs = [job(c, weaker(INDEPENDENT.plant(c[0]), c[1])[name], mode, i, 1000) for i, c in enumerate(cases) for mode in (1, 2)]
+        if all(w[0] == 'held' for w in simulated(simulator, jobs)):
+            sys.exit('evidence: runs: no run exceeds the bound %s' % name)
+    return len(SIMULATOR_ERRORS) + len(FORMULAS)
+
+
+# ---- exact maxima
+
+def steps(plant, config):
+    """What can happen: the event, the quiet rows it counts, and the configuration after it."""
+    states, contents, g = config
+    for k, r in enumerate(plant.rows):
+        if states[r.machine] != r.left or r.taken is not None and not contents[r.taken] or r.progress and not g:
+            continue
+        after = list(contents)
+        if r.taken is not None:
+            after[r.taken] -= 1
+        if r.sent is not None:
+            after[r.sent] += 1
+        moved = states[:r.machine] + (r.entered,) + states[r.machine + 1:]
+        yield ('row', k), int(not r.progress), (moved, tuple(after), g - r.progress)
+    for t, x in enumerate(contents):
+        if x:
+            yield ('loss', t), 0, (states, contents[:t] + (x - 1,) + contents[t + 1:], g)
+
+
+def best(plant, config, known, most=20000):
+    """The most quiet rows of a run from a configuration with at most g progress rows, or None where the search is too long."""
+    stack = [config]
+    while stack:
+        at = stack[-1]
+        if at in known:
+            stack.pop()
+            continue
+        ways = list(steps(plant, at))
+        missing = [c for _, _, c in ways if c not in known]
+        if missing:
+            stack += missing
+        else:
+            known[at] = max(((known[c][0] + q, e, c) for e, q, c in ways), default=(0, None, None), key=lambda x: x[0])
+            stack.pop()
+        if len(known) + len(stack) > most:
+            return None
+    return known[config][0]
+
+
+def run_of(config, known):
+    """The events of a run that has the most quiet rows."""
+    events = []
+    while known[config][1] is not None:
+        events.append(known[config][1])
+        config = known[config][2]
+    return events
+
+
+def small_tight(rng):
+    types, machines = tight(rng)
+    return types, machines[:2]
+
+
+def tiny(rng):
+    types = rng.choice([0, 1, 1, 2])
+    return types, [(s, plants.loose(rng, s, rng.choice([1, 2, 3, 4]), types)) for s in rng.choices([1, 2, 3], k=rng.choice([1, 2]))]
+
+
+def in_turn(rng):
+    """A machine whose rows lead from state to state, some of them with progress."""
+    types, states = rng.choice([0, 1]), rng.choice([2, 3])
+    rows = [(s, (s + 1) % states) + plants.message(rng, types) + (rng.random() < 0.3,) for s in range(states)]
+    return types, [(1, plants.loose(rng, 1, rng.randint(0, 1), types))] * rng.randint(0, 1) + [(states, rows)]
+
+
+def maxima(program, rng, count):
+    """Small plants with all opening states, some contents and up to two progress rows: the exact maximum (None where the search
+    is too long), and what the search knows."""
+    cases = with_passing_weights(program, rng, [tiny, tiny, in_turn, small_tight], count, 2)
+    found = []
+    for data, weights, _ in cases:
+        plant, known = INDEPENDENT.plant(data), {}
+        contents = tuple(rng.choice([0, 0, 1, 2, 5]) for _ in range(plant.types))
+        for states in itertools.product(*(range(s) for s in plant.states)):
+            for g in range(3):
+                found.append((data, weights, states, contents, g, best(plant, (states, contents, g), known), known))
+    return found
+
+
+def exceeded(plant, weights, contents, g, quiet):
+    """The weaker formulas that a number of quiet rows exceeds."""
+    total = sum(w * x for w, x in zip(weights, contents))
+    return [name for name, (f, factor, per_progress) in weaker(plant, weights).items() if quiet > f + factor * total + per_progress * g]
+
+
+def hold_maxima(program, found):
+    """No maximum exceeds its ceiling; how many meet it, how near others with n above 1 and w above 0 come, and how many exceed
+    each weaker formula."""
+    answers = calls.answers(program, [calls.request(d, w, contents=c, g=g, calls=('quote',)) for d, w, _, c, g, _, _ in found])
+    met, share, broken = 0, 0, dict.fromkeys(FORMULAS, 0)
+    for (data, weights, states, contents, g, most, _), got in zip(found, answers):
+        words = got['quote'].split()
+        if words[0] != 'ceiling' or most > int(words[1]):
+            sys.exit('evidence: runs: plant %s, weights %s, states %s, contents %s, g %d: %d quiet rows, but %s'
+                     % (data.hex(), weights, states, contents, g, most, words))
+        met += most == int(words[1]) > 0
+        if max(weights, default=0) > 0 and max(INDEPENDENT.plant(data).states) > 1:
+            share = max(share, most / int(words[1]))
+        for name in exceeded(INDEPENDENT.plant(data), weights, contents, g, most):
+            broken[name] += 1
+    if met < 5 or min(broken.values()) < 3:
+        sys.exit('evidence: runs: maxima meet the ceiling %d times and exceed the weaker formulas %s times' % (met, broken))
+    return met, share, broken
+
+
+# ---- stored runs
+
+def parse(line):
+    name, data, weights, states, contents, events = (part.strip() for part in line.split(':'))
+    numbers = [[int(x) for x in part.split()] for part in (weights, states, contents)]
+    return [name, bytes.fromhex(data)] + numbers + [[('loss' if e[0] == 'l' else 'row', int(e[1:])) for e in events.split()]]
+
+
+def hold_stored(program, lines):
+    """Each stored run exceeds its weaker formula and stays within the ceiling; the weights pass."""
+    met = set()
+    for name, data, weights, states, contents, events in map(parse, lines):
+        plant = INDEPENDENT.plant(data)
+        quiet, g, _ = definitions.simulate(plant, states, contents, events)
+        got = calls.answers(program, [calls.request(data, weights, contents=contents, g=g, calls=('quote',))])[0]['quote'].split()
+        if got[0] != 'ceiling' or quiet > int(got[1]) or name not in exceeded(plant, weights, contents, g, quiet):
+            sys.exit('evidence: runs: the stored run for %s has %d quiet rows and %d others; %s' % (name, quiet, g, got))
+        met.add(name)
+    if met != set(FORMULAS):
+        sys.exit('evidence: runs: there is no stored run for %s' % (set(FORMULAS) - met))
+
+
+def stored():
+    with open(WEAKER, encoding='ascii') as lines:
+        return [line for line in lines if not line.startswith('#')]
+
+
+def store(program):
+    """For each weaker formula the shortest three runs that the search finds."""
+    found, lines = [m for m in maxima(program, random.Random(3), 6000) if m[5] is not None], []
+    for name in FORMULAS:
+        runs = []
+        for data, weights, states, contents, g, most, known in found:
+            events = run_of((states, contents, g), known)
+            made = definitions.simulate(INDEPENDENT.plant(data), states, contents, events)[1]
+            if name in exceeded(INDEPENDENT.plant(data), weights, contents, made, most):
+                numbers = [' '.join(str(x) for x in part) for part in (weights, states, contents)]
+                line = ' : '.join([name, data.hex()] + numbers + [' '.join(kind[0] + str(k) for kind, k in events)])
+                runs.append((len(events), len(line), line))
+        lines += [line for _, _, line in sorted(set(runs))[:3]]
+    with open(WEAKER, 'w', encoding='ascii') as out:
+        out.write('# Runs that exceed a weaker formula: its name, plant file, weights, states, contents, events (r: row, l: loss). '
+                  'tests/evidence_runs.py makes and runs them.\n')
+        out.write('\n'.join(lines) + '\n')
+
+
+# ---- the part
+
+def main(program, folder, seed, long):
+    rng = random.Random(seed + 3)
+    simulator = calls.compiled(folder, 'runs', SIMULATOR, library=False)
+    makers = [plants.small, plants.passing, plants.exchange, plants.first_not_largest, plants.many_machines, plants.rings, tight, tight, tiny]
+    cases = [c for c in with_passing_weights(program, rng, makers, 1200, 1000) if INDEPENDENT.plant(c[0]).rows]
+    hold_simulator(simulator, rng, cases)
+    offered, lost, happened = hold_runs(simulator, cases, EVENTS * (20 if long else 1))
+    if sum(happened) < 2000000 or min(happened) < 500000:
+        sys.exit('evidence: runs: only %s events happened' % happened)
+    tried = maxima(program, rng, SMALL * (5 if long else 1))
+    found = [m for m in tried if m[5] is not None]
+    met, share, broken = hold_maxima(program, found)
+    lines = stored()
+    hold_stored(program, lines)
+    caught = catches(simulator, cases[:300])
+    exceeding = ', '.join('%s %d' % pair for pair in broken.items())
+    print('evidence: runs: %d events that happened (random %d, greedy %d, adversarial %d; %d losses) of %d offered, on %d plants, stay within the bound; '
+          '%d exact maxima on %d plants stay within it (%d left out as too long), %d meet it (with n above 1 and w above 0 they come to %d %%), '
+          'and weaker formulas are exceeded: %s; %d stored runs; %d planted errors found'
+          % (sum(happened), *happened, lost, offered, len(cases), len(found), len({m[0] for m in found}), len(tried) - len(found), met, 100 * share,
+             exceeding, len(lines), caught))
+
+
+if __name__ == '__main__':
+    with tempfile.TemporaryDirectory() as place:
+        store(calls.build(place))
