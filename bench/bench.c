@@ -1,0 +1,479 @@
+/* Measures a proved call and its peer side by side, in one process and in turn, and prints one line of JSON.
+ *
+ *     bench check CASES SEED                    random inputs: the answers and the lent lists must be the same
+ *     bench read REPS FILE                      the peer judges the rows and keeps none
+ *     bench decode REPS FILE                    the peer keeps the rows in a table
+ *     bench weigh REPS FILE WEIGHTS
+ *     bench floor REPS FILE WEIGHTS             weighing in C with arrays cleared as in Rattle, against the peer
+ *     bench quote REPS FILE WEIGHTS             contents and g are 1,000
+ *     bench list REPS FILE MACHINE ROOM         above 50,000,000 entries the list is only reserved, not held in memory
+ *     bench confirm REPS FILE SET
+ *     bench glpk REPS FILE WEIGHTS CYCLES       the inequalities (1) to (4) of CYCLES, solved by the library of GLPK
+ *     bench process REPS FILE WEIGHTS COMMAND.. weighing against a process
+ *     bench growth REPS WEIGHTS FILE..          weighing each file, against the first
+ *     bench stack CALL FILE [..]                how deep a call goes, on a painted stack
+ */
+#define _GNU_SOURCE
+#include <dlfcn.h>
+#include <fcntl.h>
+#include <pthread.h>
+#include <stdio.h>
+#include <stdlib.h>
+#include <string.h>
+#include <sys/mman.h>
+#include <sys/wait.h>
+#include <time.h>
+#include <unistd.h>
+#include "floor.h"
+#include "hemtaluq.h"
+#include "peer.h"
+
+static void die(const char *what) {
+    fprintf(stderr, "bench: %s\n", what);
+    exit(1);
+}
+
+static double now(void) {
+    struct timespec t;
+    clock_gettime(CLOCK_MONOTONIC, &t);
+    return (double)t.tv_sec * 1e9 + (double)t.tv_nsec;
+}
+
+static void *load(const char *name, size_t *length) {
+    FILE *f = fopen(name, "rb");
+    if (!f) die(name);
+    uint8_t *data = malloc(1 << 20);
+    *length = fread(data, 1, 1 << 20, f);
+    fclose(f);
+    return data;
+}
+
+/* ---- what the calls are given */
+
+static const uint8_t *file;
+static size_t file_length, weight_count, set_length, room;
+static const uint16_t *weights;
+static const uint32_t *set;
+static uint32_t contents[64], machine, g = 1000;
+static uint16_t cycle_ours[64], cycle_peer[64], *out_ours, *out_peer;
+
+static union { hemtaluq_read_answer r; hemtaluq_weigh_answer w; hemtaluq_quote_answer q; hemtaluq_list_answer l; hemtaluq_confirm_answer c; } a, b;
+
+static void ours_read(void) { a.r = hemtaluq_read(file, file_length); }
+static void peers_read(void) { b.r = peer_read(file, file_length); }
+static void peers_decode(void) { b.r = peer_decode(file, file_length); }
+static void ours_weigh(void) { a.w = hemtaluq_weigh(file, file_length, weights, weight_count, cycle_ours, 64); }
+static void peers_weigh(void) { b.w = peer_weigh(file, file_length, weights, weight_count, cycle_peer, 64); }
+static void floors_weigh(void) { a.w = floor_weigh(file, file_length, weights, weight_count, cycle_ours, 64); }
+static void ours_quote(void) { a.q = hemtaluq_quote(file, file_length, weights, weight_count, contents, weight_count, g); }
+static void peers_quote(void) { b.q = peer_quote(file, file_length, weights, weight_count, contents, weight_count, g); }
+static void ours_list(void) { a.l = hemtaluq_list(file, file_length, machine, out_ours, room); }
+static void peers_list(void) { b.l = peer_list(file, file_length, machine, out_peer, room); }
+static void ours_confirm(void) { a.c = hemtaluq_confirm(file, file_length, set, set_length); }
+static void peers_confirm(void) { b.c = peer_confirm(file, file_length, set, set_length); }
+
+static int same_read(void) { return a.r.kind == b.r.kind && a.r.number == b.r.number && a.r.types == b.r.types && a.r.place == b.r.place && a.r.machines == b.r.machines && a.r.rows == b.r.rows; }
+static int same_weigh(void) { return a.w.kind == b.w.kind && a.w.number == b.w.number && a.w.place == b.w.place && a.w.base == b.w.base && a.w.states == b.w.states && a.w.per_progress == b.w.per_progress && a.w.rows == b.w.rows && !memcmp(cycle_ours, cycle_peer, sizeof cycle_ours); }
+static int same_quote(void) { return a.q.kind == b.q.kind && a.q.number == b.q.number && a.q.place == b.q.place && a.q.price_class == b.q.price_class && a.q.ceiling == b.q.ceiling; }
+static int same_list(void) { return a.l.kind == b.l.kind && a.l.number == b.l.number && a.l.place == b.l.place && a.l.entries == b.l.entries && (a.l.kind != HEMTALUQ_LISTED || !memcmp(out_ours, out_peer, 2 * room)); }
+static int same_confirm(void) { return a.c.kind == b.c.kind && a.c.number == b.c.number && a.c.place == b.c.place && a.c.message_type == b.c.message_type && a.c.sum == b.c.sum; }
+
+/* ---- measuring */
+
+static int by_size(const void *x, const void *y) {
+    double p = *(const double *)x, q = *(const double *)y;
+    return (p > q) - (p < q);
+}
+
+static double median(double *v, int n) {
+    qsort(v, (size_t)n, sizeof *v, by_size);
+    return n % 2 ? v[n / 2] : (v[n / 2 - 1] + v[n / 2]) / 2;
+}
+
+static double timed(void (*f)(void), long calls) {
+    double t = now();
+    for (long i = 0; i < calls; i++) f();
+    return (now() - t) / (double)calls;
+}
+
+/* How many calls take at least 200 microseconds. */
+static long batch(void (*f)(void)) {
+    long calls = 1;
+    while (timed(f, calls) * (double)calls < 200000 && calls < 1000000) calls *= 2;
+    return calls;
+}
+
+/* In each repetition the one, then the other; the order changes from one repetition to the next. */
+static void compare(int reps, void (*ours)(void), void (*theirs)(void), double (*their_time)(void)) {
+    double *o = malloc(sizeof *o * (size_t)reps), *p = malloc(sizeof *p * (size_t)reps), *r = malloc(sizeof *r * (size_t)reps);
+    long calls = batch(ours), others = theirs ? batch(theirs) : 0;
+    for (int i = 0; i < reps; i++) {
+        if (i % 2) o[i] = timed(ours, calls);
+        p[i] = theirs ? timed(theirs, others) : their_time();
+        if (!(i % 2)) o[i] = timed(ours, calls);
+        r[i] = o[i] / p[i];
+    }
+    double ratio = median(r, reps);
+    printf("\"ours_ns\": %.1f, \"peer_ns\": %.1f, \"ratio\": %.6g, \"low\": %.6g, \"high\": %.6g, \"reps\": %d}\n", median(o, reps), median(p, reps), ratio, r[reps / 4], r[reps - 1 - reps / 4], reps);
+}
+
+static void checked(int reps, void (*ours)(void), void (*theirs)(void), int (*same)(void)) {
+    ours();
+    theirs();
+    if (!same()) die("the peer's answer differs");
+    printf("{\"kind\": %d, \"number\": %d, ", a.r.kind, a.r.number);
+    compare(reps, ours, theirs, 0);
+}
+
+/* ---- random inputs */
+
+static uint64_t seed;
+
+static unsigned below(unsigned n) {
+    seed ^= seed << 13;
+    seed ^= seed >> 7;
+    seed ^= seed << 17;
+    return (unsigned)(seed >> 11) % n;
+}
+
+#define PICK(...) ((const unsigned[]){__VA_ARGS__}[below(sizeof((const unsigned[]){__VA_ARGS__}) / sizeof(unsigned))])
+
+static size_t random_plant(uint8_t *f) {
+    unsigned machines = PICK(1, 1, 2, 3, 5), types = PICK(0, 1, 2, 3, 8);
+    size_t at = 0;
+    f[at++] = (uint8_t)machines;
+    f[at++] = (uint8_t)types;
+    for (unsigned m = 0; m < machines; m++) {
+        unsigned states = PICK(1, 2, 3, 4, 9, 24, 25, 64), rows = PICK(0, 1, 2, 4, 8, 14, 30);
+        f[at++] = (uint8_t)states;
+        f[at++] = (uint8_t)rows;
+        for (unsigned k = 0; k < rows; k++) {
+            unsigned map = PICK(0, 1, 2, 3, 3, 3) | (below(4) ? 0 : 16) | (types ? PICK(0, 4, 8, 8) : 0);
+            f[at++] = (uint8_t)map;
+            if (map & 1) f[at++] = (uint8_t)below(states);
+            if (map & 2) f[at++] = (uint8_t)below(states);
+            if (map & 12) f[at++] = (uint8_t)below(types);
+        }
+    }
+    if (!below(12)) f[below((unsigned)at)] = (uint8_t)below(256);
+    if (!below(30)) at -= 1;
+    if (!below(30)) f[at++] = 0;
+    return at;
+}
+
+/* A set of cycles that were listed, now and then with a wrong number. */
+static size_t random_set(uint32_t *s, unsigned machines) {
+    size_t at = 0;
+    for (unsigned entries = PICK(0, 1, 2, 3, 5, 257); entries > 0; entries--) {
+        hemtaluq_list_answer l = peer_list(file, file_length, machine = below(machines), out_peer, 200000);
+        if (l.kind != HEMTALUQ_LISTED || l.entries == 0) continue;
+        size_t i = 0;
+        for (unsigned skip = below(6); skip > 0 && i + out_peer[i] + 1 < l.entries; skip--) i += out_peer[i] + 1u;
+        unsigned rows = out_peer[i], turn = below(rows);
+        s[at++] = machine;
+        s[at++] = PICK(1, 1, 2, 1000000);
+        s[at++] = rows;
+        for (unsigned k = 0; k < rows; k++) s[at++] = out_peer[i + 1 + (k + turn) % rows];
+    }
+    if (at && !below(6)) s[below((unsigned)at)] = PICK(0, 1, 2, 65, 1000001, 70000);
+    if (at && !below(12)) at--;
+    return at;
+}
+
+static void differ(const char *call) {
+    fprintf(stderr, "bench: %s differs on ", call);
+    for (size_t i = 0; i < file_length; i++) fprintf(stderr, "%02x", file[i]);
+    fprintf(stderr, "\n");
+    exit(1);
+}
+
+static void check(long cases) {
+    static uint8_t plant[8192];
+    static uint16_t w[65];
+    static uint32_t s[300 * 70];
+    long kinds[8] = {0};
+    file = plant;
+    weights = w;
+    set = s;
+    out_ours = malloc(400000);
+    out_peer = malloc(400000);
+    for (long i = 0; i < cases; i++) {
+        file_length = random_plant(plant);
+        hemtaluq_read_answer r = peer_read(file, file_length);
+        unsigned largest = PICK(2, 4, 1001, 1002);
+        weight_count = r.types + !below(40);
+        for (size_t t = 0; t < weight_count; t++) w[t] = (uint16_t)below(largest);
+        for (size_t t = 0; t < 64; t++) contents[t] = below(PICK(5, 1000001, 1000002));
+        g = below(PICK(5, 1000001, 1000002));
+        for (int t = 0; t < 64; t++) cycle_ours[t] = cycle_peer[t] = (uint16_t)below(65536);
+        ours_read(), peers_read();
+        if (!same_read()) differ("read");
+        peers_decode();
+        if (!same_read()) differ("decode");
+        kinds[a.r.kind]++;
+        ours_weigh(), peers_weigh();
+        if (!same_weigh()) differ("weigh");
+        kinds[a.w.kind]++;
+        ours_quote(), peers_quote();
+        if (!same_quote()) differ("quote");
+        kinds[a.q.kind]++;
+        set_length = random_set(s, r.kind == HEMTALUQ_COUNTS ? (unsigned)r.machines : 1);
+        ours_confirm(), peers_confirm();
+        if (!same_confirm()) differ("confirm");
+        kinds[a.c.kind]++;
+        machine = below(4);
+        room = PICK(0, 2, 3, 10, 100, 200000);
+        memset(out_ours, 0xA5, 2 * room);
+        memset(out_peer, 0xA5, 2 * room);
+        ours_list(), peers_list();
+        if (!same_list() || memcmp(out_ours, out_peer, 2 * room)) differ("list");
+        kinds[a.l.kind]++;
+    }
+    for (int k = 0; k < 8; k++)
+        if (kinds[k] < cases / 100) die("an answer was met too seldom");
+    printf("{\"cases\": %ld, \"refused\": %ld, \"counts\": %ld, \"passed\": %ld, \"cycle\": %ld, \"ceiling\": %ld, \"listed\": %ld, \"confirmed\": %ld, \"negative\": %ld}\n", cases, kinds[0], kinds[1], kinds[2], kinds[3], kinds[4], kinds[5], kinds[6], kinds[7]);
+}
+
+/* ---- GLPK, by its shared library; no header is needed */
+
+static struct {
+    void *(*create)(void);
+    void (*delete)(void *);
+    int (*add_rows)(void *, int), (*add_cols)(void *, int);
+    void (*set_row)(void *, int, int, double, double), (*set_col)(void *, int, int, double, double);
+    void (*matrix)(void *, int, const int *, const int *, const double *);
+    void (*basis)(void *);
+    int (*simplex)(void *, const void *), (*status)(void *), (*term)(int);
+} lp;
+
+static int lp_rows, lp_cols, lp_entries, lp_i[4096], lp_j[4096];
+static double lp_v[4096];
+static void *problem;
+
+#define SYMBOL(field, name) if (!(*(void **)&lp.field = dlsym(library, name))) die(name)
+
+static void open_glpk(void) {
+    void *library = dlopen("libglpk.so.40", RTLD_NOW);
+    if (!library) die("libglpk.so.40 is missing");
+    SYMBOL(create, "glp_create_prob");
+    SYMBOL(delete, "glp_delete_prob");
+    SYMBOL(add_rows, "glp_add_rows");
+    SYMBOL(add_cols, "glp_add_cols");
+    SYMBOL(set_row, "glp_set_row_bnds");
+    SYMBOL(set_col, "glp_set_col_bnds");
+    SYMBOL(matrix, "glp_load_matrix");
+    SYMBOL(basis, "glp_std_basis");
+    SYMBOL(simplex, "glp_simplex");
+    SYMBOL(status, "glp_get_status");
+    SYMBOL(term, "glp_term_out");
+    lp.term(0);
+}
+
+/* CYCLES: types, count of cycles, then for each whether it has progress and its effect for each type. */
+static int *cycles;
+
+static void make_problem(void) {
+    int types = cycles[0], count = cycles[1], *c = cycles + 2;
+    lp_rows = types + 1;
+    lp_cols = count;
+    lp_entries = 0;
+    problem = lp.create();
+    lp.add_rows(problem, lp_rows);
+    lp.add_cols(problem, lp_cols);
+    for (int t = 1; t <= types; t++) lp.set_row(problem, t, 2, 0, 0);
+    lp.set_row(problem, types + 1, 2, 1, 0);
+    for (int j = 1; j <= count; j++, c += types + 1) {
+        lp.set_col(problem, j, c[0] ? 5 : 2, 0, 0);
+        for (int t = 1; t <= types; t++)
+            if (c[t]) lp_entries++, lp_i[lp_entries] = t, lp_j[lp_entries] = j, lp_v[lp_entries] = c[t];
+        lp_entries++, lp_i[lp_entries] = types + 1, lp_j[lp_entries] = j, lp_v[lp_entries] = 1;
+    }
+    lp.matrix(problem, lp_entries, lp_i, lp_j, lp_v);
+}
+
+static void solve(void) {
+    lp.basis(problem);
+    if (lp.simplex(problem, 0)) die("glp_simplex failed");
+}
+
+static void build_and_solve(void) {
+    make_problem();
+    if (lp.simplex(problem, 0)) die("glp_simplex failed");
+    lp.delete(problem);
+}
+
+static void read_cycles(const char *name) {
+    FILE *f = fopen(name, "r");
+    int n = 0;
+    if (!f) die(name);
+    cycles = malloc(65536 * sizeof *cycles);
+    while (n < 65536 && fscanf(f, "%d", &cycles[n]) == 1) n++;
+    fclose(f);
+}
+
+static void glpk(int reps) {
+    open_glpk();
+    make_problem();
+    solve();
+    if (lp.status(problem) != 4) die("GLPK finds a balanced set");
+    printf("{");
+    compare(reps, ours_weigh, solve, 0);
+    printf("{");
+    compare(reps, ours_weigh, build_and_solve, 0);
+}
+
+/* ---- processes */
+
+static char **command;
+
+static double process_time(void) {
+    double t = now();
+    pid_t pid = fork();
+    if (pid == 0) {
+        int null = open("/dev/null", O_WRONLY);
+        dup2(null, 1);
+        dup2(null, 2);
+        execvp(command[0], command);
+        _exit(127);
+    }
+    int status;
+    waitpid(pid, &status, 0);
+    if (!WIFEXITED(status) || WEXITSTATUS(status) == 127) die("the process failed");
+    return now() - t;
+}
+
+/* ---- growth */
+
+#define SIZES 8
+
+static void growth(int reps, int count, char **names) {
+    const uint8_t *files[SIZES];
+    size_t lengths[SIZES];
+    long calls[SIZES], others[SIZES];
+    double *ratio[2][SIZES], base[2] = {0, 0};
+    for (int i = 0; i < count; i++) {
+        file = files[i] = load(names[i], &lengths[i]);
+        file_length = lengths[i];
+        ours_weigh(), peers_weigh();
+        if (!same_weigh()) die("the peer's answer differs");
+        calls[i] = batch(ours_weigh);
+        others[i] = batch(peers_weigh);
+        for (int j = 0; j < 2; j++) ratio[j][i] = malloc(sizeof(double) * (size_t)reps);
+    }
+    for (int r = 0; r < reps; r++)
+        for (int i = 0; i < count; i++) {
+            file = files[i];
+            file_length = lengths[i];
+            double t[2] = {timed(ours_weigh, calls[i]), timed(peers_weigh, others[i])};
+            for (int j = 0; j < 2; j++) {
+                if (i == 0) base[j] = t[j];
+                ratio[j][i][r] = t[j] / base[j];
+            }
+        }
+    for (int j = 0; j < 2; j++) {
+        printf(j ? ", \"peer\": [" : "{\"ours\": [");
+        for (int i = 0; i < count; i++) printf("%s%.4g", i ? ", " : "", median(ratio[j][i], reps));
+        printf("]");
+    }
+    printf("}\n");
+}
+
+/* ---- stack */
+
+#define STACK (1 << 20)
+
+static void (*deep)(void);
+static void nothing(void) {}
+static void *on_thread(void *unused) { (void)unused; deep(); return 0; }
+
+static long depth_of(void (*f)(void)) {
+    uint8_t *stack = mmap(0, STACK, PROT_READ | PROT_WRITE, MAP_PRIVATE | MAP_ANONYMOUS, -1, 0);
+    pthread_attr_t attr;
+    pthread_t thread;
+    memset(stack, 0xA5, STACK);
+    pthread_attr_init(&attr);
+    pthread_attr_setstack(&attr, stack, STACK);
+    deep = f;
+    if (pthread_create(&thread, &attr, on_thread, 0)) die("no thread");
+    pthread_join(thread, 0);
+    long i = 0;
+    while (i < STACK && stack[i] == 0xA5) i++;
+    munmap(stack, STACK);
+    return STACK - i;
+}
+
+static void stack_use(void (*ours)(void), void (*theirs)(void)) {
+    long base = depth_of(nothing);
+    printf("{\"ours\": %ld, \"peer\": %ld}\n", depth_of(ours) - base, depth_of(theirs) - base);
+}
+
+static void lend(void) {
+    size_t bytes = 2 * room + 2;
+    int kept = room <= 50000000;
+    out_ours = mmap(0, bytes, PROT_READ | PROT_WRITE, MAP_PRIVATE | MAP_ANONYMOUS | MAP_NORESERVE, -1, 0);
+    out_peer = mmap(0, bytes, PROT_READ | PROT_WRITE, MAP_PRIVATE | MAP_ANONYMOUS | MAP_NORESERVE, -1, 0);
+    if (out_ours == MAP_FAILED || out_peer == MAP_FAILED) die("no room for the list");
+    if (kept) {
+        memset(out_ours, 0, bytes);
+        memset(out_peer, 0, bytes);
+    }
+}
+
+int main(int argc, char **argv) {
+    if (argc < 3) die("too few arguments");
+    const char *mode = argv[1];
+    if (!strcmp(mode, "check")) {
+        seed = strtoull(argv[3], 0, 10) * 2 + 1;
+        check(atol(argv[2]));
+        return 0;
+    }
+    int stack = !strcmp(mode, "stack"), reps = stack ? 0 : atoi(argv[2]);
+    const char *call = stack ? argv[2] : mode;
+    if (!strcmp(mode, "growth")) {
+        weights = load(argv[3], &weight_count);
+        weight_count /= 2;
+        if (argc - 4 > SIZES) die("too many sizes");
+        growth(reps, argc - 4, argv + 4);
+        return 0;
+    }
+    file = load(argv[3], &file_length);
+    for (int i = 0; i < 64; i++) contents[i] = 1000;
+    if (argc > 4 && strcmp(call, "list") && strcmp(call, "confirm")) {
+        weights = load(argv[4], &weight_count);
+        weight_count /= 2;
+    }
+    void (*ours)(void) = 0, (*theirs)(void) = 0;
+    int (*same)(void) = 0;
+    if (!strcmp(call, "read")) ours = ours_read, theirs = peers_read, same = same_read;
+    if (!strcmp(call, "decode")) ours = ours_read, theirs = peers_decode, same = same_read;
+    if (!strcmp(call, "weigh")) ours = ours_weigh, theirs = peers_weigh, same = same_weigh;
+    if (!strcmp(call, "floor")) ours = floors_weigh, theirs = peers_weigh, same = same_weigh;
+    if (!strcmp(call, "quote")) ours = ours_quote, theirs = peers_quote, same = same_quote;
+    if (!strcmp(call, "list")) {
+        machine = (uint32_t)atol(argv[4]);
+        room = strtoull(argv[5], 0, 10);
+        lend();
+        ours = ours_list, theirs = peers_list, same = same_list;
+    }
+    if (!strcmp(call, "confirm")) {
+        set = load(argv[4], &set_length);
+        set_length /= 4;
+        ours = ours_confirm, theirs = peers_confirm, same = same_confirm;
+    }
+    if (!strcmp(call, "glpk")) {
+        read_cycles(argv[5]);
+        glpk(reps);
+        return 0;
+    }
+    if (!strcmp(call, "process")) {
+        command = argv + 5;
+        printf("{");
+        fflush(stdout);
+        compare(reps, ours_weigh, 0, process_time);
+        return 0;
+    }
+    if (!ours) die("unknown call");
+    if (stack) stack_use(ours, theirs);
+    else checked(reps, ours, theirs, same);
+    return 0;
+}

@@ -1,0 +1,185 @@
+"""The inputs of the benchmarks: plants, weights, cycle sets, and the small plants as Promela models and linear programs.
+
+A machine is a count of states and a list of rows; a row is (state left, state entered, type sent or None, type taken or
+None, progress). Every row is written with both states.
+"""
+import random
+import struct
+
+
+# ---- plants
+
+def plant(types, machines):
+    data = [len(machines), types]
+    for states, rows in machines:
+        data += [states, len(rows)]
+        for left, entered, sent, taken, progress in rows:
+            data.append(3 | (4 if sent is not None else 0) | (8 if taken is not None else 0) | (16 if progress else 0))
+            data += [left, entered] + [t for t in (sent, taken) if t is not None]
+    return bytes(data)
+
+
+def sends(a, b, t):
+    return (a, b, t, None, False)
+
+
+def takes(a, b, t, progress=False):
+    return (a, b, None, t, progress)
+
+
+def steps(a, b, progress=False):
+    return (a, b, None, None, progress)
+
+
+PLANT_A = 2, [(2, [sends(0, 1, 0), takes(1, 0, 1, True)]), (2, [takes(0, 1, 0), sends(1, 0, 1)])]
+
+TWO_CLIENTS_IN_TURN = 6, [
+    (4, [sends(0, 1, 0), takes(1, 2, 1), steps(2, 3, True), sends(3, 0, 2)]),
+    (4, [sends(0, 1, 3), takes(1, 2, 4), steps(2, 3), sends(3, 0, 5)]),
+    (6, [takes(0, 1, 0), sends(1, 2, 1), takes(2, 3, 2), takes(3, 4, 3), sends(4, 5, 4), takes(5, 0, 5)])]
+
+RELAY = 3, [
+    (2, [sends(0, 1, 0), takes(1, 0, 2, True)]),
+    (3, [takes(0, 1, 0), steps(1, 2), sends(2, 0, 1)]),
+    (2, [takes(0, 1, 1), sends(1, 0, 2)])]
+
+POLLING = 6, [(6, [r for i in range(3) for r in (sends(2 * i, 2 * i + 1, i), takes(2 * i + 1, (2 * i + 2) % 6, 3 + i, True))])] + [
+    (2, [takes(0, 1, i), sends(1, 0, 3 + i)]) for i in range(3)]
+
+# Name, plant, weights that pass, the capacity of each channel in the Promela model, and SPIN's options -w (its table has 2 to
+# this power places) and -m (the depth that it reserves), from state 0 and from anywhere: cut to what the model needs.
+SMALL = [
+    ('plant A', PLANT_A, [2, 1], 4, ((10, 100), (11, 1000))),
+    ('two clients in turn', TWO_CLIENTS_IN_TURN, [2, 0, 0, 0, 1, 0], 1, ((10, 100), (16, 1000))),
+    ('relay of three', RELAY, [3, 2, 1], 4, ((10, 100), (15, 1000))),
+    ('panel and three probes', POLLING, [2] * 3 + [1] * 3, 1, ((10, 100), (16, 2000))),
+]
+
+
+def ordinary():
+    """Ten machines of eight states in a ring of messages, each with a way round; the first one's take is progress."""
+    machines = []
+    for m in range(10):
+        rows = [takes(0, 1, m, m == 0), steps(1, 2), steps(2, 3), steps(2, 4), steps(3, 5), steps(4, 5), steps(5, 6),
+                sends(6, 7, (m + 1) % 10), steps(7, 0), steps(5, 5, True)]
+        machines.append((8, rows))
+    return 10, machines
+
+
+ORDINARY_PASSES = [1, 10, 9, 8, 7, 6, 5, 4, 3, 2]
+ORDINARY_FAILS = [10, 9, 8, 7, 6, 5, 4, 3, 2, 1]  # the last machine's cycle weighs 9
+
+
+def chains(machines, states, rows, closing=1):
+    """Machines with a chain of sending rows in the order that needs all rounds; the rows back take type 1.
+
+    Each state has rows / states parallel rows. With closing 0 the last machine's rows back take nothing."""
+    made = []
+    for m in range(machines):
+        back = takes if closing or m < machines - 1 else lambda a, b, t: steps(a, b)
+        made.append((states, [sends(s, s + 1, 0) if s + 1 < states else back(s, 0, 1) for s in range(states) for _ in range(rows // states)]))
+    return 2, made
+
+
+CHAIN_WEIGHTS = [1, 1000]
+
+
+def largest():
+    """The longest file: 16 machines, 1,024 rows with all fields, sending and taking in no regular order."""
+    rng = random.Random(4130)
+    return 64, [(64, [(sends if rng.random() < 0.5 else takes)(rng.randrange(64), rng.randrange(64), rng.randrange(64))
+                      for _ in range(64)]) for _ in range(16)]
+
+
+def ring(states, parallel):
+    return 0, [(states, [steps(s, (s + 1) % states) for s in range(states) for _ in range(parallel)])]
+
+
+def full_set():
+    """A plant of 16 rings of 64 rows that send and take by turns, and 256 entries: each ring sixteen times."""
+    machines = [(64, [(sends if s % 2 else takes)(s, (s + 1) % 64, (s // 2 + m) % 64) for s in range(64)]) for m in range(16)]
+    entries = [x for e in range(256) for x in [e % 16, 1 + 3906 * e, 64] + [64 * (e % 16) + (e + i) % 64 for i in range(64)]]
+    return (64, machines), entries
+
+
+def weight_bytes(weights):
+    return struct.pack('<%dH' % len(weights), *weights)
+
+
+def set_bytes(numbers):
+    return struct.pack('<%dI' % len(numbers), *numbers)
+
+
+# ---- the small plants for SPIN and GLPK
+
+def simple_cycles(states, rows):
+    """Whether a cycle has progress, and its rows."""
+    def extend(start, at, path, left):
+        for row in rows:
+            if row[0] != at:
+                continue
+            if row[1] == start:
+                yield path + [row]
+            elif row[1] > start and row[1] not in left:
+                yield from extend(start, row[1], path + [row], left | {row[1]})
+    for s in range(states):
+        yield from extend(s, s, [], {s})
+
+
+def effects(types, machines):
+    """For each simple cycle of each machine: whether it has progress, and its effect for each type."""
+    for states, rows in machines:
+        for cycle in simple_cycles(states, rows):
+            effect = [0] * types
+            for _, _, sent, taken, _ in cycle:
+                if sent is not None:
+                    effect[sent] += 1
+                if taken is not None:
+                    effect[taken] -= 1
+            yield any(r[4] for r in cycle), effect
+
+
+def cycles_text(types, machines):
+    found = list(effects(types, machines))
+    return '%d %d\n' % (types, len(found)) + ''.join('%d %s\n' % (progress, ' '.join(map(str, effect))) for progress, effect in found)
+
+
+def lp_text(types, machines):
+    """The inequalities (1) to (4) for glpsol --lp; the strict one as 'at least 1', which is the same for a homogeneous system."""
+    found = list(effects(types, machines))
+    lines = ['Minimize', ' cost: 0 x0', 'Subject To']
+    for t in range(types):
+        terms = ' '.join('%+d x%d' % (effect[t], i) for i, (_, effect) in enumerate(found) if effect[t])
+        if terms:
+            lines.append(' type%d: %s >= 0' % (t, terms))
+    lines.append(' some: ' + ' '.join('+ x%d' % i for i in range(len(found))) + ' >= 1')
+    quiet = ' '.join('+ x%d' % i for i, (progress, _) in enumerate(found) if progress)
+    if quiet:
+        lines.append(' progress: %s = 0' % quiet)
+    return '\n'.join(lines + ['End', ''])
+
+
+def promela(types, machines, capacity, anywhere):
+    """One channel for each type, one process for each machine, with SPIN's progress labels. Sending to a full channel waits.
+
+    The processes begin in state 0 with empty channels; or, anywhere, in any state, after any contents up to the capacity."""
+    lines = ['chan t%d = [%d] of { bit };' % (t, capacity) for t in range(types)]
+    if anywhere:
+        lines += ['bool ready;', 'init {']
+        for t in range(types):
+            lines += ['    do', '    :: nfull(t%d) -> t%d!0' % (t, t), '    :: break', '    od;']
+        lines += ['    ready = true', '}']
+    for m, (states, rows) in enumerate(machines):
+        lines += ['active proctype machine%d() {' % m]
+        if anywhere:
+            lines += ['    ready;', '    if'] + ['    :: goto s%d' % s for s in range(states)] + ['    fi;']
+        for s in range(states):
+            lines += ['s%d: if' % s]
+            for k, (left, entered, sent, taken, progress) in enumerate(rows):
+                if left == s:
+                    act = 't%d!0' % sent if sent is not None else 't%d?_' % taken if taken is not None else 'skip'
+                    mark = ' progress_%d: skip;' % k if progress else ''
+                    lines.append('    :: %s;%s goto s%d' % (act, mark, entered))
+            lines += ['    fi;']
+        lines += ['}']
+    return '\n'.join(lines) + '\n'

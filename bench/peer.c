@@ -1,0 +1,443 @@
+/* The five calls in plain C, with the best algorithms we know: what the proved calls are measured against.
+ *
+ * Nothing here is proved. Tables are filled in place and never cleared or copied; heights are relaxed in place in 32 bits;
+ * states that were left are bits of a word; the price class is a count of leading zeros. */
+#include "peer.h"
+
+#define INLINE static inline __attribute__((always_inline))
+
+struct table {
+    unsigned machines, types, rows;
+    uint8_t states[16];
+    uint16_t first[17];
+    uint8_t left[1024], entered[1024], sent[1024], taken[1024], progress[1024];
+};
+
+struct fault {
+    unsigned number;
+    size_t place;
+};
+
+#define NO_TYPE 64
+#define FAULT(n, p) return (struct fault){(n), (p)}
+#define NEED(i) if ((i) >= length) FAULT(1, length)
+
+/* Reads a plant file. With keep 0 the rows are judged and not kept. */
+INLINE struct fault decode(const uint8_t *f, size_t length, struct table *t, int keep) {
+    NEED(0);
+    if (f[0] < 1 || f[0] > 16) FAULT(2, 0);
+    NEED(1);
+    if (f[1] > 64) FAULT(2, 1);
+    unsigned machines = f[0], types = f[1], rows = 0;
+    size_t at = 2;
+    for (unsigned m = 0; m < machines; m++) {
+        NEED(at);
+        unsigned states = f[at];
+        if (states < 1 || states > 64) FAULT(3, at);
+        at++;
+        NEED(at);
+        unsigned end = rows + f[at];
+        if (end > 1024) FAULT(7, at);
+        at++;
+        if (keep) {
+            t->states[m] = (uint8_t)states;
+            t->first[m] = (uint16_t)rows;
+        }
+        unsigned left = 0;
+        for (; rows < end; rows++) {
+            NEED(at);
+            unsigned map = f[at], entered, sent = NO_TYPE, taken = NO_TYPE;
+            if (map >= 32 || (map & 12) == 12) FAULT(4, at);
+            at++;
+            if (map & 1) {
+                NEED(at);
+                left = f[at];
+                if (left >= states) FAULT(5, at);
+                at++;
+            }
+            entered = left;
+            if (map & 2) {
+                NEED(at);
+                entered = f[at];
+                if (entered >= states) FAULT(5, at);
+                at++;
+            }
+            if (map & 12) {
+                NEED(at);
+                unsigned type = f[at];
+                if (type >= types) FAULT(6, at);
+                at++;
+                sent = map & 4 ? type : NO_TYPE;
+                taken = map & 4 ? NO_TYPE : type;
+            }
+            if (keep) {
+                t->left[rows] = (uint8_t)left;
+                t->entered[rows] = (uint8_t)entered;
+                t->sent[rows] = (uint8_t)sent;
+                t->taken[rows] = (uint8_t)taken;
+                t->progress[rows] = map >> 4;
+            }
+        }
+    }
+    if (at < length) FAULT(8, at);
+    t->machines = machines;
+    t->types = types;
+    t->rows = rows;
+    if (keep) t->first[machines] = (uint16_t)rows;
+    return (struct fault){0, 0};
+}
+
+static __attribute__((noinline)) struct fault decode_table(const uint8_t *f, size_t length, struct table *t) {
+    return decode(f, length, t, 1);
+}
+
+INLINE hemtaluq_read_answer counts(struct fault fault, const struct table *t) {
+    hemtaluq_read_answer a = {0};
+    if (fault.number) {
+        a.number = (uint8_t)fault.number;
+        a.place = fault.place;
+        return a;
+    }
+    a.kind = HEMTALUQ_COUNTS;
+    a.types = (uint8_t)t->types;
+    a.machines = t->machines;
+    a.rows = t->rows;
+    return a;
+}
+
+hemtaluq_read_answer peer_read(const uint8_t *file, size_t length) {
+    struct table t;
+    struct fault fault = decode(file, length, &t, 0);
+    return counts(fault, &t);
+}
+
+hemtaluq_read_answer peer_decode(const uint8_t *file, size_t length) {
+    struct table t;
+    struct fault fault = decode_table(file, length, &t);
+    return counts(fault, &t);
+}
+
+/* ---- weighing */
+
+struct edge {
+    uint8_t from, to;
+    uint16_t row;
+    int32_t weight;
+};
+
+static unsigned edges_of(const struct table *t, unsigned m, const int32_t *weights, struct edge *e) {
+    unsigned count = 0;
+    for (unsigned k = t->first[m]; k < t->first[m + 1]; k++) {
+        e[count] = (struct edge){t->left[k], t->entered[k], (uint16_t)k, weights[t->sent[k]] - weights[t->taken[k]]};
+        count += !t->progress[k];
+    }
+    return count;
+}
+
+/* Whether every cycle weighs below zero: relaxation in place, with lengths 1 + n * weight. */
+static int decide(const struct edge *e, unsigned count, unsigned states, int32_t n) {
+    struct { int32_t from, to, length; } r[255];
+    int32_t h[64] = {0};
+    for (unsigned i = 0; i < count; i++) {
+        r[i].from = e[i].from;
+        r[i].to = e[i].to;
+        r[i].length = 1 + n * e[i].weight;
+    }
+    for (unsigned k = 0; k < states; k++) {
+        int changed = 0;
+        for (unsigned i = 0; i < count; i++) {
+            int32_t along = h[r[i].to] + r[i].length;
+            if (along > h[r[i].from]) {
+                h[r[i].from] = along;
+                changed = 1;
+            }
+        }
+        if (!changed) return 1;
+    }
+    return 0;
+}
+
+#define NO_WALK (-1000000000)
+
+/* The closed walk with the fewest rows that weighs zero or more: exact lengths from each start, then back through the tables. */
+static unsigned show(const struct edge *e, unsigned count, unsigned states, uint16_t *cycle) {
+    int32_t walk[65][64];
+    uint16_t best[64];
+    unsigned length = states + 1;
+    for (unsigned start = 0; start < states && length > 1; start++) {
+        for (unsigned s = 0; s < states; s++) walk[0][s] = NO_WALK;
+        walk[0][start] = 0;
+        for (unsigned k = 1; k < length; k++) {
+            int32_t *now = walk[k], *old = walk[k - 1];
+            for (unsigned s = 0; s < states; s++) now[s] = NO_WALK;
+            for (unsigned i = 0; i < count; i++) {
+                int32_t along = old[e[i].to] + e[i].weight;
+                if (along > now[e[i].from]) now[e[i].from] = along;
+            }
+            if (now[start] < 0) continue;
+            length = k;
+            unsigned s = start;
+            for (unsigned i = 0; i < k; i++) {
+                unsigned j = 0;
+                while (e[j].from != s || walk[k - i - 1][e[j].to] + e[j].weight != walk[k - i][s]) j++;
+                best[i] = e[j].row;
+                s = e[j].to;
+            }
+            break;
+        }
+    }
+    for (unsigned i = 0; i < length; i++) cycle[i] = best[i];
+    return length;
+}
+
+/* Checks 9 and 10, with the weights laid out for the rows: entry 64 belongs to no type. */
+static struct fault lay_out(const struct table *t, const uint16_t *weights, size_t count, int32_t *laid) {
+    if (count != t->types) FAULT(9, 0);
+    for (size_t i = 0; i < count; i++) {
+        if (weights[i] > 1000) FAULT(10, i);
+        laid[i] = weights[i];
+    }
+    laid[NO_TYPE] = 0;
+    return (struct fault){0, 0};
+}
+
+static void figures(const struct table *t, const int32_t *laid, hemtaluq_weigh_answer *a) {
+    uint64_t n = 0, less = 0, w = 0;
+    for (unsigned m = 0; m < t->machines; m++) {
+        if (t->states[m] > n) n = t->states[m];
+        less += t->states[m] - 1u;
+    }
+    for (unsigned i = 0; i < t->types; i++)
+        if ((uint64_t)laid[i] > w) w = (uint64_t)laid[i];
+    a->base = less + n * w * less;
+    a->states = n;
+    a->per_progress = n - 1 + n * n * w;
+}
+
+/* F, n and G for weights that pass; otherwise the rows of a cycle, if they are wanted. */
+INLINE hemtaluq_weigh_answer weigh_table(const struct table *t, const int32_t *laid, uint16_t *cycle, int shown) {
+    hemtaluq_weigh_answer a = {0};
+    struct edge e[256];
+    figures(t, laid, &a);
+    a.kind = HEMTALUQ_PASSED;
+    for (unsigned m = 0; m < t->machines; m++) {
+        unsigned count = edges_of(t, m, laid, e);
+        if (decide(e, count, t->states[m], (int32_t)a.states)) continue;
+        a.base = a.states = a.per_progress = 0;
+        a.kind = HEMTALUQ_CYCLE;
+        if (shown) a.rows = show(e, count, t->states[m], cycle);
+        break;
+    }
+    return a;
+}
+
+hemtaluq_weigh_answer peer_weigh(const uint8_t *file, size_t length, const uint16_t *weights, size_t weight_count,
+                                 uint16_t *cycle, size_t cycle_length) {
+    struct table t;
+    int32_t laid[NO_TYPE + 1];
+    hemtaluq_weigh_answer a = {0};
+    struct fault fault = decode_table(file, length, &t);
+    if (!fault.number) fault = lay_out(&t, weights, weight_count, laid);
+    if (!fault.number && cycle_length < 64) fault.number = 11;
+    if (!fault.number) return weigh_table(&t, laid, cycle, 1);
+    a.number = (uint8_t)fault.number;
+    a.place = fault.place;
+    return a;
+}
+
+/* ---- quoting */
+
+static struct fault amounts(const struct table *t, const uint32_t *contents, size_t count, uint32_t g) {
+    if (count != t->types) FAULT(20, 0);
+    for (size_t i = 0; i < count; i++)
+        if (contents[i] > 1000000) FAULT(21, i);
+    if (g > 1000000) FAULT(21, count);
+    return (struct fault){0, 0};
+}
+
+hemtaluq_quote_answer peer_quote(const uint8_t *file, size_t length, const uint16_t *weights, size_t weight_count,
+                                 const uint32_t *contents, size_t content_count, uint32_t g) {
+    struct table t;
+    int32_t laid[NO_TYPE + 1];
+    hemtaluq_quote_answer a = {0};
+    struct fault fault = decode_table(file, length, &t);
+    if (!fault.number) fault = lay_out(&t, weights, weight_count, laid);
+    if (!fault.number) fault = amounts(&t, contents, content_count, g);
+    if (!fault.number) {
+        hemtaluq_weigh_answer w = weigh_table(&t, laid, 0, 0);
+        if (w.kind == HEMTALUQ_PASSED) {
+            uint64_t sum = 0;
+            for (size_t i = 0; i < weight_count; i++) sum += (uint64_t)weights[i] * contents[i];
+            a.kind = HEMTALUQ_CEILING;
+            a.ceiling = w.base + w.states * sum + w.per_progress * g;
+            a.price_class = a.ceiling ? (uint32_t)(64 - __builtin_clzll(a.ceiling)) : 0;
+            return a;
+        }
+        fault.number = 22;
+    }
+    a.number = (uint8_t)fault.number;
+    a.place = fault.place;
+    return a;
+}
+
+/* ---- listing */
+
+/* The rows of a machine by the state they leave, in order; a row's state entered and its number stand together. */
+struct listing {
+    uint8_t begin[25], entered[48], number[48];
+    unsigned start;
+    unsigned path[24];
+    unsigned first;
+    size_t used, limit;
+    uint16_t *out;
+};
+
+static void count_from(struct listing *l, unsigned state, uint32_t marks, unsigned depth) {
+    for (unsigned i = l->begin[state]; i < l->begin[state + 1]; i++) {
+        unsigned entered = l->entered[i];
+        if (entered == l->start) {
+            l->used += depth + 2;
+            if (l->used > l->limit) return;
+        } else if (entered > l->start && !(marks >> entered & 1)) {
+            count_from(l, entered, marks | 1u << entered, depth + 1);
+            if (l->used > l->limit) return;
+        }
+    }
+}
+
+static void fill_from(struct listing *l, unsigned state, uint32_t marks, unsigned depth) {
+    for (unsigned i = l->begin[state]; i < l->begin[state + 1]; i++) {
+        unsigned entered = l->entered[i];
+        l->path[depth] = l->first + l->number[i];
+        if (entered == l->start) {
+            uint16_t *to = l->out + l->used;
+            *to++ = (uint16_t)(depth + 1);
+            for (unsigned j = 0; j <= depth; j++) *to++ = (uint16_t)l->path[j];
+            l->used += depth + 2;
+        } else if (entered > l->start && !(marks >> entered & 1)) {
+            fill_from(l, entered, marks | 1u << entered, depth + 1);
+        }
+    }
+}
+
+/* Goes through the cycles by the row they begin with. */
+INLINE void all_cycles(struct listing *l, const struct table *t, unsigned last, int fill) {
+    l->used = 0;
+    for (unsigned k = l->first; k < last && l->used <= l->limit; k++) {
+        unsigned entered = t->entered[k];
+        l->start = t->left[k];
+        l->path[0] = k;
+        if (entered == l->start) {
+            if (fill) {
+                l->out[l->used] = 1;
+                l->out[l->used + 1] = (uint16_t)k;
+            }
+            l->used += 2;
+        } else if (entered > l->start) {
+            uint32_t marks = 1u << l->start | 1u << entered;
+            if (fill) fill_from(l, entered, marks, 1);
+            else count_from(l, entered, marks, 1);
+        }
+    }
+}
+
+hemtaluq_list_answer peer_list(const uint8_t *file, size_t length, uint32_t machine, uint16_t *out, size_t out_length) {
+    struct table t;
+    hemtaluq_list_answer a = {0};
+    struct listing l;
+    struct fault fault = decode_table(file, length, &t);
+    a.number = (uint8_t)fault.number;
+    a.place = fault.place;
+    if (fault.number) return a;
+    if (machine >= t.machines) {
+        a.number = 12;
+        return a;
+    }
+    unsigned first = t.first[machine], last = t.first[machine + 1], states = t.states[machine], i = 0;
+    if (states > 24 || last - first > 48) {
+        a.number = 13;
+        return a;
+    }
+    for (unsigned s = 0; s < states; s++) {
+        l.begin[s] = (uint8_t)i;
+        for (unsigned k = first; k < last; k++)
+            if (t.left[k] == s) {
+                l.entered[i] = t.entered[k];
+                l.number[i++] = (uint8_t)(k - first);
+            }
+    }
+    l.begin[states] = (uint8_t)i;
+    l.first = first;
+    l.limit = out_length;
+    l.out = out;
+    all_cycles(&l, &t, last, 0);
+    if (l.used > out_length) {
+        a.number = 14;
+        return a;
+    }
+    all_cycles(&l, &t, last, 1);
+    a.kind = HEMTALUQ_LISTED;
+    a.entries = l.used;
+    return a;
+}
+
+/* ---- cycle sets */
+
+#define NUMBER(i) if ((i) >= length) FAULT(15, length)
+
+static struct fault add_set(const struct table *t, const uint32_t *set, size_t length, int64_t *sums) {
+    size_t at = 0;
+    unsigned before = 0;
+    do {
+        if (at >= length || before == 256) FAULT(18, at);
+        NUMBER(at);
+        if (set[at] >= t->machines) FAULT(16, at);
+        NUMBER(at + 1);
+        if (set[at + 1] < 1 || set[at + 1] > 1000000) FAULT(16, at + 1);
+        NUMBER(at + 2);
+        if (set[at + 2] < 1 || set[at + 2] > 64) FAULT(16, at + 2);
+        unsigned low = t->first[set[at]], high = t->first[set[at] + 1];
+        int64_t repeats = set[at + 1];
+        size_t end = at + 3 + set[at + 2];
+        uint64_t seen = 0;
+        int wrong = 0;
+        unsigned start = 0, state = 0;
+        for (size_t i = at + 3; i < end; i++) {
+            NUMBER(i);
+            unsigned k = set[i];
+            if (k >= t->rows) FAULT(16, i);
+            if (i == at + 3) start = state = t->left[k];
+            wrong |= k < low || k >= high || t->progress[k] || t->left[k] != state || (seen >> state & 1);
+            seen |= UINT64_C(1) << state;
+            state = t->entered[k];
+            if (t->sent[k] != NO_TYPE) sums[t->sent[k]] += repeats;
+            else if (t->taken[k] != NO_TYPE) sums[t->taken[k]] -= repeats;
+        }
+        if (wrong || state != start) FAULT(17, at);
+        at = end;
+        before++;
+    } while (at < length);
+    return (struct fault){0, 0};
+}
+
+hemtaluq_confirm_answer peer_confirm(const uint8_t *file, size_t length, const uint32_t *set, size_t set_length) {
+    struct table t;
+    int64_t sums[NO_TYPE] = {0};
+    hemtaluq_confirm_answer a = {0};
+    struct fault fault = decode_table(file, length, &t);
+    if (!fault.number) fault = add_set(&t, set, set_length, sums);
+    if (fault.number) {
+        a.number = (uint8_t)fault.number;
+        a.place = fault.place;
+        return a;
+    }
+    a.kind = HEMTALUQ_CONFIRMED;
+    for (unsigned i = 0; i < t.types; i++)
+        if (sums[i] < 0) {
+            a.kind = HEMTALUQ_NEGATIVE;
+            a.message_type = i;
+            a.sum = sums[i];
+            break;
+        }
+    return a;
+}

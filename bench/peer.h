@@ -1,0 +1,17 @@
+/* The peers: the five calls in plain C, written for the benchmarks. Their answers are those of hemtaluq.h. */
+#ifndef PEER_H
+#define PEER_H
+
+#include "hemtaluq.h"
+
+hemtaluq_read_answer peer_read(const uint8_t *file, size_t file_length);
+/* Reads into a table as the other calls need it, which peer_read does not. */
+hemtaluq_read_answer peer_decode(const uint8_t *file, size_t file_length);
+hemtaluq_weigh_answer peer_weigh(const uint8_t *file, size_t file_length, const uint16_t *weights, size_t weight_count,
+                                 uint16_t *cycle, size_t cycle_length);
+hemtaluq_quote_answer peer_quote(const uint8_t *file, size_t file_length, const uint16_t *weights, size_t weight_count,
+                                 const uint32_t *contents, size_t content_count, uint32_t g);
+hemtaluq_list_answer peer_list(const uint8_t *file, size_t file_length, uint32_t machine, uint16_t *out, size_t out_length);
+hemtaluq_confirm_answer peer_confirm(const uint8_t *file, size_t file_length, const uint32_t *set, size_t set_length);
+
+#endif
