@@ -19,10 +19,10 @@ LIBRARY = ['-Ldist', '-lhemtaluq']
 RUNS = [
     ('plant_a', ['1', '3', '4'], 0, 'at most 39 steps without a fresh reading (price class 6)'),
     ('plant_b', ['1', '3', '4'], 1, 'no ceiling: these rows can go on for ever without a fresh reading: 0 1'),
-    ('plant_a', ['1', '3'], 2, 'refused with 20 at 0'),
-    ('plant_a', ['1000001', '3', '4'], 2, 'refused with 21 at 2'),
+    ('plant_a', ['1', '3'], 2, 'refused with 20 at 0: there is not one content for each type'),
+    ('plant_a', ['1000001', '3', '4'], 2, 'refused with 21 at 2: a content or G is above 1,000,000'),
     ('two_clients_in_turn', ['0', '0', '0', '0', '0', '0', '0'], 0, 'at most 143 steps without a fresh reading (price class 8)'),
-    ('no_such_folder', ['0'], 2, 'refused with 1 at 0'),
+    ('no_such_folder', ['0'], 2, 'refused with 1 at 0: the plant file ends too soon'),
 ]
 
 

@@ -7,7 +7,7 @@ use hemtaluq::{Fault, Weighed};
 use std::process::ExitCode;
 
 fn refuse(fault: Fault) -> ExitCode {
-    println!("refused with {} at {}", fault.number, fault.place);
+    println!("refused with {} at {}: {}", fault.number, fault.place, fault.in_words());
     ExitCode::from(2)
 }
 
@@ -32,7 +32,11 @@ fn main() -> ExitCode {
     }
     let plant = std::fs::read(&arguments[1]).unwrap_or_default();
     let bytes = std::fs::read(&arguments[2]).unwrap_or_default();
-    let weights: Vec<u16> = bytes.chunks_exact(2).map(|pair| u16::from_le_bytes([pair[0], pair[1]])).collect();
+    let mut weights: Vec<u16> = bytes.chunks_exact(2).map(|pair| u16::from_le_bytes([pair[0], pair[1]])).collect();
+    if bytes.len() % 2 == 1 {
+        // Half a weight is one weight too many for any plant.
+        weights = vec![0; 65];
+    }
     let numbers: Vec<u32> = arguments[3..].iter().map(|text| text.parse().unwrap_or(u32::MAX)).collect();
     match hemtaluq::quote(&plant, &weights, &numbers[1..], numbers[0]) {
         Ok(quote) => {

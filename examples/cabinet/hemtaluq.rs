@@ -7,6 +7,36 @@ pub struct Fault {
     pub place: usize,
 }
 
+impl Fault {
+    /// What the number of the fault means.
+    pub fn in_words(&self) -> &'static str {
+        match self.number {
+            1 => "the plant file ends too soon",
+            2 => "a count of the plant file is outside limits",
+            3 => "a machine has no states or more than 64",
+            4 => "a map byte has bits that may not stand",
+            5 => "a row names no state of its machine",
+            6 => "a row names no type",
+            7 => "the plant has more than 1,024 rows",
+            8 => "bytes remain after the last row",
+            9 => "there is not one weight for each type",
+            10 => "a weight is above 1,000",
+            11 => "the list for a cycle is too short",
+            12 => "there is no such machine",
+            13 => "the machine is too large to list",
+            14 => "the list is too short for the cycles",
+            15 => "the set ends within an entry",
+            16 => "a number of the set is outside limits",
+            17 => "an entry of the set is no quiet cycle",
+            18 => "the set has no entry or more than 256",
+            20 => "there is not one content for each type",
+            21 => "a content or G is above 1,000,000",
+            22 => "the weights do not pass",
+            _ => "unknown",
+        }
+    }
+}
+
 /// The counts of a plant file.
 #[derive(Debug, Clone, Copy, PartialEq, Eq)]
 pub struct Counts {
