@@ -2,33 +2,31 @@
 
 # Why a goal is missed: for keys of bench/run that begin with the first word. The evidence is from `perf` and from the machine
 # code (`objdump -d dist/libhemtaluq.a`) of the library at the time of writing; look again when the crates have changed.
+SHOWING = (
+    'The search takes as many rounds as the peer\'s, but the rows of the cycle that it finds are written by computing the walks of fewer rows anew for each row: '
+    'for the ten machines 28 rounds after the 49 of the search, for plant A 3 after 3. The peer keeps the tables of all rounds, 65 × 64 numbers. '
+    'Tables that are cleared and copied up to the machine\'s states only were tried, and were no faster; a table of the first row of each walk was not. What deciding takes comes on top.')
 CAUSES = [
     ('read', 'Reading',
-     'Reading builds the whole table of a plant, 6 KB, although the call hands back three counts, and the table goes by value '
-     'from function to function: the machine code of `plant::decode` copies 6,200 bytes three times for each machine and twice at the '
-     'end (`memcpy` of 0x1838 bytes). For plant A three quarters of the time are copies. For the largest file three fifths of the time go into the row '
-     'loop, where the compiler has merged the two arms of a field\'s answer, value with next offset or fault with place, into one '
-     'computation (`cmp`, `adc`): the offset of each byte then waits for the value of the byte before it. A seventh goes into '
-     'counting the rows before each of 17 machines anew. In C none of this happens.'),
+     'Nothing is stored, and on the largest file the call executes as many instructions as the peer, within a hundredth (callgrind).'),
+    ('weigh-a-fails', 'Showing a cycle of a small machine', SHOWING),
+    ('weigh-ordinary-fails', 'Showing a cycle of a small machine', SHOWING),
     ('weigh-a', 'Weighing small plants',
-     'Seven tenths of the time are copies and an eighth is clearing (`memcpy`, `memset`): the table of reading, and for each machine an edge '
-     'list of 3 KB that is cleared, filled and copied, and a list of lengths of 2 KB that is cleared. An array of Rattle always has '
-     'contents, so some clearing stays whatever is done: see the next table.'),
-    ('weigh-ordinary', 'Weighing ordinary plants',
-     'The same copies, for each of ten machines: three of the table while reading, one of the edge list.'),
-    ('weigh-limits', 'Weighing at the limits',
-     'The rounds go from table to table: each clears a table of 512 bytes and copies it three times (a fifth of the time), and '
-     'reading takes an eighth. The inner loop itself is as fast as the peer\'s.'),
+     'A plant of 20 bytes is weighed in the time that its arrays take: 9 KB are cleared, and the six columns, local arrays of the reader, are copied once, 6 KB, into '
+     'the table that is handed back (`memset` and `memcpy` of 0x400 bytes in `plant::decode`). C with the same arrays, cleared, and without the copy: see the next table.'),
+    ('weigh', 'Weighing',
+     'The decision works out the length 1 + n × weight of a row in each pass: its loop executes 1.24 times the instructions of the peer\'s, which has a list of lengths (callgrind, at '
+     'the limits). The proved code was tried with such a list, too: at the limits it was no faster, and in small plants slower, for the list has to be cleared.'),
     ('quote-fails', 'Quoting weights that do not pass',
-     'Quoting calls the whole weighing, which searches for a cycle to show; quoting then drops the cycle and refuses with 22. The peer only decides.'),
-    ('quote', 'Quoting', 'Quoting is weighing and a few sums; what weighing loses, quoting loses.'),
-    ('list', 'Counting cycles',
-     'The states that a path has left are 24 bytes, passed by value: each step of the path stores one byte of a copy and at once loads '
-     'all of them again, 16 at a time, which must wait for the store; a third of the time is spent at that load. The peer has them as bits of one number.'),
+     'All the work is deciding. Its loop executes 1.24 times the instructions of the peer\'s, which has a list of the lengths 1 + n × weight; the proved code works them out in each pass. '
+     'It was tried with such a list, too: at the limits it was no faster, and in small plants slower, for the list has to be cleared.'),
+    ('quote-a', 'Quoting for small plants',
+     'As for weighing: the arrays. Besides, the price class compares edge after edge of the constant table that document 01 asks for, where the peer counts leading zeros.'),
+    ('quote', 'Quoting', 'Quoting is deciding and a few sums; what deciding loses, quoting loses.'),
+    ('list', 'Listing',
+     'Each row of a path is a call with 13 arguments, since columns are lent one by one; the peer keeps what does not change in one struct.'),
     ('confirm', 'Confirming',
-     'The rows of an entry are gone through three times (number by number, as a cycle, and for the sums), by the peer once. Two fifths of the time are '
-     'the third loop, where a row without a type sent or taken adds to a 65th sum that belongs to no type, so that each row waits for the store of the row before. '
-     'Reading the plant is a sixth.'),
+     'The rows of an entry are gone through three times (number by number, as a cycle, and for the sums), by the peer once; the third loop branches at each row, and its time depends on the address it is linked at.'),
 ]
 
 
@@ -185,7 +183,7 @@ The stack was painted, the call was run on it, and the deepest byte that changed
 
 {stack}
 
-Of the stack of each proved call 31 KB are the frame of `plant::decode`, which holds five tables of 6 KB; each further function that takes the table by value can add one.
+The frame of `plant::decode` has 6.3 KB, the columns of the table, and the table that it hands back is 6.2 KB of its caller's. `list` and `confirm` pass the table by value, which copies it.
 
 {sizes}
 """

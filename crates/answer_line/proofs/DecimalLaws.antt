@@ -1,19 +1,20 @@
 -- Laws of decimal figures.
-use mathlib.Core.Path.{_≡_, refl, sym, ap, _∙_, subst}
+use mathlib.Core.Path.{_≡_, refl, sym, ap, _∙_, subst, subst⁻¹}
 use mathlib.Core.Bool.{Bool, true, false, cond}
 use mathlib.Core.List.{List, [], _∷_, _++_, append-nil, append-assoc}
-use Prim.Native.Nat.{ℕ, zero, suc, _+_, _-_, _/_, _%_, _^_, _≤_, _<_}
+use Prim.Native.Nat.{ℕ, zero, suc, _+_, _*_, _-_, _/_, _%_, _^_, _≤_, _<_}
 use native.Mathlib.Omega.{arith}
 use native.Mathlib.Numerals.{add-one}
 use native.Mathlib.Nat.{le-refl, pow-zero, pow-suc, one-le-pow, mod-lt, mod-eq-of-lt, le-div-iff-mul-le, div-lt-iff-lt-mul}
 use borrow.Author.Tests.{ltb-false, lt-ltb, le-ltb}
-use lib.ListN.{length, getD, take, length-append}
-use lib.Seq.{take-suc, take-all}
+use lib.ListN.{length, getD, set, take, length-append}
+use lib.Seq.{take-suc, take-suc-set, take-all}
 use lib.Dec.{ltb}
+use Rattle.livelock.specs.Lists.{All}
 use Rattle.io.specs.Digits.{glyph, digits, Fewest}
-use Rattle.answer_line.specs.Lines.{digit, decimalWithin, decimal, figure, figures, passedWord, cycleWord, refusedWord, lineEnd, passedLine, cycleLine, refusedLine}
-use Rattle.answer_line.specs.Inner.Steps.{Wrote}
-use Rattle.answer_line.proofs.WritingLaws.{wrote-then, wrote-nothing}
+use Rattle.answer_line.specs.Lines.{digit, decimalWithin, decimal, figure, figures, lineEnd, lineWith}
+use Rattle.answer_line.specs.Inner.Steps.{Wrote, ShortLine}
+use Rattle.answer_line.proofs.WritingLaws.{wrote-then}
 
 -- A number of two digits or more has a digit before its last.
 some-left : (n k : ℕ) → 10 ≤ n → n < 10 ^ suc k → 1 ≤ k
@@ -94,6 +95,42 @@ unfolding figures
 figures-next [] n = append-nil (figure n)
 figures-next (m ∷ ns) n = ap (λ (l : List ℕ). figure m ++ l) (figures-next ns n) ∙ sym (append-assoc (figure m) (figures ns) (figure n))
 
+-- The figures of the first numbers and of the one after them.
+first-figures : (ns : List ℕ) (i : ℕ) → i < length ns → figures (take (i + 1) ns) ≡ figures (take i ns) ++ figure (getD ns i 0)
+first-figures ns i h = ap figures (ap (λ (k : ℕ). take k ns) (add-one i) ∙ take-suc ns i 0 h) ∙ figures-next (take i ns) (getD ns i 0)
+
+-- Where all figures have room, so have those of the first numbers and of the one after them.
+pub figure-room : (ns : List ℕ) (i : ℕ) → i < length ns → length (figures (take i ns)) + length (figure (getD ns i 0)) ≤ length (figures ns)
+unfolding figures
+figure-room [] i h = absurd (omega arith)
+figure-room (n ∷ ns) zero h = omega (arith, length-append (figure n) (figures ns))
+figure-room (n ∷ ns) (suc i) h =
+    omega (arith, figure-room ns i (omega arith), length-append (figure n) (figures ns), length-append (figure n) (figures (take i ns)))
+
+-- Figures of 64-bit numbers have at most 21 bytes each.
+figures-short : (ns : List ℕ) → All (λ n. n < 2 ^ 64) ns → length (figures ns) ≤ 21 * length ns
+unfolding figures All
+figures-short [] h = omega arith
+figures-short (n ∷ ns) h = omega (arith, figure-any n (h .0), figures-short ns (h .1), length-append (figure n) (figures ns))
+
+-- Six bytes for each row, and for one row more.
+pub rows-short : (numbers : List ℕ) (i n : ℕ) → i < length numbers → n < 65536 → length (figures (take i numbers)) ≤ 6 * i
+    → length (figures (take (i + 1) (set numbers i n))) ≤ 6 * (i + 1)
+rows-short numbers i n h l short =
+    let e : figures (take (i + 1) (set numbers i n)) ≡ figures (take i numbers) ++ figure n = rw (add-one i, take-suc-set numbers i n h, figures-next (take i numbers) n) in
+    omega (arith, short, figure-row n l, ap length e, length-append (figures (take i numbers)) (figure n))
+
+-- The bytes of a line: those of its word, those of its figures, and the line end.
+pub line-length : (word ns : List ℕ) → length (lineWith word ns) ≡ length word + length (figures ns) + 1
+line-length word ns = omega (arith, length-append (word ++ figures ns) lineEnd, length-append word (figures ns))
+
+-- A word of at most seven letters and at most three figures, or 64 figures of six bytes, make a line of at most 512 bytes.
+pub few-figures : {word ns : List ℕ} → length word ≤ 7 → length ns ≤ 3 → All (λ n. n < 2 ^ 64) ns → ShortLine word ns
+few-figures {word} {ns} short few all = record { few = omega (arith, line-length word ns, figures-short ns all) }
+
+pub few-rows : {word ns : List ℕ} (rows : ℕ) → length word ≤ 7 → rows ≤ 64 → length (figures ns) ≤ 6 * rows → ShortLine word ns
+few-rows {word} {ns} rows short few six = record { few = omega (arith, line-length word ns) }
+
 -- ---- figures that are written
 
 -- A space and the fewest digits of a number.
@@ -102,29 +139,11 @@ pub figure-wrote : {before between after : List ℕ} {at middle next : ℕ} (n k
 figure-wrote {before} {between} {after} {at} {middle} {next} n k ds e f w v =
     subst (λ (bytes : List ℕ). Wrote before after at next bytes) (figure-is n k ds e f) (wrote-then w v)
 
--- The figures of the first rows, and of one row more.
-pub rows-next : {before between after : List ℕ} {at middle next : ℕ} (rows : List ℕ) (i n : ℕ) → i < length rows → n ≡ getD rows i 0
-    → Wrote before between at middle (figures (take i rows)) → Wrote between after middle next (figure n) → Wrote before after at next (figures (take (i + 1) rows))
-rows-next {before} {between} {after} {at} {middle} {next} rows i n h e w v =
-    let same : figures (take i rows) ++ figure n ≡ figures (take (i + 1) rows) =
-    sym (ap figures (ap (λ (k : ℕ). take k rows) (add-one i) ∙ take-suc rows i 0 h) ∙ figures-next (take i rows) (getD rows i 0) ∙ ap (λ (m : ℕ). figures (take i rows) ++ figure m) (sym e)) in
-    subst (λ (bytes : List ℕ). Wrote before after at next bytes) same (wrote-then w v)
+-- The figures of the first numbers, and of one number more.
+pub figures-more : {before between after : List ℕ} {at middle next : ℕ} (ns : List ℕ) (i : ℕ) → i < length ns
+    → Wrote before between at middle (figures (take i ns)) → Wrote between after middle next (figure (getD ns i 0)) → Wrote before after at next (figures (take (i + 1) ns))
+figures-more {before} {between} {after} {at} {middle} {next} ns i h w v = subst⁻¹ (λ (bytes : List ℕ). Wrote before after at next bytes) (first-figures ns i h) (wrote-then w v)
 
--- The figures of all rows.
-pub rows-all : {before after : List ℕ} {at next : ℕ} (rows : List ℕ) (i : ℕ) → length rows ≤ i → Wrote before after at next (figures (take i rows)) → Wrote before after at next (figures rows)
-rows-all {before} {after} {at} {next} rows i h w = subst (λ (ns : List ℕ). Wrote before after at next (figures ns)) (take-all i rows h) w
-
--- The three lines, part by part.
-pub passed-wrote : {l₀ l₁ l₂ l₃ l₄ l₅ : List ℕ} {k₁ k₂ k₃ k₄ k₅ : ℕ} (base states progress : ℕ) → Wrote l₀ l₁ 0 k₁ passedWord → Wrote l₁ l₂ k₁ k₂ (figure base)
-    → Wrote l₂ l₃ k₂ k₃ (figure states) → Wrote l₃ l₄ k₃ k₄ (figure progress) → Wrote l₄ l₅ k₄ k₅ lineEnd → Wrote l₀ l₅ 0 k₅ (passedLine base states progress)
-unfolding figures
-passed-wrote base states progress word first second third end = wrote-then (wrote-then word (wrote-then first (wrote-then second (wrote-then third (wrote-nothing _ _))))) end
-
-pub cycle-wrote : {l₀ l₁ l₂ l₃ : List ℕ} {k₁ k₂ k₃ : ℕ} (rows : List ℕ) → Wrote l₀ l₁ 0 k₁ cycleWord → Wrote l₁ l₂ k₁ k₂ (figures rows)
-    → Wrote l₂ l₃ k₂ k₃ lineEnd → Wrote l₀ l₃ 0 k₃ (cycleLine rows)
-cycle-wrote rows word each end = wrote-then (wrote-then word each) end
-
-pub refused-wrote : {l₀ l₁ l₂ l₃ l₄ : List ℕ} {k₁ k₂ k₃ k₄ : ℕ} (number place : ℕ) → Wrote l₀ l₁ 0 k₁ refusedWord → Wrote l₁ l₂ k₁ k₂ (figure number)
-    → Wrote l₂ l₃ k₂ k₃ (figure place) → Wrote l₃ l₄ k₃ k₄ lineEnd → Wrote l₀ l₄ 0 k₄ (refusedLine number place)
-unfolding figures
-refused-wrote number place word first second end = wrote-then (wrote-then word (wrote-then first (wrote-then second (wrote-nothing _ _)))) end
+-- The figures of all numbers.
+pub figures-all : {before after : List ℕ} {at next : ℕ} (ns : List ℕ) (i : ℕ) → length ns ≤ i → Wrote before after at next (figures (take i ns)) → Wrote before after at next (figures ns)
+figures-all {before} {after} {at} {next} ns i h w = subst (λ (ms : List ℕ). Wrote before after at next (figures ms)) (take-all i ns h) w

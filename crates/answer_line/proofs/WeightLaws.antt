@@ -4,11 +4,11 @@ use mathlib.Core.List.{List, [], _∷_}
 use Prim.Native.Nat.{ℕ, zero, suc, _+_, _*_, _/_, _≤_, _<_, min}
 use native.Mathlib.Decide.{decLe}
 use native.Mathlib.Omega.{arith}
-use native.Mathlib.Numerals.{add-one}
 use lib.ListN.{length, getD, set, take}
-use lib.Seq.{take-suc, take-suc-set, take-all, length-take-le}
+use lib.Seq.{take-all, length-take-le}
 use Rattle.io.specs.Counts.{Counts}
 use Rattle.answer_line.specs.Files.{weightsOf}
+use Rattle.answer_line.proofs.WritingLaws.{stored-next}
 
 -- Two bytes a weight.
 pub weights-length : (s : List ℕ) → length (weightsOf s) ≡ length s / 2
@@ -33,9 +33,7 @@ weight-at (low ∷ high ∷ s) (suc i) h =
 -- One weight more.
 pub weight-next : (s list : List ℕ) (i w : ℕ) → 2 * i + 1 < length s → i < length list → w ≡ getD s (2 * i) 0 + 256 * getD s (2 * i + 1) 0
     → take i list ≡ take i (weightsOf s) → take (i + 1) (set list i w) ≡ take (i + 1) (weightsOf s)
-weight-next s list i w h l e t =
-    let k : i < length (weightsOf s) = omega (arith, weights-length s) in
-    rw (add-one i, take-suc-set list i w l, take-suc (weightsOf s) i 0 k, t, e, weight-at s i h)
+weight-next s list i w h l e t = stored-next (weightsOf s) list i w (omega (arith, weights-length s)) l (e ∙ sym (weight-at s i h)) t
 
 -- The first weights, up to the count, are the first 65.
 pub first-weights : (s : List ℕ) (n : ℕ) → n ≡ min 65 (length s / 2) → take n (weightsOf s) ≡ take 65 (weightsOf s)

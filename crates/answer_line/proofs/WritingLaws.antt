@@ -1,13 +1,19 @@
--- Laws of bytes that are written one after the other.
+-- Laws of numbers and bytes that are written one after the other.
 use mathlib.Core.Path.{_≡_, refl, sym, ap, _∙_, subst⁻¹}
 use mathlib.Core.List.{List, [], _++_}
-use Prim.Native.Nat.{ℕ, _+_, _≤_}
+use Prim.Native.Nat.{ℕ, _+_, _≤_, _<_}
 use native.Mathlib.Omega.{arith}
 use native.Mathlib.Nat.{add-zero, zero-add}
-use lib.ListN.{length, take, drop, length-append}
-use lib.Seq.{sets, take-all, take-at, length-sets, sets-eq}
+use native.Mathlib.Numerals.{add-one}
+use lib.ListN.{length, getD, set, take, drop, length-append}
+use lib.Seq.{sets, take-suc, take-suc-set, take-all, take-at, length-sets, sets-eq}
 use Rattle.livelock.proofs.StoreLaws.{sets-append}
 use Rattle.answer_line.specs.Inner.Steps.{Wrote, WroteLine}
+
+-- One number more, where those before it stand at the front of a list.
+pub stored-next : (numbers list : List ℕ) (i n : ℕ) → i < length numbers → i < length list → n ≡ getD numbers i 0
+    → take i list ≡ take i numbers → take (i + 1) (set list i n) ≡ take (i + 1) numbers
+stored-next numbers list i n h l e t = rw (add-one i, take-suc-set list i n l, take-suc numbers i 0 h, t, e)
 
 -- All bytes are written.
 pub copied-all : (p l out : List ℕ) (at i : ℕ) → length p ≤ i → i ≤ length p → out ≡ sets l at (take i p) → Wrote l out at (at + i) p

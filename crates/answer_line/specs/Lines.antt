@@ -42,17 +42,21 @@ refusedWord = 114 ∷ 101 ∷ 102 ∷ 117 ∷ 115 ∷ 101 ∷ 100 ∷ []
 abbrev pub lineEnd : List ℕ
 lineEnd = 10 ∷ []
 
+-- A word and its figures, closed by a line end.
+abbrev pub lineWith : List ℕ → List ℕ → List ℕ
+lineWith word numbers = word ++ figures numbers ++ lineEnd
+
 -- "`passed F n G`".
 abbrev pub passedLine : ℕ → ℕ → ℕ → List ℕ
-passedLine base states progress = passedWord ++ figures (base ∷ states ∷ progress ∷ []) ++ lineEnd
+passedLine base states progress = lineWith passedWord (base ∷ states ∷ progress ∷ [])
 
 -- "`cycle` and the rows".
 abbrev pub cycleLine : List ℕ → List ℕ
-cycleLine rows = cycleWord ++ figures rows ++ lineEnd
+cycleLine rows = lineWith cycleWord rows
 
 -- "`refused` with number and place".
 abbrev pub refusedLine : ℕ → ℕ → List ℕ
-refusedLine number place = refusedWord ++ figures (number ∷ place ∷ []) ++ lineEnd
+refusedLine number place = lineWith refusedWord (number ∷ place ∷ [])
 
 -- "It prints one line": the rows are the front of the list after weighing.
 abbrev pub lineOf : Answer → List ℕ → List ℕ

@@ -4,9 +4,9 @@ ghost use mathlib.Core.Path.{_≡_};
 ghost use lib.ListN.{length, take};
 ghost use Rattle.io.specs.Counts.{Counts};
 ghost use Rattle.weighing.specs.Answers.{answerOf};
-ghost use Rattle.answer_line.specs.Lines.{figure, figures, passedLine, cycleLine, refusedLine, lineOf};
+ghost use Rattle.answer_line.specs.Lines.{figure, figures, lineWith, lineOf};
 ghost use Rattle.answer_line.specs.Files.{weightsOf, Printed};
-ghost use Rattle.answer_line.specs.Inner.Steps.{Wrote, WroteLine, FewRows, handedOver};
+ghost use Rattle.answer_line.specs.Inner.Steps.{Wrote, ShortLine, WroteLine, FewRows, handedOver};
 use weighing::Weighed;
 
 // The weights of a file, up to a count.
@@ -30,13 +30,37 @@ fn copy(bytes: &[u8], out: &mut [u8], at: usize) -> usize
 
 // Writes a space and a number; a u64 has at most 20 digits.
 fn write_figure(n: u64, out: &mut [u8], at: usize) -> usize
-    requires { ⌜ at + 21 ≤ length (now out) ⌝ }
-    ensures { λ r. ⌜ Wrote (now (out .entry)) (now (out .exit)) at r (figure n) × (r ≤ at + 21) ⌝ }
+    requires { ⌜ at + length (figure n) ≤ length (now out) ⌝ }
+    ensures { λ r. ⌜ Wrote (now (out .entry)) (now (out .exit)) at r (figure n) ⌝ }
 {
     let mut digits = [0u8; 20];
     let k = io::decimal(n, &mut digits);
     let next = copy(b" ", out, at);
     copy(&digits[..k], out, next)
+}
+
+// Writes the figures of the numbers.
+fn write_figures(numbers: &[u64], out: &mut [u8], at: usize) -> usize
+    requires { ⌜ at + length (figures (now numbers)) ≤ length (now out) ⌝ }
+    ensures { λ r. ⌜ Wrote (now (out .entry)) (now (out .exit)) at r (figures (now (numbers .entry))) ⌝ }
+{
+    let mut next = at;
+    let mut i = 0;
+    while i < numbers.len() {
+        next = write_figure(numbers[i], out, next);
+        i += 1;
+    }
+    next
+}
+
+// Writes the line of a word and figures, from the start.
+fn write_line_with(word: &[u8], numbers: &[u64], line: &mut [u8]) -> usize
+    requires { ⌜ ShortLine (now word) (now numbers) × (512 ≤ length (now line)) ⌝ }
+    ensures { λ r. ⌜ WroteLine (now (line .entry)) (now (line .exit)) r (lineWith (now (word .entry)) (now (numbers .entry))) ⌝ }
+{
+    let first = copy(word, line, 0);
+    let end = write_figures(numbers, line, first);
+    copy(b"\n", line, end)
 }
 
 // A row's number, as a figure.
@@ -46,52 +70,18 @@ fn wide(row: u16) -> u64
     row as u64
 }
 
-// Writes the rows, at most six bytes each.
-fn write_rows(rows: &[u16], out: &mut [u8], at: usize) -> usize
-    requires { ⌜ at + 6 * length (now rows) + 21 ≤ length (now out) ⌝ }
-    ensures { λ r. ⌜ Wrote (now (out .entry)) (now (out .exit)) at r (figures (now (rows .entry))) × (r ≤ at + 6 * length (now (rows .entry))) ⌝ }
+// The first rows of a list, as figures of at most six bytes each.
+fn widened(cycle: &[u16], rows: usize) -> [u64; 64]
+    requires { ⌜ (rows ≤ 64) × (64 ≤ length (now cycle)) ⌝ }
+    ensures { λ r. ⌜ (take rows r ≡ take rows (now (cycle .entry))) × (length (figures (take rows r)) ≤ 6 * rows) ⌝ }
 {
-    let mut next = at;
+    let mut numbers = [0u64; 64];
     let mut i = 0;
-    while i < rows.len() {
-        let row = wide(rows[i]);
-        next = write_figure(row, out, next);
+    while i < rows {
+        numbers[i] = wide(cycle[i]);
         i += 1;
     }
-    next
-}
-
-// `passed F n G`.
-fn write_passed(base: u64, states: u64, progress: u64, line: &mut [u8]) -> usize
-    requires { ⌜ 512 ≤ length (now line) ⌝ }
-    ensures { λ r. ⌜ WroteLine (now (line .entry)) (now (line .exit)) r (passedLine base states progress) ⌝ }
-{
-    let word = copy(b"passed", line, 0);
-    let first = write_figure(base, line, word);
-    let second = write_figure(states, line, first);
-    let third = write_figure(progress, line, second);
-    copy(b"\n", line, third)
-}
-
-// `cycle` and the rows.
-fn write_cycle(rows: &[u16], line: &mut [u8]) -> usize
-    requires { ⌜ (512 ≤ length (now line)) × (length (now rows) ≤ 64) ⌝ }
-    ensures { λ r. ⌜ WroteLine (now (line .entry)) (now (line .exit)) r (cycleLine (now (rows .entry))) ⌝ }
-{
-    let word = copy(b"cycle", line, 0);
-    let next = write_rows(rows, line, word);
-    copy(b"\n", line, next)
-}
-
-// `refused` with number and place.
-fn write_refused(number: u64, place: u64, line: &mut [u8]) -> usize
-    requires { ⌜ 512 ≤ length (now line) ⌝ }
-    ensures { λ r. ⌜ WroteLine (now (line .entry)) (now (line .exit)) r (refusedLine number place) ⌝ }
-{
-    let word = copy(b"refused", line, 0);
-    let first = write_figure(number, line, word);
-    let second = write_figure(place, line, first);
-    copy(b"\n", line, second)
+    numbers
 }
 
 // Two bytes, low byte first.
@@ -149,9 +139,16 @@ fn write_answer(answer: Weighed, cycle: &[u16], line: &mut [u8]) -> usize
             base,
             states,
             progress,
-        } => write_passed(base, states, progress, line),
-        Weighed::Cycle { rows } => write_cycle(&cycle[..rows], line),
-        Weighed::Refused(fault) => write_refused(fault.number as u64, fault.place as u64, line),
+        } => write_line_with(b"passed", &[base, states, progress], line),
+        Weighed::Cycle { rows } => {
+            let numbers = widened(cycle, rows);
+            write_line_with(b"cycle", &numbers[..rows], line)
+        }
+        Weighed::Refused(fault) => {
+            let number = fault.number as u64;
+            let place = fault.place as u64;
+            write_line_with(b"refused", &[number, place], line)
+        }
     }
 }
 

@@ -174,11 +174,11 @@ module _ (file set : List ℕ) (P : Plant) (end : ℕ) (reads : readPlant file �
       go x fault-met = refl
 
   -- and the sums of a set are looked through.
-  pub sums-answer : (next : ℕ) → r ≡ Ends.At next → P .types ≤ 64 → lowestNegative (λ t. getD sums t (pos 0)) 0 (P .types) ≡ owed (readPlant file) set
-  sums-answer next e few = go (readSet P set) (subst (λ (x : End). JudgedAs P sums x (readSet P set)) e judged) ∙ of-plant
+  pub sums-answer : (next : ℕ) → r ≡ Ends.At next → lowestNegative (λ t. getD sums t (pos 0)) 0 (P .types) ≡ owed (readPlant file) set
+  sums-answer next e = go (readSet P set) (subst (λ (x : End). JudgedAs P sums x (readSet P set)) e judged) ∙ of-plant
     where
       go : (x : Found (List Entry)) → JudgedAs P sums (Ends.At next) x → lowestNegative (λ t. getD sums t (pos 0)) 0 (P .types) ≡ setAnswer P x
-      go x (entries-read {es = es} h) = lowest-same (λ t. getD sums t (pos 0)) (setEffect P es) 0 (P .types) (λ t l. h t (omega arith))
+      go x (entries-read {es = es} h) = lowest-same (λ t. getD sums t (pos 0)) (setEffect P es) 0 (P .types) (λ t l. h t)
 
 -- ---- how large sums can be
 

@@ -4,15 +4,15 @@ use mathlib.Core.Logic.{_≢_, _↔_}
 use mathlib.Core.Bool.{Bool, true, false, false≢true}
 use mathlib.Core.List.{List, [], _∷_, map}
 use Prim.Native.Nat.{ℕ, _<_}
-use native.Mathlib.Decide.{ℕ-discrete, decLt}
+use native.Mathlib.Decide.{ℕ-discrete}
 use native.Mathlib.Omega.{arith}
-use lib.ListN.{length, getD, set, length-set, replicate, length-replicate, getD-replicate, List·getD-eq-default}
+use lib.ListN.{length, getD, set, length-set, replicate}
 use lib.Seq.{getD-set-same, getD-set-other}
 use borrow.Author.Tests.{eqb-true, eq-eqb}
 use Rattle.livelock.specs.Lists.{All, Distinct}
 use Rattle.livelock.specs.Plants.{Plant, hasProgress}
 use Rattle.livelock.specs.Cycles.{Walk, leaves, enters, RowOf, firstLeft, SimpleCycle, Quiet}
-use Rattle.livelock.proofs.ListLaws.{all-weaken, all-always, all-both, all-of-map}
+use Rattle.livelock.proofs.ListLaws.{all-weaken, all-always, all-both, all-of-map, all-map-of, getD-replicate-default}
 use Rattle.livelock.proofs.Tests.{and-iff, both-iff, equal-iff, not-iff, simple-cycle-iff, quiet-iff}
 use Rattle.cycle_sets.specs.Sets.{isQuietCycleOf}
 use Rattle.cycle_sets.specs.Inner.Steps.{Columns, ColumnsOf, goesOn, leads}
@@ -34,20 +34,6 @@ unmarked-before seen s x h e = go (ℕ-discrete x s)
 -- A marked state is not among those that are not marked.
 marked : (seen : List Bool) (s x : ℕ) → s < length seen → getD (set seen s true) x false ≡ false → s ≢ x
 marked seen s x l e q = false≢true (sym e ∙ rw (← q) (getD-set-same seen s true false l))
-
--- At first no state is marked.
-none-marked : (n x : ℕ) → getD (replicate n false) x false ≡ false
-none-marked n x = go (decLt x n)
-  where
-    go : Dec (x < n) → getD (replicate n false) x false ≡ false
-    go (yes l) = getD-replicate n x false false l
-    go (no l) = List·getD-eq-default (replicate n false) false {n = x} (rw length-replicate (omega arith))
-
--- What holds of the states that rows leave.
-of-map : (F : ℕ → Type 0) (f : ℕ → ℕ) (ks : List ℕ) → All F (map f ks) → All (λ k. F (f k)) ks
-unfolding All
-of-map F f [] h = tt
-of-map F f (k ∷ ks) h = (h .0, of-map F f ks (h .1))
 
 -- ---- the rows one after the other
 
@@ -110,7 +96,7 @@ module _ (P : Plant) (rows : ℕ) (c : Columns) (is : ColumnsOf P rows c) (m end
                   _
                   (λ j h. getD-set-other seen s (leaves P j) true false (λ q. h .1 (here ∙ sym q)) ∙ h .0)
                   ks
-                  (all-both _ _ ks (w .unmarked .1) (of-map (λ y. leaves P k ≢ y) (leaves P) ks (w .once .0)));
+                  (all-both _ _ ks (w .unmarked .1) (all-map-of (λ y. leaves P k ≢ y) (leaves P) ks (w .once .0)));
               once = w .once .1;
             }),
       )
@@ -135,7 +121,7 @@ leads-is P rows c is m ks some l = same-test _ _ (
         of-machine = q .0 .of-machine;
         quiet = q .1;
         walk = q .0 .closed;
-        unmarked = all-always _ (λ k. none-marked 256 (leaves P k)) ks;
+        unmarked = all-always _ (λ k. getD-replicate-default 256 false (leaves P k)) ks;
         once = q .0 .once;
       }),
 )

@@ -11,8 +11,10 @@ use Rattle.livelock.specs.Plants.{Plant, rowCount, machineCount}
 use Rattle.livelock.specs.Cycles.{firstLeft}
 use Rattle.livelock.specs.CycleSets.{Entry}
 use Rattle.plant.specs.Found.{Found, found, fault, andThen}
+use Rattle.plant.specs.declared.End.{End}
+use Rattle.plant.specs.declared.End.the-variants as Ends
 use Rattle.cycle_sets.specs.Sets.{numberIn, rowsAt, isQuietCycleOf, entryEnds, entryAt}
-use Rattle.cycle_sets.specs.Inner.Steps.{part, NumbersBelow, Columns, ColumnsOf, leads, firstNumbers, entryIn}
+use Rattle.cycle_sets.specs.Inner.Steps.{valueFound, part, NumbersBelow, Columns, ColumnsOf, leads, firstNumbers, JudgedEnd, entryIn}
 use Rattle.cycle_sets.proofs.FoundLaws.{chained, three-stop, tested, value-same, place-same}
 use Rattle.cycle_sets.proofs.NumberLaws.{number-read, RowsRead, rows-read, part-length, part-below}
 use Rattle.cycle_sets.proofs.CycleTestLaws.{leads-is}
@@ -31,6 +33,24 @@ rows-test P rows c is set m a b l h =
 
     first-is : firstLeft P (part set a b) ≡ getD (c .left) (getD set a 0) 0
     first-is = rw first-number (is .left-is (getD set a 0) (h .small a (le-refl a) l))
+
+-- ---- where an entry ends
+
+module _ (c : Columns) (set : List ℕ) (at end : ℕ) (some : at + 3 < end) (b : Bool)
+    (b-is : b ≡ leads c (getD set at 0) (getD (c .left) (getD set (at + 3) 0) 0) (getD (c .left) (getD set (at + 3) 0) 0) (replicate 256 false) (part set (at + 3) end)) where
+  -- What the code's test says is what the definition's test says.
+  tested-so : (P : Plant) (rows : ℕ) → ColumnsOf P rows c → NumbersBelow rows set (at + 3) end → isQuietCycleOf P (getD set at 0) (part set (at + 3) end) ≡ b
+  tested-so P rows is below = sym (b-is ∙ rows-test P rows c is set (getD set at 0) (at + 3) end some below)
+
+  -- "not a quiet simple cycle of that machine"
+  pub cycle-stops : b ≡ false → JudgedEnd c set at end (Ends.Fault (record { number = 17; place = at }))
+  unfolding entryEnds
+  cycle-stops f P rows is below = rw (tested-so P rows is below, f)
+
+  -- Where they are, the entry is read.
+  pub cycle-good : b ≡ true → JudgedEnd c set at end (Ends.At end)
+  unfolding entryEnds
+  cycle-good t P rows is below = rw (tested-so P rows is below, t)
 
 -- ---- number by number
 
@@ -92,60 +112,45 @@ module _ (c : Columns) (rows machines : ℕ) (set : List ℕ) (at : ℕ) where
       (three-stop (numberIn 0 machines set at) (numberIn 1 1000001 set) (numberIn 1 65 set)
       (λ m r n a. andThen (rowsAt n (rowCount P) set a) (λ ks d. entryEnds P at (record { machine = m; repeats = r; cycle = ks }) d)) number place h)
 
+  -- Where the entry ends, by its row count.
+  abbrev end : ℕ
+  end = at + 3 + countAt set at
+
   module _ (three : ThreeRead machines set at) where
-    module _ (end : ℕ) (end-is : end ≡ at + 3 + getD set (at + 2) 0) where
-      -- The rows are as many as the row count says.
-      counted : end - (at + 3) ≡ countAt set at
-      counted = omega arith
+    -- The rows are as many as the row count says.
+    counted : end - (at + 3) ≡ countAt set at
+    counted = omega arith
 
-      -- A fault at a row number is the entry's.
-      pub rows-stop : (number place : ℕ) → rowsAt (end - (at + 3)) rows set (at + 3) ≡ fault number place → Reads (fault number place)
-      unfolding entryAt
-      rows-stop number place h P is e = rw (e, three .first, three .second, three .third, is .rows-are, rw counted at h)
+    -- A fault at a row number is the entry's.
+    pub rows-stop : (number place : ℕ) → rowsAt (end - (at + 3)) rows set (at + 3) ≡ fault number place → Reads (fault number place)
+    unfolding entryAt
+    rows-stop number place h P is e = rw (e, three .first, three .second, three .third, is .rows-are, rw counted at h)
 
+    -- There is at least one row.
+    pub some-row : at + 3 < end
+    some-row = omega (arith, number-read 1 65 set (at + 2) (countAt set at) (at + 3) (three .third) .from-low)
+
+    module _ (next : ℕ) (fourth : rowsAt (end - (at + 3)) rows set (at + 3) ≡ found (part set (at + 3) end) next) where
       -- The row numbers that were read.
-      entry-rows : (next : ℕ) → rowsAt (end - (at + 3)) rows set (at + 3) ≡ found (part set (at + 3) end) next → RowsRead (countAt set at) rows set (at + 3) (part set (at + 3) end) next
-      entry-rows next h =
+      entry-rows : RowsRead (countAt set at) rows set (at + 3) (part set (at + 3) end) next
+      entry-rows =
           rows-read (countAt set at) rows set (at + 3) (part set (at + 3) end) next (omega (arith, number-read 1 65 set (at + 2) (countAt set at) (at + 3) (three .third) .there))
-          (subst (λ (n : ℕ). rowsAt n rows set (at + 3) ≡ found (part set (at + 3) end) next) counted h)
+          (subst (λ (n : ℕ). rowsAt n rows set (at + 3) ≡ found (part set (at + 3) end) next) counted fourth)
 
-      -- There is at least one row,
-      pub some-row : at + 3 < end
-      some-row = omega (arith, number-read 1 65 set (at + 2) (countAt set at) (at + 3) (three .third) .from-low)
+      -- All are rows of the plant.
+      pub rows-below : NumbersBelow rows set (at + 3) end
+      rows-below = entry-rows .below
 
-      module _ (next : ℕ) (fourth : rowsAt (end - (at + 3)) rows set (at + 3) ≡ found (part set (at + 3) end) next) where
-        -- and all are rows of the plant.
-        pub rows-below : NumbersBelow rows set (at + 3) end
-        rows-below = subst (NumbersBelow rows set (at + 3)) (sym end-is) (entry-rows next fourth .below)
+      -- The rows, as the definition of the entry reads them.
+      fourth-is : rowsAt (countAt set at) rows set (at + 3) ≡ found (part set (at + 3) end) end
+      fourth-is =
+          subst (λ (x : ℕ). rowsAt (countAt set at) rows set (at + 3) ≡ found (part set (at + 3) end) x) (entry-rows .next-is)
+          (subst (λ (n : ℕ). rowsAt n rows set (at + 3) ≡ found (part set (at + 3) end) next) counted fourth)
 
-        -- The rows, as the definition of the entry reads them.
-        fourth-is : rowsAt (countAt set at) rows set (at + 3) ≡ found (part set (at + 3) (at + 3 + countAt set at)) end
-        fourth-is =
-            let r = entry-rows next fourth in
-            let place : next ≡ end = omega (arith, r .next-is) in
-            subst (λ (x : ℕ). rowsAt (countAt set at) rows set (at + 3) ≡ found (part set (at + 3) x) end) end-is
-            (subst (λ (x : ℕ). rowsAt (countAt set at) rows set (at + 3) ≡ found (part set (at + 3) end) x) place
-            (subst (λ (n : ℕ). rowsAt n rows set (at + 3) ≡ found (part set (at + 3) end) next) counted fourth))
-
-        -- The entry, once its numbers are read.
-        last : (P : Plant) → ColumnsOf P rows c → machineCount P ≡ machines → entryAt P set at ≡ entryEnds P at (entryIn set at) end
-        unfolding entryAt
-        last P is e = rw (e, three .first, three .second, three .third, is .rows-are, fourth-is)
-
-        module _ (b : Bool) (b-is : b ≡ leads c (getD set at 0) (getD (c .left) (getD set (at + 3) 0) 0) (getD (c .left) (getD set (at + 3) 0) 0) (replicate 256 false) (part set (at + 3) end)) where
-          -- What the code's test says is what the definition's test says.
-          tested-so : (P : Plant) → ColumnsOf P rows c → isQuietCycleOf P (getD set at 0) (part set (at + 3) (at + 3 + countAt set at)) ≡ b
-          tested-so P is = subst (λ (x : ℕ). isQuietCycleOf P (getD set at 0) (part set (at + 3) x) ≡ b) end-is (sym (b-is ∙ rows-test P rows c is set (getD set at 0) (at + 3) end some-row rows-below))
-
-          -- "not a quiet simple cycle of that machine"
-          pub cycle-stops : b ≡ false → Reads (fault 17 at)
-          unfolding entryEnds
-          cycle-stops f P is e = sym (last P is e ∙ rw (tested-so P is, f))
-
-          -- Where they are, the entry is read.
-          pub entry-good : b ≡ true → Reads (found (entryIn set at) end)
-          unfolding entryEnds
-          entry-good t P is e = sym (last P is e ∙ rw (tested-so P is, t))
+      -- Once its numbers are read, what is judged where it ends is what the entry reads as.
+      pub entry-ended : (r : End) → JudgedEnd c set at end r → Reads (valueFound (entryIn set at) r)
+      unfolding entryAt
+      entry-ended r h P is e = h P rows is rows-below ∙ rw (e, three .first, three .second, three .third, is .rows-are, fourth-is)
 
 -- ---- an entry that was read
 

@@ -11,6 +11,7 @@ pub record Chained {A B : Type 0} (x : Found A) (k : A → ℕ → Found B) (b :
   pub first : x ≡ found value next
   pub second : k value next ≡ found b end
 
+-- Where two parts read in turn were found, each of them was.
 pub chained : {A B : Type 0} (x : Found A) (k : A → ℕ → Found B) (b : B) (end : ℕ) → andThen x k ≡ found b end → Chained x k b end
 chained (found a next) k b end e = record { value = a; next = next; first = refl; second = e }
 chained (fault number place) k b end e = absurd (false≢true cc)

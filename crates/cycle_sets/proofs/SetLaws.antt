@@ -3,16 +3,16 @@ use mathlib.Core.Path.{_≡_, refl, sym, ap, _∙_, subst}
 use mathlib.Core.Bool.{cond}
 use mathlib.Core.List.{List, [], _∷_, _++_}
 use Prim.Native.Nat.{ℕ, zero, suc, _+_, _-_, _*_, _≤_, _<_}
-use native.Mathlib.Decide.{decLt}
 use native.Mathlib.Omega.{arith}
 use lib.Dec.{ltb}
-use lib.ListN.{length, getD, replicate, getD-replicate, length-replicate, List·getD-eq-default}
+use lib.ListN.{length, getD, replicate, length-replicate}
 use lib.IntN.{ℤ, pos, negsuc}
 use borrow.Author.Tests.{lt-ltb, le-ltb}
 use Rattle.livelock.specs.Lists.{sum, sumℤ, All}
 use Rattle.livelock.specs.Plants.{Plant}
 use Rattle.livelock.specs.Cycles.{messagesSent, messagesTaken}
 use Rattle.livelock.specs.CycleSets.{Entry, setEffect}
+use Rattle.livelock.proofs.ListLaws.{getD-replicate-default}
 use Rattle.livelock.proofs.SumLaws.{sum-append}
 use Rattle.livelock.proofs.Differences.{Difference, difference-shift}
 use Rattle.livelock.proofs.CycleSetLaws.{setSent, setTaken, set-difference}
@@ -21,7 +21,7 @@ use Rattle.plant.specs.Tables.{plantOf, Ready}
 use Rattle.plant.specs.declared.PlantTable.{PlantTable}
 use Rattle.plant.specs.declared.Fault.{Fault}
 use Rattle.plant.specs.declared.End.the-variants as Ends
-use Rattle.plant.proofs.TableLaws.{rows-so-far}
+use Rattle.plant.proofs.TableLaws.{rows-counted}
 use Rattle.cycle_sets.specs.Sets.{entryAt, entryBegins, entriesAt, readSet}
 use Rattle.cycle_sets.specs.Inner.Steps.{part, NumbersBelow, entryIn, Within, having, Added, SumsOf, JudgedAs, entries-read, fault-met}
 use Rattle.cycle_sets.proofs.NumberLaws.{begins-within, part-length, part-below}
@@ -65,32 +65,28 @@ module _ (t : PlantTable) (set : List ℕ) where
   pub record Going (before at : ℕ) (sums : List ℤ) : Type 0 where
     pub few : before ≤ 256
     pub near : at ≤ before * 67
-    pub room : length sums ≡ 65
+    pub room : length sums ≡ 64
     pub within : Within (before * 128000000) sums
     pub entries : List Entry
     pub rest : entriesAt (256 - before) P set at entries ≡ readSet P set
     pub sums-are : SumsOf P entries sums
 
   -- All sums are 0 at first,
-  zeros : (i : ℕ) → getD (replicate 65 (pos 0)) i (pos 0) ≡ pos 0
-  zeros i = go (decLt i 65)
-    where
-      go : Dec (i < 65) → getD (replicate 65 (pos 0)) i (pos 0) ≡ pos 0
-      go (yes l) = getD-replicate 65 i (pos 0) (pos 0) l
-      go (no l) = List·getD-eq-default (replicate 65 (pos 0)) (pos 0) {n = i} (rw length-replicate (omega arith))
+  zeros : (i : ℕ) → getD (replicate 64 (pos 0)) i (pos 0) ≡ pos 0
+  zeros = getD-replicate-default 64 (pos 0)
 
   -- and no entry came before the first.
-  pub begun : Going 0 0 (replicate 65 (pos 0))
+  pub begun : Going 0 0 (replicate 64 (pos 0))
   unfolding setEffect sumℤ
   begun =
       record {
         few = omega arith;
         near = omega arith;
-        room = length-replicate 65 (pos 0);
+        room = length-replicate 64 (pos 0);
         within = λ i. rw (zeros i) (omega arith);
         entries = [];
         rest = refl;
-        sums-are = λ u l. zeros u;
+        sums-are = zeros;
       }
 
   module _ (before at : ℕ) (sums : List ℤ) (g : Going before at sums) where
@@ -130,13 +126,13 @@ module _ (t : PlantTable) (set : List ℕ) where
 
         -- What the function that adds the rows asks.
         pub rows-small : NumbersBelow 1024 set (at + 3) next
-        rows-small = record { there = read .rows-below .there; small = λ i p q. omega (arith, read .rows-below .small i p q, rows-so-far t, ready .sound .few-rows) }
+        rows-small = record { there = read .rows-below .there; small = λ i p q. omega (arith, read .rows-below .small i p q, rows-counted t, ready .sound .few-rows) }
 
         module _ (after : List ℤ) (added : Added (t .sent) (t .taken) (getD set (at + 1) 0) ks sums after) where
           -- The rows of the entry are rows of the table.
           rows-are : All (λ k. k < t .rows) ks
           rows-are = part-below (t .rows) set (next - (at + 3)) (at + 3) next (omega (arith, read .next-is))
-              (record { there = read .rows-below .there; small = λ i p q. omega (arith, read .rows-below .small i p q, rows-so-far t) })
+              (record { there = read .rows-below .there; small = λ i p q. omega (arith, read .rows-below .small i p q, rows-counted t) })
 
           -- Its rows are those of the entry.
           cycle-is : ks ≡ e .cycle
@@ -148,12 +144,12 @@ module _ (t : PlantTable) (set : List ℕ) where
 
           -- With the rows added, the sums are those of one entry more.
           next-sums : SumsOf P (g .entries ++ (e ∷ [])) after
-          next-sums u l =
+          next-sums u =
               let start : Difference (getD sums u (pos 0)) (setSent P (g .entries) u) (setTaken P (g .entries) u) =
-              subst (λ (z : ℤ). Difference z (setSent P (g .entries) u) (setTaken P (g .entries) u)) (sym (g .sums-are u l)) (set-difference P (g .entries) u) in
+              subst (λ (z : ℤ). Difference z (setSent P (g .entries) u) (setTaken P (g .entries) u)) (sym (g .sums-are u)) (set-difference P (g .entries) u) in
               difference-unique (getD after u (pos 0)) (setEffect P (g .entries ++ (e ∷ [])) u) (setSent P (g .entries ++ (e ∷ [])) u) (setTaken P (g .entries ++ (e ∷ [])) u)
               (difference-shift (getD after u (pos 0)) _ _ (setSent P (g .entries ++ (e ∷ [])) u) (setTaken P (g .entries ++ (e ∷ [])) u) (omega (arith, entry-side (λ c. messagesSent P c u) (having (t .sent) u ks) (sent-is t u ks rows-are), entry-side (λ c. messagesTaken P c u) (having (t .taken) u ks) (taken-is t u ks rows-are)))
-              (added .sums u (setSent P (g .entries) u) (setTaken P (g .entries) u) l start))
+              (added .sums u (setSent P (g .entries) u) (setTaken P (g .entries) u) start))
               (set-difference P (g .entries ++ (e ∷ [])) u)
 
           -- Behind the entry the list goes on or ends.

@@ -2,7 +2,7 @@
 use mathlib.Core.Path.{_≡_, _∙_}
 use Prim.Native.Nat.{ℕ, zero, suc, _+_, _^_, _≤_, _<_, max}
 use native.Mathlib.Omega.{arith}
-use lib.IntN.{ℤ, pos, negsuc, negℤ, natAbs, _+ℤ_, _-ℤ_}
+use lib.IntN.{ℤ, pos, negsuc, negℤ, natAbs, _+ℤ_, _-ℤ_, +ℤ-idl}
 use mir.Syntax.{w64}
 use mir.Val.{SFits, toZ, ofZ}
 use mir.Facts.{toZ-ofZ, toZ-pos}
@@ -30,28 +30,30 @@ pub size-fits : (z : ℤ) → natAbs z < 2 ^ 63 → SFits w64 z
 size-fits (pos d) h = record { sfits = h }
 size-fits (negsuc d) h = record { sfits = omega arith }
 
--- A number of repeats, cast, added to a small number or taken from it.
+-- A number comes back from 64 bits where it is small.
+back : (z : ℤ) → natAbs z < 2 ^ 63 → toZ w64 (ofZ w64 z) ≡ z
+back z h = toZ-ofZ (size-fits z h)
+
+-- A change of at most 1,000,000 either way, added to a small number in 64 bits.
+module _ (v z : ℤ) (small : natAbs v ≤ 2 ^ 62) (few : natAbs z ≤ 1000000) where
+  -- Their sum fits,
+  pub sum-fits : SFits w64 (toZ w64 (ofZ w64 v) +ℤ toZ w64 (ofZ w64 z))
+  sum-fits = rw (back v (omega arith), back z (omega arith)) (size-fits (v +ℤ z) (omega (arith, size-plus v z)))
+
+  -- and comes back.
+  pub sum-is : toZ w64 (ofZ w64 (toZ w64 (ofZ w64 v) +ℤ toZ w64 (ofZ w64 z))) ≡ v +ℤ z
+  sum-is = toZ-ofZ sum-fits ∙ rw (back v (omega arith), back z (omega arith))
+
+-- A number of repeats, cast, and the same below zero.
 module _ (repeats : ℕ) (few : repeats ≤ 1000000) where
-  -- The cast keeps the number.
-  cast-is : toZ w64 repeats ≡ pos repeats
-  cast-is = toZ-pos w64 (omega arith)
+  -- It is cast to itself,
+  pub times-is : toZ w64 repeats ≡ pos repeats
+  times-is = toZ-pos w64 (omega arith)
 
-  module _ (v : ℤ) (small : natAbs v ≤ 2 ^ 62) where
-    -- A small number comes back from 64 bits.
-    back : toZ w64 (ofZ w64 v) ≡ v
-    back = toZ-ofZ (size-fits v (omega arith))
+  -- taken from 0 it fits 64 bits,
+  pub less-fits : SFits w64 (pos 0 -ℤ toZ w64 repeats)
+  less-fits = rw (times-is, +ℤ-idl (negℤ (pos repeats))) (size-fits (negℤ (pos repeats)) (omega (arith, size-neg repeats)))
 
-    -- Their sum fits,
-    pub sum-fits : SFits w64 (toZ w64 (ofZ w64 v) +ℤ toZ w64 repeats)
-    sum-fits = rw (back, cast-is) (size-fits (v +ℤ pos repeats) (omega (arith, size-plus v (pos repeats))))
-
-    -- and comes back;
-    pub sum-is : toZ w64 (ofZ w64 (toZ w64 (ofZ w64 v) +ℤ toZ w64 repeats)) ≡ v +ℤ pos repeats
-    sum-is = toZ-ofZ sum-fits ∙ rw (back, cast-is)
-
-    -- so does their difference.
-    pub rest-fits : SFits w64 (toZ w64 (ofZ w64 v) -ℤ toZ w64 repeats)
-    rest-fits = rw (back, cast-is) (size-fits (v -ℤ pos repeats) (omega (arith, size-plus v (negℤ (pos repeats)), size-neg repeats)))
-
-    pub rest-is : toZ w64 (ofZ w64 (toZ w64 (ofZ w64 v) -ℤ toZ w64 repeats)) ≡ v +ℤ negℤ (pos repeats)
-    rest-is = toZ-ofZ rest-fits ∙ rw (back, cast-is)
+  -- and comes back.
+  pub less-is : toZ w64 (ofZ w64 (pos 0 -ℤ toZ w64 repeats)) ≡ negℤ (pos repeats)
+  less-is = toZ-ofZ less-fits ∙ rw (times-is, +ℤ-idl (negℤ (pos repeats)))

@@ -14,7 +14,7 @@ use Rattle.livelock.proofs.SumLaws.{sum-equal}
 use Rattle.plant.specs.Tables.{typeOf, rowOf, plantOf, Ready}
 use Rattle.plant.specs.Limits.{WithinLimits}
 use Rattle.plant.specs.declared.PlantTable.{PlantTable}
-use Rattle.plant.proofs.TableLaws.{rows-so-far, machines-so-far, row-is}
+use Rattle.plant.proofs.TableLaws.{rows-counted, machines-counted, row-is}
 use Rattle.cycle_sets.specs.Inner.Steps.{Columns, ColumnsOf, having}
 
 -- The columns that tell whether rows are a quiet simple cycle.
@@ -33,17 +33,17 @@ module _ (t : PlantTable) (ready : Ready t) (limits : WithinLimits (plantOf t)) 
   pub columns-of : ColumnsOf (plantOf t) (t .rows) (columnsOf t)
   columns-of =
       record {
-        rows-are = rows-so-far t;
+        rows-are = rows-counted t;
         machine-is = λ k l. ap (λ (r : Row). r .machine) (row-is t k l);
         left-is = λ k l. ap (λ (r : Row). r .left) (row-is t k l);
         entered-is = λ k l. ap (λ (r : Row). r .entered) (row-is t k l);
         progress-is = λ k l. ap (λ (r : Row). r .progress) (row-is t k l);
-        byte = λ k l. left-byte (plantOf t) limits k (rw (rows-so-far t) l);
+        byte = λ k l. left-byte (plantOf t) limits k (rw (rows-counted t) l);
       }
 
   -- and it has as many machines.
   pub machines-are : machineCount (plantOf t) ≡ t .machines
-  machines-are = machines-so-far t 16 (ready .sound) (omega arith)
+  machines-are = machines-counted t (ready .sound)
 
 -- How many rows have a type in a column is how many of the plant's rows send it, or take it.
 having-is : (t : PlantTable) (field : Row → Option ℕ) (column : List ℕ) → ((k : ℕ) → typeOf (getD column k 0) ≡ field (rowOf t k))

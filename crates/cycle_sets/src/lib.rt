@@ -2,17 +2,17 @@
 ghost use mathlib.Core.Path.{_≡_};
 ghost use mathlib.Core.Logic.{_↔_};
 ghost use mathlib.Core.Bool.{false};
-ghost use Prim.Native.Nat.{_+_, _-_, _^_, _≤_, _<_};
+ghost use Prim.Native.Nat.{_+_, _-_, _^_, _≤_, _<_, min};
 ghost use lib.ListN.{length, getD, replicate};
-ghost use lib.IntN.{pos};
+ghost use lib.IntN.{pos, natAbs};
 ghost use Rattle.plant.specs.Reading.{readPlant};
 ghost use Rattle.plant.specs.Limits.{WithinLimits};
 ghost use Rattle.plant.specs.Tables.{plantOf, Ready};
 ghost use Rattle.cycle_sets.specs.Sets.{numberIn, rowsAt, entryBegins, readSet};
 ghost use Rattle.cycle_sets.specs.Answers.{answerOf, confirmed};
 ghost use Rattle.cycle_sets.specs.Confirming.{lowestNegative, owed, ReadsBalanced};
-ghost use Rattle.cycle_sets.specs.Inner.Steps.{valueFound, part, NumbersBelow, goesOn, leads, firstNumbers, JudgedEntry};
-ghost use Rattle.cycle_sets.specs.Inner.Steps.{placeOf, Within, Added, JudgedAs};
+ghost use Rattle.cycle_sets.specs.Inner.Steps.{valueFound, part, NumbersBelow, goesOn, leads, firstNumbers, JudgedEnd, JudgedEntry};
+ghost use Rattle.cycle_sets.specs.Inner.Steps.{raised, Within, Added, JudgedAs};
 use plant::End;
 use plant::Fault;
 use plant::PlantTable;
@@ -24,10 +24,10 @@ pub enum Confirmation {
     Refused(Fault),
 }
 
-// The sums for each type, or the fault. Entry 64 of the sums belongs to no type.
+// The sums for each type, or the fault.
 struct JudgedSet {
     end: End,
-    sums: [i64; 65],
+    sums: [i64; 64],
 }
 
 // What is judged where an entry begins: whether the list has it, and whether fewer than 256 came before.
@@ -76,14 +76,33 @@ fn number_in(set: &[u32], at: usize, low: u32, end: u32) -> End
     End::At(at + 1)
 }
 
-// The row numbers from `at` up to `end`, each below `rows`.
+// The lesser of two numbers.
+fn lesser(a: usize, b: usize) -> usize
+    ensures { λ r. ⌜ r ≡ min a b ⌝ }
+{
+    if a < b {
+        return a;
+    }
+    b
+}
+
+// The row numbers from `at` up to `end`, each below `rows`. The loop goes up to the lesser of `end` and the list's length, so that the
+// compiler leaves out the comparison with the length in `number_in`.
 fn rows_in(set: &[u32], at: usize, end: usize, rows: u32) -> End
     requires { ⌜ at ≤ end ⌝ }
     ensures { λ r. ⌜ valueFound (part (now (set .entry)) at end) r ≡ rowsAt (end - at) rows (now (set .entry)) at ⌝ }
 {
+    let length = set.len();
+    let stop = lesser(end, length);
     let mut i = at;
     let judged = 'rows: loop {
-        if i >= end {
+        if i >= stop {
+            if i < end {
+                break 'rows End::Fault(Fault {
+                    number: 15,
+                    place: length,
+                });
+            }
             break 'rows End::At(i);
         }
         let step = number_in(set, i, 0, rows);
@@ -158,6 +177,13 @@ fn is_quiet_cycle<'a>(
     state == start
 }
 
+// The repeats at `at`, 1 to 1,000,000.
+fn repeats_in(set: &[u32], at: usize) -> End
+    ensures { λ r. ⌜ valueFound (getD (now (set .entry)) at 0) r ≡ numberIn 1 1000001 (now (set .entry)) at ⌝ }
+{
+    number_in(set, at, 1, 1_000_001)
+}
+
 // The first three numbers of the entry that begins at `first`: machine, repeats and row count.
 fn first_numbers(set: &[u32], first: usize, machines: u32) -> End
     requires { ⌜ first ≤ 2 ^ 32 ⌝ }
@@ -168,7 +194,7 @@ fn first_numbers(set: &[u32], first: usize, machines: u32) -> End
         End::Fault(fault) => return End::Fault(fault),
         End::At(_) => {}
     }
-    let repeats_read = number_in(set, first + 1, 1, 1_000_001);
+    let repeats_read = repeats_in(set, first + 1);
     match repeats_read {
         End::Fault(fault) => return End::Fault(fault),
         End::At(_) => {}
@@ -176,7 +202,30 @@ fn first_numbers(set: &[u32], first: usize, machines: u32) -> End
     number_in(set, first + 2, 1, 65)
 }
 
-// The entry that begins at `first`: its numbers, one by one, and at its end whether it is a quiet simple cycle of its machine.
+// What is judged where the entry that begins at `first` ends: whether its rows, up to `end`, are a quiet simple cycle of its machine.
+fn entry_ends<'a>(
+    machine: &'a [u8; 1024],
+    left: &'a [u8; 1024],
+    entered: &'a [u8; 1024],
+    progress: &'a [bool; 1024],
+    set: &[u32],
+    first: usize,
+    end: usize,
+) -> End
+    requires { ⌜ (first + 3 < end) × NumbersBelow 1024 (now set) (first + 3) end × (getD (now set) first 0 < 256) ⌝ }
+    ensures { λ r. ⌜ JudgedEnd (record { machine = now (machine .entry); left = now (left .entry); entered = now (entered .entry); progress = now (progress .entry) }) (now (set .entry)) first end r ⌝ }
+{
+    let m = set[first] as u8;
+    if is_quiet_cycle(machine, left, entered, progress, set, first + 3, end, m) {
+        return End::At(end);
+    }
+    End::Fault(Fault {
+        number: 17,
+        place: first,
+    })
+}
+
+// The entry that begins at `first`: its numbers, one by one, and what is judged where it ends.
 fn judge_entry<'a>(
     machine: &'a [u8; 1024],
     left: &'a [u8; 1024],
@@ -201,33 +250,19 @@ fn judge_entry<'a>(
         End::Fault(fault) => return End::Fault(fault),
         End::At(_) => {}
     }
-    if is_quiet_cycle(
-        machine,
-        left,
-        entered,
-        progress,
-        set,
-        first + 3,
-        end,
-        set[first] as u8,
-    ) {
-        End::At(end)
-    } else {
-        End::Fault(Fault {
-            number: 17,
-            place: first,
-        })
-    }
+    entry_ends(machine, left, entered, progress, set, first, end)
 }
 
-// The place of a type in the sums; 64 stands for no type.
-fn place_of(message: u8) -> usize
-    ensures { λ r. ⌜ r ≡ placeOf message ⌝ }
+// Adds a number to the sum of a type; 64 stands for no type, and then no sum changes.
+fn add_to(sums: &mut [i64; 64], message: u8, change: i64)
+    requires { ⌜ Within (2 ^ 62) (now sums) × (natAbs change ≤ 1000000) ⌝ }
+    ensures { λ r. ⌜ now (sums .exit) ≡ raised (now (sums .entry)) message change ⌝ }
 {
-    if message < 64 {
-        return message as usize;
+    if message >= 64 {
+        return;
     }
-    64
+    let t = message as usize;
+    sums[t] = sums[t] + change;
 }
 
 // The sums with what the rows at `at` up to `end` send, less what they take, added so many times.
@@ -238,25 +273,38 @@ fn add_rows<'a>(
     at: usize,
     end: usize,
     repeats: u32,
-    sums: &mut [i64; 65],
+    sums: &mut [i64; 64],
 )
-    requires { ⌜ (at ≤ end) × NumbersBelow 1024 (now set) at end × (end ≤ at + 64) × (repeats ≤ 1000000) × Within (2 ^ 61) (now sums) × (length (now sums) ≡ 65) ⌝ }
+    requires { ⌜ (at ≤ end) × NumbersBelow 1024 (now set) at end × (end ≤ at + 64) × (repeats ≤ 1000000) × Within (2 ^ 61) (now sums) × (length (now sums) ≡ 64) ⌝ }
     ensures { λ r. ⌜ Added (now (sent .entry)) (now (taken .entry)) repeats (part (now (set .entry)) at end) (now (sums .entry)) (now (sums .exit)) ⌝ }
 {
     let times = repeats as i64;
     let mut i = at;
     while i < end {
         let k = set[i] as usize;
-        let plus = place_of(sent[k]);
-        sums[plus] = sums[plus] + times;
-        let minus = place_of(taken[k]);
-        sums[minus] = sums[minus] - times;
+        add_to(sums, sent[k], times);
+        add_to(sums, taken[k], -times);
         i += 1;
     }
 }
 
+// The sums with the effect of the entry at `first` up to `end` added as many times as it says.
+fn add_entry<'a>(
+    sent: &'a [u8; 1024],
+    taken: &'a [u8; 1024],
+    set: &[u32],
+    first: usize,
+    end: usize,
+    sums: &mut [i64; 64],
+)
+    requires { ⌜ (first + 3 ≤ end) × NumbersBelow 1024 (now set) (first + 3) end × (end ≤ first + 67) × (getD (now set) (first + 1) 0 ≤ 1000000) × Within (2 ^ 61) (now sums) × (length (now sums) ≡ 64) ⌝ }
+    ensures { λ r. ⌜ Added (now (sent .entry)) (now (taken .entry)) (getD (now (set .entry)) (first + 1) 0) (part (now (set .entry)) (first + 3) end) (now (sums .entry)) (now (sums .exit)) ⌝ }
+{
+    add_rows(sent, taken, set, first + 3, end, set[first + 1], sums);
+}
+
 // The lowest type with a negative sum, and that sum.
-fn lowest_negative(sums: &[i64; 65], types: usize) -> Confirmation
+fn lowest_negative(sums: &[i64; 64], types: usize) -> Confirmation
     requires { ⌜ types ≤ 64 ⌝ }
     ensures { λ r. ⌜ answerOf r ≡ lowestNegative (λ t. getD (now (sums .entry)) t (pos 0)) 0 types ⌝ }
 {
@@ -278,7 +326,7 @@ fn judge_set(table: PlantTable, set: &[u32]) -> JudgedSet
 {
     let machines = table.machines as u32;
     let rows = table.rows as u32;
-    let mut sums = [0; 65];
+    let mut sums = [0; 64];
     let mut at = 0;
     let mut before = 0;
     let end = 'entries: loop {
@@ -300,15 +348,7 @@ fn judge_set(table: PlantTable, set: &[u32]) -> JudgedSet
         match entry {
             End::Fault(fault) => break 'entries End::Fault(fault),
             End::At(next) => {
-                add_rows(
-                    &table.sent,
-                    &table.taken,
-                    set,
-                    at + 3,
-                    next,
-                    set[at + 1],
-                    &mut sums,
-                );
+                add_entry(&table.sent, &table.taken, set, at, next, &mut sums);
                 at = next;
             }
         }

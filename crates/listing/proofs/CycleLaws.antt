@@ -12,11 +12,11 @@ use borrow.Author.Tests.{eqb-true, eq-eqb}
 use Rattle.livelock.specs.Lists.{below, All, Distinct}
 use Rattle.livelock.specs.Plants.{Plant, rowAt, rowCount, stateCount, WellFormed}
 use Rattle.livelock.specs.Cycles.{leaves, enters, RowOf}
-use Rattle.livelock.proofs.ListLaws.{all-weaken, all-below}
+use Rattle.livelock.proofs.ListLaws.{all-weaken, all-map-of, all-below}
 use Rattle.livelock.proofs.QuietGraphs.{row-within}
 use Rattle.listing.specs.Listings.{In, Ascending, ListedCycle, IsListing}
 use Rattle.listing.specs.Cycles.{unleft, joined, paths, leftOnly, cyclesBy, cyclesThrough, rowNumbers, cyclesOf}
-use Rattle.listing.proofs.ElementLaws.{all-in, all-map-of, Given, joined-in, in-joined, all-selected, all-pass, in-selected, in-below}
+use Rattle.listing.proofs.ElementLaws.{all-in, Given, joined-in, in-joined, all-selected, all-pass, in-selected, in-below}
 use Rattle.listing.proofs.OrderLaws.{Ordered, Increasing, Begins, increasing-below, increasing-selected, ordered-ascending, ordered-joined, one-listing}
 use Rattle.listing.proofs.MarkLaws.{left-length, only-left, others-unleft}
 use Rattle.listing.proofs.PathLaws.{PathAmong, paths-only, paths-every, paths-ordered, paths-begin, path-walk, path-states, path-distinct, walk-path}

@@ -46,12 +46,6 @@ module _ {A : Type 0} where
   in-either x (y ∷ xs) ys (inl e) = inl (inl e)
   in-either x (y ∷ xs) ys (inr i) = ⊎-elim (λ j. inl (inr j)) inr (in-either x xs ys i)
 
--- What holds of all values of a function holds of the value at each element.
-pub all-map-of : {A B : Type 0} (F : B → Type 0) (f : A → B) (xs : List A) → All F (map f xs) → All (λ x. F (f x)) xs
-unfolding All
-all-map-of F f [] h = tt
-all-map-of F f (x ∷ xs) h = (h .0, all-map-of F f xs (h .1))
-
 -- ---- lists with a row in front
 
 -- c is one of the lists cs with k in front.

@@ -280,15 +280,22 @@ module _ {entered next head : List ℕ} {last start : ℕ} {marks rows : List �
 
         -- and one that enters a state adds the extensions of the longer path.
         pub extending-enter : (s : ℕ) → step ≡ Steps.Enter s → s < 24 → unleft marks ≡ suc (unleft (set marks s 1)) → (path : List ℕ) (depth : ℕ) → take depth path ≡ rows
-            → depth < length path → (begin : ℕ) → begin ≡ column head s
-            → Extended entered next head last start (set marks s 1) (take (depth + 1) (set path depth k)) begin last limit out used used′ out′
+            → depth < length path → (begin : ℕ) → begin ≡ column head s → (marked : List ℕ) → marked ≡ set marks s 1
+            → Extended entered next head last start marked (take (depth + 1) (set path depth k)) begin last limit out used used′ out′
             → Extending entered next head last start marks rows low high limit before pos n used′ out′
-        extending-enter s e b u path depth rows-are room begin begin-is f =
+        extending-enter s e b u path depth rows-are room begin begin-is marked marked-is f =
             record {
               leaves = λ left first links l. turn-leaves (turn-of left first links l);
               adds = λ left first links l.
                   adding-part (g .adds left first links l) _ _ (turn-enter (turn-of left first links l) s e b u path depth rows-are room begin begin-is) used′ out′ same
-                  (f left first links (omega (arith, begin-is, links .head-in s b .0)));
+                  (subst
+                  (λ (z : List ℕ). Extended entered next head last start z (take (depth + 1) (set path depth k)) begin last limit out used used′ out′)
+                  marked-is
+                  f
+                  left
+                  first
+                  links
+                  (omega (arith, begin-is, links .head-in s b .0)));
             }
 
 -- The first rows of a path are kept by a store behind them and by what keeps that store.
@@ -319,13 +326,13 @@ module _ (left entered : List ℕ) (first last : ℕ) where
   entriesFrom k = flattened (joined (upFrom k (last - k)) (cyclesBy 24 (column left) (column entered) (upFrom first (last - first))))
 
   -- The cycles that begin with row k come first.
-  pub entries-first : (k : ℕ) (path : List ℕ) → k < last
-      → entriesFrom k ≡ extensions left entered first last (column left k) (leftOnly 24 (column left k)) (take 0 path) (column left k) k (k + 1 - k) ++ entriesFrom (k + 1)
+  pub entries-first : (k : ℕ) (path marks : List ℕ) → marks ≡ leftOnly 24 (column left k) → k < last
+      → entriesFrom k ≡ extensions left entered first last (column left k) marks (take 0 path) (column left k) k (k + 1 - k) ++ entriesFrom (k + 1)
   unfolding joined upFrom extensions
-  entries-first k path h =
+  entries-first k path marks marks-are h =
       let n : last - k ≡ suc (last - (k + 1)) = omega arith in
       let o : k + 1 - k ≡ 1 = omega arith in
-      rw (n, o, add-one k, entries-none) (flattened-append (cyclesBy 24 (column left) (column entered) (upFrom first (last - first)) k) _)
+      rw (marks-are, n, o, add-one k, entries-none) (flattened-append (cyclesBy 24 (column left) (column entered) (upFrom first (last - first)) k) _)
 
   -- After the last row there are none.
   pub entries-end : (k : ℕ) → last ≤ k → entriesFrom k ≡ []

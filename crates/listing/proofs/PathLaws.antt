@@ -12,10 +12,10 @@ use lib.Dec.{eqb, ltb}
 use borrow.Author.Tests.{eqb-true, eqb-false, ltb-false, eq-eqb, ne-eqb, le-ltb}
 use Rattle.livelock.specs.Lists.{All, Distinct}
 use Rattle.livelock.specs.Cycles.{Walk}
-use Rattle.livelock.proofs.ListLaws.{all-weaken, all-both, all-of-map}
+use Rattle.livelock.proofs.ListLaws.{all-weaken, all-both, all-of-map, all-map-of}
 use Rattle.listing.specs.Listings.{In, Before}
 use Rattle.listing.specs.Cycles.{unleft, pathsBy, paths}
-use Rattle.listing.proofs.ElementLaws.{all-map-of, prefixed-in, in-prefixed, Given, joined-in, in-joined}
+use Rattle.listing.proofs.ElementLaws.{prefixed-in, in-prefixed, Given, joined-in, in-joined}
 use Rattle.listing.proofs.OrderLaws.{Ordered, Increasing, Begins, ordered-prefixed, ordered-joined}
 use Rattle.listing.proofs.MarkLaws.{unleft-falls, now-left, still-left, was-unleft}
 

@@ -9,7 +9,7 @@ use Rattle.livelock.proofs.QuietGraphs.{row-within}
 use Rattle.plant.specs.Tables.{plantOf, Ready}
 use Rattle.plant.specs.Limits.{rowsOf, WithinLimits}
 use Rattle.plant.specs.declared.PlantTable.{PlantTable}
-use Rattle.plant.proofs.TableLaws.{row-is, rows-so-far}
+use Rattle.plant.proofs.TableLaws.{row-is, rows-counted}
 use Rattle.plant.proofs.FirstRowLaws.{row-of-machine, machine-rows}
 use Rattle.listing.specs.Listings.{In}
 use Rattle.listing.specs.Cycles.{cyclesThrough, rowNumbers, cyclesOf}
@@ -37,7 +37,7 @@ module _ (t : PlantTable) (ready : Ready t) (limits : WithinLimits (plantOf t)) 
   range-row : (k : ℕ) → low ≤ k → k < high → RowOf (plantOf t) m k
   range-row k from below =
       let sixteen : m < 16 = omega (arith, ready .sound .few-machines) in
-      let there : k < rowCount (plantOf t) = omega (arith, machine-rows t ready m sixteen .1, rows-so-far t) in (
+      let there : k < rowCount (plantOf t) = omega (arith, machine-rows t ready m sixteen .1, rows-counted t) in (
         there,
         row-of-machine (plantOf t) limits m k there .1 (omega (arith, ready .first-row m (omega arith)), omega (arith, ready .first-row (m + 1) (omega arith))),
       )
@@ -52,7 +52,7 @@ module _ (t : PlantTable) (ready : Ready t) (limits : WithinLimits (plantOf t)) 
   -- There the columns have the states that the plant's rows leave and enter,
   columns-are : (k : ℕ) → low ≤ k → k < high → (leaves (plantOf t) k ≡ column (t .left) k) × (enters (plantOf t) k ≡ column (t .entered) k)
   columns-are k from below =
-      let is = row-is t k (omega (arith, range-row k from below .0, rows-so-far t)) in
+      let is = row-is t k (omega (arith, range-row k from below .0, rows-counted t)) in
       (ap (λ (r : Row). r .left) is, ap (λ (r : Row). r .entered) is)
 
   -- which are states of the machine.

@@ -1,14 +1,15 @@
 // Listing the simple cycles of a machine.
 ghost use mathlib.Core.Path.{_≡_};
 ghost use Prim.Native.Nat.{suc, _+_, _≤_, _<_, _^_};
-ghost use lib.ListN.{length, take};
+ghost use lib.ListN.{length, getD, take, set};
+ghost use lib.Dec.{eqb};
 ghost use lib.Seq.{sets};
 ghost use Rattle.plant.specs.Tables.{plantOf, Ready};
 ghost use Rattle.plant.specs.Limits.{WithinLimits};
 ghost use Rattle.listing.specs.Answers.{answerOf, refused};
 ghost use Rattle.listing.specs.Listing.{judged, answered, filled, Means};
 ghost use Rattle.listing.specs.Inner.Ranges.{column};
-ghost use Rattle.listing.specs.Inner.Filling.{RowsBelow, Linked, stepOf, entryOf, Added, Extendable, PathKept, Extended, allEntries, Listable, AnswersMachine, AnswersChecked};
+ghost use Rattle.listing.specs.Inner.Filling.{marksOf, RowsBelow, Linked, stepOf, entryOf, Added, Extendable, PathKept, Extended, allEntries, Listable, AnswersMachine, AnswersChecked};
 use plant::End;
 use plant::Fault;
 use plant::PlantTable;
@@ -59,10 +60,26 @@ fn link(left: &[u8; 1024], first: usize, last: usize) -> Links
     Links { next, head }
 }
 
+// Whether a state is not yet left: its bit does not stand.
+fn not_yet_left(marks: u32, state: u8) -> bool
+    requires { ⌜ state < 24 ⌝ }
+    ensures { λ r. ⌜ r ≡ eqb (getD (marksOf 24 marks) state 0) 0 ⌝ }
+{
+    (marks >> state) % 2 == 0
+}
+
+// The marks with one state more that is left: its bit is put.
+fn with_left(marks: u32, state: u8) -> u32
+    requires { ⌜ state < 24 ⌝ }
+    ensures { λ r. ⌜ marksOf 24 r ≡ set (marksOf 24 marks) state 1 ⌝ }
+{
+    marks | (1 << state)
+}
+
 // What row k does for a path from `start` that stands at the state which the row leaves.
-fn step_of(entered: &[u8; 1024], start: u8, marks: [u8; 24], k: usize) -> Step
+fn step_of(entered: &[u8; 1024], start: u8, marks: u32, k: usize) -> Step
     requires { ⌜ (k < 1024) × (column (now entered) k < 24) ⌝ }
-    ensures { λ r. ⌜ r ≡ stepOf (now (entered .entry)) start marks k ⌝ }
+    ensures { λ r. ⌜ r ≡ stepOf (now (entered .entry)) start (marksOf 24 marks) k ⌝ }
 {
     let state = entered[k];
     if state == start {
@@ -71,10 +88,10 @@ fn step_of(entered: &[u8; 1024], start: u8, marks: [u8; 24], k: usize) -> Step
     if state < start {
         return Step::Skip;
     }
-    if marks[state as usize] != 0 {
-        return Step::Skip;
+    if not_yet_left(marks, state) {
+        return Step::Enter(state);
     }
-    Step::Enter(state)
+    Step::Skip
 }
 
 // Stores the row count and the rows of a cycle from `pos` on: the first `depth` rows of a path, and the row that closes it. Hands back where they end.
@@ -119,7 +136,7 @@ fn extend<'a>(
     head: &'a [u16; 24],
     last: usize,
     start: u8,
-    marks: [u8; 24],
+    marks: u32,
     path: &mut [u16; 24],
     depth: usize,
     low: usize,
@@ -128,9 +145,9 @@ fn extend<'a>(
     pos: usize,
     limit: usize,
 ) -> usize
-    requires { ⌜ Extendable (now entered) (now next) (now head) last marks (now path) depth low high (length (now out)) pos limit ⌝ }
+    requires { ⌜ Extendable (now entered) (now next) (now head) last (marksOf 24 marks) (now path) depth low high (length (now out)) pos limit ⌝ }
     ensures { λ r. ⌜ PathKept depth (now (path .entry)) (now (path .exit)) ⌝ }
-    ensures { λ r. ⌜ Extended (now (entered .entry)) (now (next .entry)) (now (head .entry)) last start marks (take depth (now (path .entry))) low high limit (now (out .entry)) pos r (now (out .exit)) ⌝ }
+    ensures { λ r. ⌜ Extended (now (entered .entry)) (now (next .entry)) (now (head .entry)) last start (marksOf 24 marks) (take depth (now (path .entry))) low high limit (now (out .entry)) pos r (now (out .exit)) ⌝ }
 {
     let mut used = pos;
     let mut k = low;
@@ -146,8 +163,7 @@ fn extend<'a>(
             }
             Step::Enter(state) => {
                 let begin = wide(head[state as usize]);
-                let mut marked = marks;
-                marked[state as usize] = 1;
+                let marked = with_left(marks, state);
                 path[depth] = k as u16;
                 used = extend(
                     entered,
@@ -191,8 +207,7 @@ fn list_rows<'a>(
     let mut row = first;
     while row < last {
         let start = left[row];
-        let mut marks = [0; 24];
-        marks[start as usize] = 1;
+        let marks = with_left(0, start);
         used = extend(
             entered,
             next,

@@ -113,6 +113,7 @@ probe-cycle mark =
       once = ((λ e. omega arith, tt), (tt, tt));
     }
 
+-- The probe's is quiet in plant A.
 pub probe-quiet : Quiet plantA (2 ∷ 3 ∷ [])
 unfolding panelAndProbe All hasProgress
 probe-quiet = (refl, (refl, tt))

@@ -82,9 +82,11 @@ row-either P wf F z f k = go (decLt k (rowCount P))
     go (yes l) = f (rowAt P k) (row-fits P wf k l)
     go (no l) = subst F (sym (List·getD-eq-default (P .rows) noRow {n = k} (omega arith))) z
 
+-- So what a row sends, if it sends anything, is of a type that the plant has,
 pub sent-in : (P : Plant) → WellFormed P → (k : ℕ) → TypeIn (P .types) (rowAt P k .sent)
 sent-in P wf = row-either P wf (λ r. TypeIn (P .types) (r .sent)) tt (λ r f. f .sent)
 
+-- and so is what it takes.
 pub taken-in : (P : Plant) → WellFormed P → (k : ℕ) → TypeIn (P .types) (rowAt P k .taken)
 taken-in P wf = row-either P wf (λ r. TypeIn (P .types) (r .taken)) tt (λ r f. f .taken)
 
@@ -96,9 +98,11 @@ module _ (P : Plant) (wf : WellFormed P) (ws c : List ℕ) where
       (← by-rows ws (P .types) (λ k. rowAt P k .sent) (sent-in P wf) c, ← by-rows ws (P .types) (λ k. rowAt P k .taken) (taken-in P wf) c)
       (weight-by-types P ws c)
 
+  -- So it is below zero exactly when its rows send less, weighed, than they take,
   pub below-zero-iff : (cycleWeight P ws c <ℤ pos 0) ↔ (sum (sentWeight P ws) c < sum (takenWeight P ws) c)
   below-zero-iff = negative-iff (cycleWeight P ws c) (sum (sentWeight P ws) c) (sum (takenWeight P ws) c) weight-by-rows
 
+  -- and zero or more exactly when they send at least what they take, weighed.
   pub zero-or-more-iff : (pos 0 ≤ℤ cycleWeight P ws c) ↔ (sum (takenWeight P ws) c ≤ sum (sentWeight P ws) c)
   zero-or-more-iff = not-negative-iff (cycleWeight P ws c) (sum (sentWeight P ws) c) (sum (takenWeight P ws) c) weight-by-rows
 
@@ -107,5 +111,6 @@ message-bound : (P : Plant) (ws : List ℕ) (o : Option ℕ) → TypeIn (P .type
 message-bound P ws none h = omega arith
 message-bound P ws (some t) h = omega (arith, greatest-below (weight ws) (P .types) t h)
 
+-- So what a row sends weighs at most w.
 pub sent-bound : (P : Plant) → WellFormed P → (ws : List ℕ) (k : ℕ) → sentWeight P ws k ≤ largestWeight P ws
 sent-bound P wf ws k = message-bound P ws (rowAt P k .sent) (sent-in P wf k)

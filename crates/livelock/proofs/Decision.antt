@@ -34,6 +34,7 @@ machine-passes P wf ws m h p c s q = go (decLt (sum (sentWeight P ws) c) (sum (t
         let long = positive-iff P wf ws m c s .1 (zero-or-more-iff P wf ws c .1 (omega arith)) in
         absurd (no-positive-cycle (quietGraph P ws m) h p c (graph-cycle P ws m c s q) long)
 
+-- So weights pass where the quiet rows of every machine have a potential.
 pub potentials-pass : (P : Plant) → WellFormed P → (ws : List ℕ)
     → ((m : ℕ) → m < machineCount P → (h : ℕ → ℕ) × Potential (quietGraph P ws m) h) → Passes P ws
 potentials-pass P wf ws p m c s q = let x = p m (cycle-machine P wf m c s) in machine-passes P wf ws m (x .0) (x .1) c s q
@@ -69,6 +70,7 @@ not-both P ws c ok bad = clashℤ (ok (bad .machine) c (bad .simple) (bad .quiet
 
 -- ---- what passing weights give
 
+-- Where weights pass, the potentials of the states are a potential for the quiet rows of each machine.
 pub state-potential : (P : Plant) → WellFormed P → (ws : List ℕ) → Passes P ws → (m : ℕ) → Potential (quietGraph P ws m) (statePotential P ws m)
 state-potential P wf ws ok m = ⊎-elim (λ p. p) (λ x. absurd (not-both P ws (x .0) ok (x .1))) (potential-or-failing P wf ws m)
 
@@ -88,6 +90,7 @@ state-potential-bound P wf ws m s =
 abbrev pub isPassing : Plant → List ℕ → Bool
 isPassing P ws = every (λ m. isPotential (quietGraph P ws m) (statePotential P ws m)) (below (machineCount P))
 
+-- It is true exactly when the weights pass.
 pub passing-iff : (P : Plant) → WellFormed P → (ws : List ℕ) → (isPassing P ws ≡ true) ↔ Passes P ws
 passing-iff P wf ws =
     Iff·trans

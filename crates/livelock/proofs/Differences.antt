@@ -29,26 +29,31 @@ difference-subℕ a b = go (ltb a b) refl
     go true e = omega (arith, ltb-true a b e)
     go false e = omega (arith, ltb-false a b e)
 
+-- A natural number with its sign changed is 0 less that number.
 pub difference-neg : (n : ℕ) → Difference (negℤ (pos n)) 0 n
 difference-neg zero = omega arith
 difference-neg (suc n) = omega arith
 
+-- One natural number minus another, taken in ℤ, is the first less the second.
 pub difference-minus : (a b : ℕ) → Difference (pos a -ℤ pos b) a b
 difference-minus a zero = omega arith
 difference-minus a (suc b) = difference-subℕ a (suc b)
 
+-- To add two differences, add the numbers on the left of the minus and those on the right,
 pub difference-plus : (y z : ℤ) (a b c d : ℕ) → Difference y a b → Difference z c d → Difference (y +ℤ z) (a + c) (b + d)
 difference-plus (pos x) (pos y) a b c d i j = omega arith
 difference-plus (pos x) (negsuc y) a b c d i j = difference-shift (subℕ x (suc y)) x (suc y) (a + c) (b + d) (omega arith) (difference-subℕ x (suc y))
 difference-plus (negsuc x) (pos y) a b c d i j = difference-shift (subℕ y (suc x)) y (suc x) (a + c) (b + d) (omega arith) (difference-subℕ y (suc x))
 difference-plus (negsuc x) (negsuc y) a b c d i j = omega arith
 
+-- to multiply one, multiply both numbers,
 pub difference-times : (n : ℕ) (z : ℤ) (a b : ℕ) → Difference z a b → Difference (pos n *ℤ z) (n * a) (n * b)
 difference-times n (pos x) a b i = omega (arith, ap (λ (y : ℕ). n * y) i)
 difference-times n (negsuc x) a b i =
     let e : 0 + n * b ≡ n * a + n * suc x = omega (arith, ap (λ (y : ℕ). n * y) i) in
     difference-shift (negℤ (pos (n * suc x))) 0 (n * suc x) (n * a) (n * b) e (difference-neg (n * suc x))
 
+-- and to sum differences over a list, sum both.
 pub difference-sum : {A : Type 0} (f : A → ℤ) (a b : A → ℕ) → ((x : A) → Difference (f x) (a x) (b x)) → (xs : List A)
     → Difference (sumℤ f xs) (sum a xs) (sum b xs)
 unfolding sum sumℤ

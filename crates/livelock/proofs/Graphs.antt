@@ -24,6 +24,7 @@ pub record Graph : Type 0 where
   pub plus : ℕ → ℕ
   pub minus : ℕ → ℕ
 
+-- The number e is an edge of the graph.
 abbrev pub IsEdge : Graph → ℕ → Type 0
 IsEdge g e = (e < g .size) × (g .counts e ≡ true)
 
@@ -59,6 +60,7 @@ module _ (g : Graph) (f : ℕ → ℕ) (s e : ℕ) where
   abbrev lengthOn : ℕ
   lengthOn = (g .plus e + f (g .dst e)) - g .minus e
 
+  -- Where the edge counts and leads from s, `via` is this length.
   pub via-edge : g .counts e ≡ true → g .src e ≡ s → via g f s e ≡ (g .plus e + f (g .dst e)) - g .minus e
   unfolding via
   via-edge c q = simp (c, eq-eqb (g .src e) s q)
@@ -69,6 +71,7 @@ module _ (g : Graph) (f : ℕ → ℕ) (s e : ℕ) where
     pub from : g .src e ≡ s
     pub long : v + g .minus e ≡ g .plus e + f (g .dst e)
 
+  -- The length is 0, or the edge leads from s and the length is exactly that of going along it and on.
   pub via-leads : (via g f s e ≡ 0) ⊎ Leads (via g f s e)
   unfolding via
   via-leads = go (g .counts e) (eqb (g .src e) s) refl refl
@@ -82,6 +85,7 @@ module _ (g : Graph) (f : ℕ → ℕ) (s e : ℕ) where
       go true false c q = inl refl
       go false d c q = inl refl
 
+  -- The length is at most b if, for an edge that counts, its `plus` and how far it is from its end are together at most b.
   pub via-bound : (b : ℕ) → (g .counts e ≡ true → g .plus e + f (g .dst e) ≤ b) → via g f s e ≤ b
   unfolding via
   via-bound b h = go (g .counts e) (eqb (g .src e) s) refl

@@ -7,6 +7,9 @@ use native.Mathlib.Nat.{le-of-suc-le-suc, mul-le-mul-left, lt-of-mul-lt-mul-left
 use native.Mathlib.Omega.{arith}
 use lib.ListN.{length}
 use Rattle.livelock.specs.Lists.{sum, All}
+use Rattle.livelock.proofs.ListLaws.{all-weaken, all-always}
+use Rattle.livelock.proofs.Pigeonhole.{left-once}
+use Rattle.livelock.proofs.Graphs.{Graph, IsEdge, Within, Cycle, Positive}
 
 -- Edge e weighs up e − down e, and its length is plus e − minus e.
 module _ (n : ℕ) (up down plus minus : ℕ → ℕ) where
@@ -31,3 +34,31 @@ module _ (n : ℕ) (up down plus minus : ℕ → ℕ) where
 
       longer : sum down es ≤ sum up es → sum minus es < sum plus es
       longer p = omega (arith, total es h, mul-le-mul-left n p)
+
+-- ---- a graph with weights, and the same with lengths
+
+-- The edges of g, each with the length 1 + n × weight.
+abbrev pub lengthened : ℕ → Graph → Graph
+lengthened n g =
+    record {
+      size = g .size;
+      counts = g .counts;
+      src = g .src;
+      dst = g .dst;
+      plus = λ e. 1 + n * g .plus e;
+      minus = λ e. n * g .minus e;
+    }
+
+module _ (n : ℕ) (g : Graph) (es : List ℕ) where
+  -- Both have the same simple cycles.
+  pub cycle-lengthened : Cycle g es → Cycle (lengthened n g) es
+  cycle-lengthened c = record { non-empty = c .non-empty; edges = c .edges; at = c .at; closed = c .closed; once = c .once }
+
+  pub cycle-of-lengthened : Cycle (lengthened n g) es → Cycle g es
+  cycle-of-lengthened c = record { non-empty = c .non-empty; edges = c .edges; at = c .at; closed = c .closed; once = c .once }
+
+  -- A simple cycle among N ≤ n states has at most n edges, so it is longer than 0 exactly when it weighs zero or more.
+  pub lengthened-iff : (N : ℕ) → Within g N → N ≤ n → Cycle g es → Positive (lengthened n g) es ↔ (sum (g .minus) es ≤ sum (g .plus) es)
+  lengthened-iff N b few c =
+      let short : length es ≤ N = left-once (g .src) N es (c .once) (all-weaken (IsEdge g) _ (λ e u. b e u .0) es (c .edges)) in
+      lengths-iff n (g .plus) (g .minus) (lengthened n g .plus) (lengthened n g .minus) es (all-always _ (λ e. omega arith) es) (c .non-empty) (omega arith)

@@ -1,25 +1,28 @@
--- Laws of `All` and of the numbers below n.
-use mathlib.Core.Path.{_≡_, sym, subst}
+-- Laws of `All`, of repeated elements and of the numbers below n.
+use mathlib.Core.Path.{_≡_, refl, sym, subst}
 use mathlib.Core.Logic.{_⊎_, inl, inr}
 use mathlib.Core.List.{List, [], _∷_, _++_, map}
 use Prim.Native.Nat.{ℕ, zero, suc, _<_}
 use native.Mathlib.Nat.{le-of-suc-le-suc, not-suc-le-zero}
 use native.Mathlib.Decide.{ℕ-discrete}
 use native.Mathlib.Omega.{arith}
-use lib.ListN.{length, getD}
+use lib.ListN.{length, getD, replicate}
 use Rattle.livelock.specs.Lists.{below, All}
 
 module _ {A : Type 0} where
+  -- What holds of each element of two lists holds of each element of the two joined,
   pub all-append : (F : A → Type 0) (xs ys : List A) → All F xs → All F ys → All F (xs ++ ys)
   unfolding All
   all-append F [] ys h i = i
   all-append F (x ∷ xs) ys h i = (h .0, all-append F xs ys (h .1) i)
 
+  -- and what holds of each element of two lists joined holds of each of the front one,
   pub all-front : (F : A → Type 0) (xs ys : List A) → All F (xs ++ ys) → All F xs
   unfolding All
   all-front F [] ys h = tt
   all-front F (x ∷ xs) ys h = (h .0, all-front F xs ys (h .1))
 
+  -- and of each of the back one.
   pub all-back : (F : A → Type 0) (xs ys : List A) → All F (xs ++ ys) → All F ys
   unfolding All
   all-back F [] ys h = h
@@ -31,11 +34,13 @@ module _ {A : Type 0} where
   all-weaken F G f [] h = tt
   all-weaken F G f (x ∷ xs) h = (f x (h .0), all-weaken F G f xs (h .1))
 
+  -- What holds of everything holds of each element.
   pub all-always : (F : A → Type 0) → ((x : A) → F x) → (xs : List A) → All F xs
   unfolding All
   all-always F f [] = tt
   all-always F f (x ∷ xs) = (f x, all-always F f xs)
 
+  -- Where each element has one property and each has another, each has both.
   pub all-both : (F G : A → Type 0) (xs : List A) → All F xs → All G xs → All (λ x. F x × G x) xs
   unfolding All
   all-both F G [] h i = tt
@@ -48,10 +53,23 @@ module _ {A : Type 0} where
   all-at F d (x ∷ xs) h zero l = h .0
   all-at F d (x ∷ xs) h (suc k) l = all-at F d xs (h .1) k (le-of-suc-le-suc l)
 
+-- What holds of the value of a function at each element holds of all its values.
 pub all-of-map : {A B : Type 0} (F : B → Type 0) (f : A → B) (xs : List A) → All (λ x. F (f x)) xs → All F (map f xs)
 unfolding All
 all-of-map F f [] h = tt
 all-of-map F f (x ∷ xs) h = (h .0, all-of-map F f xs (h .1))
+
+-- What holds of all values of a function holds of the value at each element.
+pub all-map-of : {A B : Type 0} (F : B → Type 0) (f : A → B) (xs : List A) → All F (map f xs) → All (λ x. F (f x)) xs
+unfolding All
+all-map-of F f [] h = tt
+all-map-of F f (x ∷ xs) h = (h .0, all-map-of F f xs (h .1))
+
+-- A list of n times d has d at every place, and beyond its end as well.
+pub getD-replicate-default : {A : Type 0} (n : ℕ) (d : A) (i : ℕ) → getD (replicate n d) i d ≡ d
+getD-replicate-default zero d i = refl
+getD-replicate-default (suc n) d zero = refl
+getD-replicate-default (suc n) d (suc i) = getD-replicate-default n d i
 
 -- `All F (below n)` says that F holds of each number below n.
 pub all-below : (F : ℕ → Type 0) (n : ℕ) → ((k : ℕ) → k < n → F k) → All F (below n)

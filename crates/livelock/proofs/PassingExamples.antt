@@ -16,6 +16,7 @@ use Rattle.livelock.proofs.Ceiling.{ceiling}
 use Rattle.livelock.proofs.Exclusion.{exclusion}
 use Rattle.livelock.proofs.BasicExamples.{panelAndProbe, plantA, probe-cycle, probe-quiet, panel, probe, plantB, both-balanced, tight}
 
+-- Plant A is well-formed, by the test.
 pub formed-A : WellFormed plantA
 unfolding panelAndProbe every
 formed-A = well-formed-iff plantA .0 refl

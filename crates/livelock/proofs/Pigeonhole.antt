@@ -12,6 +12,7 @@ use Rattle.livelock.specs.Lists.{below, sum, count, All, Distinct}
 use Rattle.livelock.proofs.ListLaws.{all-weaken, all-always, all-of-map}
 use Rattle.livelock.proofs.SumLaws.{sum-equal, sum-mono, sum-zero, sum-ones, sum-swap, sum-single}
 
+-- There are n numbers below n.
 pub below-length : (n : ℕ) → length (below n) ≡ n
 unfolding below
 below-length zero = refl

@@ -29,6 +29,7 @@ Potential g h = (e : ℕ) → IsEdge g e → Falls g h e
 abbrev pub isPotential : Graph → (ℕ → ℕ) → Bool
 isPotential g h = every (λ e. not (g .counts e) || leb (g .plus e + h (g .dst e)) (h (g .src e) + g .minus e)) (below (g .size))
 
+-- It is true exactly when h is a potential.
 pub potential-iff : (g : Graph) (h : ℕ → ℕ) → (isPotential g h ≡ true) ↔ Potential g h
 potential-iff g h =
     Iff·trans
@@ -37,12 +38,14 @@ potential-iff g h =
 
 -- ---- a potential leaves no positive cycle: add it up around the cycle
 
-telescope : (g : Graph) (h : ℕ → ℕ) → Potential g h → (s t : ℕ) (es : List ℕ) → All (IsEdge g) es → Walk (g .src) (g .dst) s es t
+-- A walk is no longer than the potential falls along it.
+pub telescope : (g : Graph) (h : ℕ → ℕ) → Potential g h → (s t : ℕ) (es : List ℕ) → All (IsEdge g) es → Walk (g .src) (g .dst) s es t
     → sum (g .plus) es + h t ≤ h s + sum (g .minus) es
 unfolding All Walk sum
 telescope g h p s t [] u w = omega (arith, ap h w)
 telescope g h p s t (e ∷ es) u w = omega (arith, telescope g h p (g .dst e) t es (u .1) (w .1), p e (u .0), ap h (w .0))
 
+-- Around a cycle the potential comes back to what it was, so no simple cycle is longer than 0.
 pub no-positive-cycle : (g : Graph) (h : ℕ → ℕ) → Potential g h → (es : List ℕ) → Cycle g es → Positive g es → ⊥
 no-positive-cycle g h p es c l = omega (arith, telescope g h p (c .at) (c .at) es (c .edges) (c .closed))
 
@@ -112,7 +115,7 @@ module _ (g : Graph) (N : ℕ) (b : Within g N) (s t : ℕ) (es : List ℕ) (u :
     by-length (yes h) = inl (without h)
     by-length (no h) = inr (c .cycle, cycle, omega arith)
 
-  pub no-longer-or-positive : s < N → length es ≤ suc (N - 1) → NoLonger ⊎ PositiveCycle g
+  no-longer-or-positive : s < N → length es ≤ suc (N - 1) → NoLonger ⊎ PositiveCycle g
   no-longer-or-positive ls few = go (distinct-or-cycle (g .src) (g .dst) s t es w)
     where
       go : Distinct (visited (g .src) es t) ⊎ HasCycle (g .src) (g .dst) s t es → NoLonger ⊎ PositiveCycle g

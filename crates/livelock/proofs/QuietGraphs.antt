@@ -38,6 +38,7 @@ quietGraph P ws m =
 abbrev pub QuietRowOf : Plant → ℕ → ℕ → Type 0
 QuietRowOf P m k = RowOf P m k × (hasProgress (rowAt P k) ≡ false)
 
+-- The edges are exactly these rows.
 pub edge-iff : (P : Plant) (ws : List ℕ) (m k : ℕ) → IsEdge (quietGraph P ws m) k ↔ QuietRowOf P m k
 edge-iff P ws m k =
     let t = both-iff _ _ (equal-iff (rowAt P k .machine) m) (not-iff (hasProgress (rowAt P k))) in
@@ -46,6 +47,7 @@ edge-iff P ws m k =
 -- ---- its simple cycles are the quiet simple cycles of machine m
 
 module _ (P : Plant) (ws : List ℕ) (m : ℕ) (c : List ℕ) where
+  -- A quiet simple cycle of machine m is a simple cycle of the graph,
   pub graph-cycle : SimpleCycle P m c → Quiet P c → Cycle (quietGraph P ws m) c
   graph-cycle s q =
       record {
@@ -56,6 +58,7 @@ module _ (P : Plant) (ws : List ℕ) (m : ℕ) (c : List ℕ) where
         once = s .once;
       }
 
+  -- and a simple cycle of the graph is one of machine m,
   pub simple-cycle : Cycle (quietGraph P ws m) c → SimpleCycle P m c
   simple-cycle g =
       record {
@@ -65,18 +68,20 @@ module _ (P : Plant) (ws : List ℕ) (m : ℕ) (c : List ℕ) where
         once = g .once;
       }
 
+  -- and quiet.
   pub quiet-cycle : Cycle (quietGraph P ws m) c → Quiet P c
   quiet-cycle g = all-weaken (IsEdge (quietGraph P ws m)) _ (λ k e. edge-iff P ws m k .0 e .1) c (g .edges)
 
 -- ---- states
 
 module _ (P : Plant) (wf : WellFormed P) (m : ℕ) where
-  -- A row of machine m leads from one of its states to another.
+  -- A row of machine m leads from one of its states to one of them.
   pub row-within : (k : ℕ) → RowOf P m k → (leaves P k < stateCount P m) × (enters P k < stateCount P m)
   row-within k r =
       let fits = row-fits P wf k (r .0) in
       (subst (λ (x : ℕ). leaves P k < stateCount P x) (r .1) (fits .left), subst (λ (x : ℕ). enters P k < stateCount P x) (r .1) (fits .entered))
 
+  -- So every edge of the graph leads from one of the machine's states to one of them.
   pub quiet-within : (ws : List ℕ) → Within (quietGraph P ws m) (stateCount P m)
   quiet-within ws k e = row-within k (edge-iff P ws m k .0 e .0)
 

@@ -2,7 +2,7 @@
 use mathlib.Core.Path.{_≡_, refl, sym, ap, _∙_}
 use mathlib.Core.Logic.{_⊎_, inl, inr}
 use mathlib.Core.Bool.{cond}
-use mathlib.Core.List.{List, [], _∷_, _++_}
+use mathlib.Core.List.{List, [], _∷_, _++_, map}
 use Prim.Native.Nat.{ℕ, zero, suc, _+_, _*_, _≤_, _<_, max}
 use native.Mathlib.Nat.{not-suc-le-zero, max-eq-right, mul-left-comm}
 use native.Mathlib.Decide.{ℕ-discrete, decLe}
@@ -17,36 +17,49 @@ use Rattle.livelock.proofs.ListLaws.{all-always, all-below, all-below-a
 module _ {A : Type 0} where
   -- ---- sums
 
+  -- The sum over two lists joined is the sum over the one plus the sum over the other.
   pub sum-append : (f : A → ℕ) (xs ys : List A) → sum f (xs ++ ys) ≡ sum f xs + sum f ys
   unfolding sum
   sum-append f [] ys = omega arith
   sum-append f (x ∷ xs) ys = omega (arith, sum-append f xs ys)
 
+  -- A sum over a mapped list.
+  pub sum-map : (f : A → ℕ) (g : ℕ → A) (ks : List ℕ) → sum f (map g ks) ≡ sum (λ k. f (g k)) ks
+  unfolding sum
+  sum-map f g [] = refl
+  sum-map f g (k ∷ ks) = omega (arith, sum-map f g ks)
+
+  -- Where the terms are equal, so are the sums,
   pub sum-equal : (f g : A → ℕ) (xs : List A) → All (λ x. f x ≡ g x) xs → sum f xs ≡ sum g xs
   unfolding sum All
   sum-equal f g [] h = refl
   sum-equal f g (x ∷ xs) h = omega (arith, h .0, sum-equal f g xs (h .1))
 
+  -- and where no term is greater, the sum is not greater.
   pub sum-mono : (f g : A → ℕ) (xs : List A) → All (λ x. f x ≤ g x) xs → sum f xs ≤ sum g xs
   unfolding sum All
   sum-mono f g [] h = omega arith
   sum-mono f g (x ∷ xs) h = omega (arith, h .0, sum-mono f g xs (h .1))
 
+  -- A sum of zeros is 0,
   pub sum-zero : (xs : List A) → sum (λ x. 0) xs ≡ 0
   unfolding sum
   sum-zero [] = refl
   sum-zero (x ∷ xs) = omega (arith, sum-zero xs)
 
+  -- and a sum of ones is the length of the list.
   pub sum-ones : (xs : List A) → sum (λ x. 1) xs ≡ length xs
   unfolding sum
   sum-ones [] = refl
   sum-ones (x ∷ xs) = omega (arith, sum-ones xs)
 
+  -- Two sums over the same list may be added term by term,
   pub sum-add : (f g : A → ℕ) (xs : List A) → sum (λ x. f x + g x) xs ≡ sum f xs + sum g xs
   unfolding sum
   sum-add f g [] = omega arith
   sum-add f g (x ∷ xs) = omega (arith, sum-add f g xs)
 
+  -- and a factor that all terms have may stand before the sum.
   pub sum-times : (n : ℕ) (f : A → ℕ) (xs : List A) → sum (λ x. n * f x) xs ≡ n * sum f xs
   unfolding sum
   sum-times n f [] = omega arith
@@ -54,11 +67,13 @@ module _ {A : Type 0} where
 
   -- ---- greatest values
 
+  -- The greatest value over two lists joined is the greater of the two lists' greatest values.
   pub greatest-append : (f : A → ℕ) (xs ys : List A) → greatest f (xs ++ ys) ≡ max (greatest f xs) (greatest f ys)
   unfolding greatest
   greatest-append f [] ys = omega arith
   greatest-append f (x ∷ xs) ys = omega (arith, greatest-append f xs ys)
 
+  -- Where the values are equal, so are the greatest ones.
   pub greatest-equal : (f g : A → ℕ) (xs : List A) → All (λ x. f x ≡ g x) xs → greatest f xs ≡ greatest g xs
   unfolding greatest All
   greatest-equal f g [] h = refl
@@ -131,14 +146,17 @@ pub greatest-next : (f : ℕ → ℕ) (n : ℕ) → greatest f (below (suc n)) �
 unfolding below greatest
 greatest-next f n = omega (arith, greatest-append f (below n) (n ∷ []))
 
+-- The value at a number below n is at most the greatest over these numbers.
 pub greatest-below : (f : ℕ → ℕ) (n k : ℕ) → k < n → f k ≤ greatest f (below n)
 greatest-below f n = all-below-at (λ k. f k ≤ greatest f (below n)) n (greatest-upper f (below n))
 
 -- ---- a function changed at one number
 
+-- A function changed at one number has the new value there,
 pub update-same : (f : ℕ → ℕ) (k v i : ℕ) → i ≡ k → update f k v i ≡ v
 update-same f k v i e = simp (eq-eqb i k e)
 
+-- and at every other number its old one.
 pub update-other : (f : ℕ → ℕ) (k v i : ℕ) → (i ≡ k → ⊥) → update f k v i ≡ f i
 update-other f k v i e = simp (ne-eqb i k e)
 

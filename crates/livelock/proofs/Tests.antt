@@ -15,6 +15,7 @@ use Rattle.livelock.proofs.ListLaws.{all-below, all-below-at}
 
 -- ---- tests and their parts
 
+-- A conjunction is true exactly when both its parts are.
 pub and-iff : (a b : Bool) → ((a && b) ≡ true) ↔ ((a ≡ true) × (b ≡ true))
 and-iff true b = (λ h. (refl, h), λ h. h .1)
 and-iff false b = (λ h. absurd (false≢true h), λ h. h .0)
@@ -23,15 +24,19 @@ and-iff false b = (λ h. absurd (false≢true h), λ h. h .0)
 pub both-iff : {A B : Type 0} (a b : Bool) → (a ≡ true) ↔ A → (b ≡ true) ↔ B → ((a && b) ≡ true) ↔ (A × B)
 both-iff a b p q = Iff·trans (and-iff a b) (Iff·and p q)
 
+-- The test for less is true exactly where the first number is less than the second,
 pub less-iff : (a b : ℕ) → (ltb a b ≡ true) ↔ (a < b)
 less-iff a b = (ltb-true a b, lt-ltb a b)
 
+-- the test for equal exactly where the numbers are equal,
 pub equal-iff : (a b : ℕ) → (eqb a b ≡ true) ↔ (a ≡ b)
 equal-iff a b = (eqb-true a b, eq-eqb a b)
 
+-- the opposite of a test exactly where the test is false,
 pub not-iff : (b : Bool) → (not b ≡ true) ↔ (b ≡ false)
 not-iff b = (not-true b, λ h. ap not h)
 
+-- and the test for at most exactly where the first number is at most the second.
 pub at-most-iff : (a b : ℕ) → (leb a b ≡ true) ↔ (a ≤ b)
 at-most-iff a b = (leb-true a b, le-leb a b)
 
@@ -45,10 +50,12 @@ differ-iff a b = (λ h. eqb-false a b (not-true (eqb a b) h), λ h. ap not (ne-e
 
 -- ---- lists
 
+-- Whether each element of a list passes a test.
 unfoldable pub every : {A : Type 0} → (A → Bool) → List A → Bool
 every f [] = true
 every f (x ∷ xs) = f x && every f xs
 
+-- Where the test is true exactly of the elements with a property, this is true exactly when each element has it.
 pub every-iff : {A : Type 0} (f : A → Bool) (F : A → Type 0) → ((x : A) → (f x ≡ true) ↔ F x)
     → (xs : List A) → (every f xs ≡ true) ↔ All F xs
 unfolding every All
@@ -60,10 +67,12 @@ pub every-below-iff : (f : ℕ → Bool) (F : ℕ → Type 0) → ((k : ℕ) →
     → (n : ℕ) → (every f (below n) ≡ true) ↔ ((k : ℕ) → k < n → F k)
 every-below-iff f F h n = Iff·trans (every-iff f F h (below n)) (all-below-at F n, all-below F n)
 
+-- Whether no two numbers of a list are equal.
 unfoldable pub isDistinct : List ℕ → Bool
 isDistinct [] = true
 isDistinct (x ∷ xs) = every (λ y. not (eqb x y)) xs && isDistinct xs
 
+-- It is true exactly when the numbers are distinct.
 pub distinct-iff : (xs : List ℕ) → (isDistinct xs ≡ true) ↔ Distinct xs
 unfolding isDistinct Distinct
 distinct-iff [] = (λ e. tt, λ e. refl)
@@ -71,21 +80,26 @@ distinct-iff (x ∷ xs) = both-iff _ _ (every-iff (λ y. not (eqb x y)) _ (diffe
 
 -- ---- cycles
 
+-- Whether the edges are a walk from s to t.
 unfoldable pub isWalk : (ℕ → ℕ) → (ℕ → ℕ) → ℕ → List ℕ → ℕ → Bool
 isWalk src dst s [] t = eqb s t
 isWalk src dst s (e ∷ es) t = eqb (src e) s && isWalk src dst (dst e) es t
 
+-- It is true exactly when they are such a walk.
 pub walk-iff : (src dst : ℕ → ℕ) (s : ℕ) (es : List ℕ) (t : ℕ) → (isWalk src dst s es t ≡ true) ↔ Walk src dst s es t
 unfolding isWalk Walk
 walk-iff src dst s [] t = equal-iff s t
 walk-iff src dst s (e ∷ es) t = both-iff _ _ (equal-iff (src e) s) (walk-iff src dst (dst e) es t)
 
+-- Whether k is the number of a row of machine m.
 abbrev pub isRowOf : Plant → ℕ → ℕ → Bool
 isRowOf P m k = ltb k (rowCount P) && eqb (rowAt P k .machine) m
 
+-- It is true exactly for the rows of that machine.
 pub row-of-iff : (P : Plant) (m k : ℕ) → (isRowOf P m k ≡ true) ↔ RowOf P m k
 row-of-iff P m k = both-iff _ _ (less-iff k (rowCount P)) (equal-iff (rowAt P k .machine) m)
 
+-- Whether the rows are a simple cycle of machine m.
 abbrev pub isSimpleCycle : Plant → ℕ → List ℕ → Bool
 isSimpleCycle P m c =
     ltb 0 (length c)
@@ -93,6 +107,7 @@ isSimpleCycle P m c =
     && (isWalk (leaves P) (enters P) (firstLeft P c) c (firstLeft P c)
     && isDistinct (map (leaves P) c)))
 
+-- It is true exactly when they are such a cycle.
 pub simple-cycle-iff : (P : Plant) (m : ℕ) (c : List ℕ) → (isSimpleCycle P m c ≡ true) ↔ SimpleCycle P m c
 simple-cycle-iff P m c =
     Iff·trans
@@ -104,14 +119,17 @@ simple-cycle-iff P m c =
       λ s. (s .non-empty, (s .of-machine, (s .closed, s .once))),
     )
 
+-- Whether none of the rows has progress.
 abbrev pub isQuietCycle : Plant → List ℕ → Bool
 isQuietCycle P c = every (λ k. isQuiet (rowAt P k)) c
 
+-- It is true exactly when the cycle is quiet.
 pub quiet-iff : (P : Plant) (c : List ℕ) → (isQuietCycle P c ≡ true) ↔ Quiet P c
 quiet-iff P c = every-iff (λ k. isQuiet (rowAt P k)) _ (λ k. not-iff (hasProgress (rowAt P k))) c
 
 -- ---- plants
 
+-- Whether a message, if there is one, is of a type that the plant has.
 abbrev pub isTypeIn : ℕ → Option ℕ → Bool
 isTypeIn types none = true
 isTypeIn types (some t) = ltb t types
@@ -120,6 +138,7 @@ type-in-iff : (types : ℕ) (o : Option ℕ) → (isTypeIn types o ≡ true) ↔
 type-in-iff types none = (λ h. tt, λ h. refl)
 type-in-iff types (some t) = less-iff t types
 
+-- Whether a row fits a plant with these types and states.
 abbrev pub isFittingRow : ℕ → List ℕ → Row → Bool
 isFittingRow types states r =
     ltb (r .machine) (length states)
@@ -128,6 +147,7 @@ isFittingRow types states r =
     && (isTypeIn types (r .sent)
     && isTypeIn types (r .taken))))
 
+-- It is true exactly when the row fits.
 pub fitting-row-iff : (types : ℕ) (states : List ℕ) (r : Row) → (isFittingRow types states r ≡ true) ↔ RowFits types states r
 fitting-row-iff types states r =
     Iff·trans
@@ -144,5 +164,6 @@ fitting-row-iff types states r =
 abbrev pub isWellFormed : Plant → Bool
 isWellFormed P = every (isFittingRow (P .types) (P .states)) (P .rows)
 
+-- It is true exactly when the plant is well-formed.
 pub well-formed-iff : (P : Plant) → (isWellFormed P ≡ true) ↔ WellFormed P
 well-formed-iff P = every-iff (isFittingRow (P .types) (P .states)) _ (fitting-row-iff (P .types) (P .states)) (P .rows)

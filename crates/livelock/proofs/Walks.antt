@@ -16,6 +16,7 @@ module _ (src : ℕ → ℕ) where
   visited [] t = t ∷ []
   visited (e ∷ es) t = src e ∷ visited es t
 
+  -- They are one more than the walk's edges.
   pub visited-length : (es : List ℕ) (t : ℕ) → length (visited es t) ≡ suc (length es)
   unfolding visited
   visited-length [] t = refl
@@ -34,6 +35,7 @@ module _ (src : ℕ → ℕ) where
   visited-distinct (e ∷ ps) qs t d = (visited-all (λ y. src e ≢ y) ps qs t (d .0), visited-distinct ps qs t (d .1))
 
   module _ (dst : ℕ → ℕ) where
+    -- A walk to a state and a walk from it, joined, are a walk.
     pub walk-append : (s u t : ℕ) (ps qs : List ℕ) → Walk src dst s ps u → Walk src dst u qs t → Walk src dst s (ps ++ qs) t
     unfolding Walk
     walk-append s u t [] qs v w = subst (λ (z : ℕ). Walk src dst z qs t) (sym v) w

@@ -20,18 +20,21 @@ pub data Each {A : Type 0} (P : A → ℕ → Type 0) (n : ℕ) : Found A → Ty
   got : {a : A} {next : ℕ} → P a next → Each P n (found a next)
   stopped : {number place : ℕ} → Placed n number place → Each P n (fault number place)
 
+-- What holds of every value that can be found holds of the one that was found,
 pub each-found : {A : Type 0} {P : A → ℕ → Type 0} {n : ℕ} {x : Found A} (a : A) (next : ℕ) → Each P n x → x ≡ found a next → P a next
 each-found {P = P} {n = n} a next h e = go (subst (Each P n) e h)
   where
     go : Each P n (found a next) → P a next
     go (got p) = p
 
+-- and a fault that was found is placed in the file.
 pub each-fault : {A : Type 0} {P : A → ℕ → Type 0} {n : ℕ} {x : Found A} (number place : ℕ) → Each P n x → x ≡ fault number place → Placed n number place
 each-fault {P = P} {n = n} number place h e = go (subst (Each P n) e h)
   where
     go : Each P n (fault number place) → Placed n number place
     go (stopped p) = p
 
+-- What holds of all that can follow the first part holds of the two parts read in turn.
 pub each-then : {A B : Type 0} {P : A → ℕ → Type 0} {R : B → ℕ → Type 0} {n : ℕ} {x : Found A} {k : A → ℕ → Found B}
     → Each P n x → ((a : A) (next : ℕ) → P a next → Each R n (k a next)) → Each R n (andThen x k)
 each-then (got p) f = f _ _ p
@@ -41,6 +44,7 @@ each-weaken : {A : Type 0} {P R : A → ℕ → Type 0} {n : ℕ} {x : Found A} 
 each-weaken f (got p) = got (f _ _ p)
 each-weaken f (stopped h) = stopped h
 
+-- Where a test decides between two, what holds of each where the test chooses it holds of the choice.
 pub each-cond : {A : Type 0} {P : A → ℕ → Type 0} {n : ℕ} (b : Bool) {x y : Found A} → (b ≡ true → Each P n x) → (b ≡ false → Each P n y) → Each P n (cond b x y)
 each-cond true f g = f refl
 each-cond false f g = g refl
@@ -57,12 +61,14 @@ module _ (s : List ℕ) (at : ℕ) where
   unfolding byteAt
   byteAt-each = each-cond (ltb at (length s)) (λ t. got (ltb-true at (length s) t, refl)) (λ t. stopped at-the-end)
 
+  -- A byte that has to pass a test lies in the file, passes it, and the next offset is one further.
   pub byteThat-each : (passes : ℕ → Bool) (number : ℕ) → 2 ≤ number
       → Each (λ b next. (at < length s) × (next ≡ at + 1) × (passes b ≡ true)) (length s) (byteThat passes number s at)
   unfolding byteThat
   byteThat-each passes number l =
       each-then byteAt-each (λ b next h. each-cond (passes b) (λ t. got (h .0, h .1, t)) (λ t. stopped (within l (h .0))))
 
+  -- A byte that has to be in a range takes at most one byte of the file and is in the range.
   pub byteIn-each : (low end number : ℕ) → 2 ≤ number → Each (λ b next. Next (length s) (at + 1) next × ((low ≤ b) × (b < end))) (length s) (byteIn low end number s at)
   unfolding byteIn
   byteIn-each low end number l =
@@ -70,10 +76,12 @@ module _ (s : List ℕ) (at : ℕ) where
       (λ b next h. (record { inside = omega (arith, h .0, h .1); near = omega (arith, h .1) }, both-iff _ _ (at-most-iff low b) (less-iff b end) .0 (h .2)))
       (byteThat-each (inRange low end) number l)
 
+  -- A map byte takes at most one byte of the file and has only bits that may stand.
   pub mapByte-each : Each (λ map next. Next (length s) (at + 1) next × (isMap map ≡ true)) (length s) (mapByte s at)
   unfolding mapByte
   mapByte-each = each-weaken (λ b next h. (record { inside = omega (arith, h .0, h .1); near = omega (arith, h .1) }, h .2)) (byteThat-each isMap 4 (omega arith))
 
+  -- A count of rows takes at most one byte of the file and is at most 255, and at most 1,024 with the rows before it.
   pub rowsByte-each : (used : ℕ) → Each (λ n next. Next (length s) (at + 1) next × ((n ≤ 255) × (used + n ≤ 1024))) (length s) (rowsByte used s at)
   unfolding rowsByte
   rowsByte-each used =
@@ -83,12 +91,14 @@ module _ (s : List ℕ) (at : ℕ) where
       (record { inside = omega (arith, h .0, h .1); near = omega (arith, h .1) }, (omega (arith, few .0), omega (arith, few .1))))
       (byteThat-each _ 7 (omega arith))
 
+  -- A state field takes at most one byte, and none without its bit; it is a state of the machine.
   pub stateField-each : (stands : Bool) (absent states : ℕ) → absent < states → at ≤ length s
       → Each (λ b next. Next (length s) (at + cond stands 1 0) next × (b < states)) (length s) (stateField stands absent states s at)
   unfolding stateField
   stateField-each true absent states a l = each-weaken (λ b next h. (h .0, h .1 .1)) (byteIn-each 0 states 5 (omega arith))
   stateField-each false absent states a l = got (record { inside = l; near = omega arith }, a)
 
+  -- A type field takes at most one byte, and none without its bit; it is a type of the plant or none.
   pub typeField-each : (stands : Bool) (types : ℕ) → at ≤ length s
       → Each (λ o next. Next (length s) (at + cond stands 1 0) next × TypeIn types o) (length s) (typeField stands types s at)
   unfolding typeField
@@ -115,10 +125,12 @@ one-type map h = go (hasBit map 4) (hasBit map 8) (not-true _ (and-iff (ltb map 
     go false true e = omega arith
     go false false e = omega arith
 
+-- A bit adds at most one.
 pub one-bit : (b : Bool) → cond b 1 0 ≤ 1
 one-bit true = omega arith
 one-bit false = omega arith
 
+-- A row takes at most four bytes of the file and is a row of the machine, with types of the plant.
 pub readRow-each : (s : List ℕ) (m states types implied at : ℕ) → implied < states → at ≤ length s
     → Each (λ r next. Next (length s) (at + 4) next × RowIn m states types r) (length s) (readRow m states types implied s at)
 unfolding readRow

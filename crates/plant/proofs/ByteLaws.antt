@@ -1,6 +1,6 @@
 -- Laws of a byte that passes a test, for the functions that read one.
 use mathlib.Core.Path.{_≡_}
-use mathlib.Core.Bool.{Bool, cond}
+use mathlib.Core.Bool.{Bool, true, false}
 use mathlib.Core.List.{List}
 use Prim.Native.Nat.{ℕ}
 use Rattle.plant.specs.Found.{found, fault}
@@ -13,6 +13,11 @@ module _ (passes : ℕ → Bool) (number : ℕ) (s : List ℕ) (at : ℕ) where
   byte-missing n place e = rw e
 
   -- where it is there, its test decides.
-  pub byte-judged : (b next : ℕ) (t : Bool) → byteAt s at ≡ found b next → t ≡ passes b → cond t (found b next) (fault number at) ≡ byteThat passes number s at
-  unfolding byteThat
-  byte-judged b next t e p = rw (e, p)
+  module _ (b next : ℕ) (e : byteAt s at ≡ found b next) where
+    pub byte-passes : passes b ≡ true → found b next ≡ byteThat passes number s at
+    unfolding byteThat
+    byte-passes t = rw (e, t)
+
+    pub byte-fails : passes b ≡ false → fault number at ≡ byteThat passes number s at
+    unfolding byteThat
+    byte-fails t = rw (e, t)

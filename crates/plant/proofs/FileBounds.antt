@@ -136,7 +136,8 @@ with-machine states n at next p f l hs hn =
 
 -- ---- machines and the file
 
-each-moved : {A : Type 0} {P R : A → ℕ → Type 0} (s : List ℕ) (b : ℕ) {x : Found A} → b ≤ length s → ((a : A) (next : ℕ) → P a next → R a (b + next))
+-- What holds in the part of a file from an offset on holds in the whole file, with that offset added.
+pub each-moved : {A : Type 0} {P R : A → ℕ → Type 0} (s : List ℕ) (b : ℕ) {x : Found A} → b ≤ length s → ((a : A) (next : ℕ) → P a next → R a (b + next))
     → Each P (length (drop b s)) x → Each R (length s) (movedBy b x)
 each-moved s b l f (got p) = got (f _ _ p)
 each-moved s b l f (stopped h) = stopped (placed-moved h)
@@ -151,6 +152,7 @@ pub record Machines (k at : ℕ) (p : Plant) : Type 0 where
   pub number : machineCount p ≡ k
 
 module _ (s : List ℕ) where
+  -- Reading a machine ends in the file and gives a plant of one machine more,
   pub readMachine-each : (at : ℕ) (p : Plant) → Formed at p
       → Each (λ q next. (next ≤ length s) × Machines (machineCount p + 1) next q) (length s) (readMachine s at p)
   unfolding readMachine
@@ -173,6 +175,7 @@ module _ (s : List ℕ) where
       zero-le
       (with-machine states n at (b + 0) p f (omega (arith, ha .0 .near, hb .0 .near)) (ha .1 .0, omega (arith, ha .1 .1)) (hb .1)))
 
+  -- and reading n machines gives one of n more.
   pub readMachines-each : (n k at : ℕ) (p : Plant) → at ≤ length s → Machines k at p
       → Each (λ q next. (next ≤ length s) × Machines (k + n) next q) (length s) (readMachines n s at p)
   unfolding readMachines
@@ -182,6 +185,7 @@ module _ (s : List ℕ) where
       each-then (readMachine-each at p (m .so-far)) λ q next h.
       rw (← e) (readMachines-each n (k + 1) next q (h .0) (record { so-far = h .1 .so-far; number = omega (arith, h .1 .number, m .number) }))
 
+  -- The plant before its first machine is one of no machines.
   pub no-machines : (at types : ℕ) → at ≤ 2 → types ≤ 64 → Machines 0 at (noMachines types)
   unfolding All Ascending sum
   no-machines at types l h =
@@ -218,5 +222,6 @@ module _ (s : List ℕ) where
   pub within-limits : (p : Plant) (end : ℕ) → readPlant s ≡ found p end → WithinLimits p
   within-limits p end e = each-found p end readPlant-each e .0
 
+  -- Every fault is placed in the file.
   pub placed : (number place : ℕ) → readPlant s ≡ fault number place → Placed (length s) number place
   placed number place e = each-fault number place readPlant-each e

@@ -25,5 +25,6 @@ module _ (file : List ℕ) (p : Plant) (end : ℕ) (reads : readPlant file ≡ f
   pub file-decision : Passes p weights ⊎ ((c : List ℕ) × FailingCycle p weights c)
   file-decision = decision p (within-limits file p end reads .formed) weights
 
+  -- Demand 2, "No plant has both", for the plant of a file.
   pub file-exclusion : Passes p weights → (set : List Entry) → Balanced p set → ⊥
   file-exclusion = exclusion p weights

@@ -120,6 +120,7 @@ module _ (s s′ : List ℕ) (N : ℕ) (g : Agree s s′ N) (enough : 4130 < N) 
       let l : end < N = omega (arith, h .1 .so-far .bytes, h .1 .so-far .rows-in-all, h .1 .number, ha .1 .1) in
       rw (lt-ltb end (length s) (omega (arith, g .long)), lt-ltb end (length s′) (omega (arith, g .long′))))))
 
+-- A file reads as its first 4,131 bytes do.
 pub first-bytes : (s : List ℕ) → readPlant s ≡ readPlant (take 4131 s)
 first-bytes s = go (decLe (length s) 4131)
   where

@@ -1,71 +1,135 @@
 -- Laws of the machines' first rows.
-use mathlib.Core.Path.{_≡_, refl, sym, _∙_}
+use mathlib.Core.Path.{_≡_, refl, sym, _∙_, subst⁻¹}
 use mathlib.Core.Logic.{_↔_}
 use mathlib.Core.Bool.{Bool, true, false, cond}
-use mathlib.Core.List.{List, [], _∷_, map}
-use Prim.Native.Nat.{ℕ, zero, suc, _+_, _-_, _≤_, _<_}
+use mathlib.Core.List.{List, [], _∷_}
+use Prim.Native.Nat.{ℕ, zero, suc, _+_, _-_, _≤_, _<_, zero-le}
 use native.Mathlib.Nat.{le-of-suc-le-suc, not-suc-le-zero}
 use native.Mathlib.Decide.{ℕ-discrete, decLt}
-use native.Mathlib.Numerals.{add-one}
 use native.Mathlib.Omega.{arith}
-use lib.ListN.{length, getD, set, length-set}
+use lib.ListN.{length, getD, set, take, drop, length-set}
 use lib.Seq.{getD-set-same, getD-set-other}
 use lib.Dec.{ltb, eqb}
 use borrow.Author.Tests.{ltb-true, ltb-false, lt-ltb, le-ltb, eq-eqb, ne-eqb}
-use Rattle.livelock.specs.Lists.{below, sum, count}
-use Rattle.livelock.specs.Plants.{Row, Plant, rowAt, rowCount, noRow}
-use Rattle.livelock.proofs.ListLaws.{all-weaken, all-always, all-at}
-use Rattle.livelock.proofs.SumLaws.{sum-next, sum-equal, sum-mono, sum-zero, sum-ones}
+use Rattle.livelock.specs.Lists.{All, sum, count}
+use Rattle.livelock.specs.Plants.{Row, Plant, rowAt, rowCount, machineCount, noRow}
+use Rattle.livelock.proofs.ListLaws.{all-append, all-weaken, all-always, all-at}
+use Rattle.livelock.proofs.SumLaws.{sum-append, sum-equal, sum-mono, sum-zero, sum-ones}
+use Rattle.plant.specs.Found.{found}
+use Rattle.plant.specs.Reading.{withRow, withMachine, readMachine}
 use Rattle.plant.specs.Limits.{Ascending, rowsOf, WithinLimits}
-use Rattle.plant.specs.Inner.Steps.{oneIfBelow, countBefore, FirstRows}
-use Rattle.plant.specs.Tables.{rowsBefore, rowOf, plantOf, Sound, Ready}
+use Rattle.plant.specs.Inner.Steps.{FirstRows, MachinesRead}
+use Rattle.plant.specs.Tables.{Columns, plantIn, rowsBefore, plantOf, Ready}
+use Rattle.plant.specs.declared.Stored.{Stored}
 use Rattle.plant.specs.declared.PlantTable.{PlantTable}
-use Rattle.plant.proofs.Bounds.{one-bit}
-use Rattle.plant.proofs.TableLaws.{rows-so-far, withFirst, first-any}
+use Rattle.plant.proofs.Bounds.{Each, each-then, each-found, byteIn-each, rowsByte-each, readRows-each, one-bit}
+use Rattle.plant.proofs.FileBounds.{each-moved}
+use Rattle.plant.proofs.TableLaws.{rows-in, rows-counted}
 
--- ---- for the functions that count
+-- ---- while the machines are read
 
-pub count-next : (machine : List ℕ) (m k : ℕ) → countBefore machine m (k + 1) ≡ countBefore machine m k + oneIfBelow (getD machine k 0) m
-unfolding countBefore
-count-next machine m k = rw (add-one k) (sum-next (λ i. cond (ltb (getD machine i 0) m) 1 0) k)
+-- Before machine n is read, every row belongs to a machine before n, so that the count of rows before n is the count of all of them:
+-- that is its first row. The rows that it then adds have number n, so that no count of rows before a machine up to n changes.
 
-pub one-at-most : (a b : ℕ) → oneIfBelow a b ≤ 1
-one-at-most a b = one-bit (ltb a b)
+-- Before the first machine is read there are no rows, and no first row is asked for yet.
+pub first-none : (first : List ℕ) (p : Plant) → length first ≡ 17 → p .rows ≡ [] → FirstRows first 0 p
+unfolding All
+first-none first p e none = record { room = e; at = λ m l. absurd (not-suc-le-zero l); numbered = subst⁻¹ (All (λ (r : Row). r .machine < 0)) none tt }
 
-pub count-none : (machine : List ℕ) (m : ℕ) → countBefore machine m 0 ≡ 0
-unfolding countBefore below sum
-count-none machine m = refl
+-- Where all rows belong to machines before n, they are counted before n.
+all-before : (n : ℕ) (rs : List Row) → All (λ r. r .machine < n) rs → count (λ r. ltb (r .machine) n) rs ≡ length rs
+all-before n rs h =
+    sum-equal (λ (r : Row). cond (ltb (r .machine) n) 1 0) (λ r. 1) rs (all-weaken (λ (r : Row). r .machine < n) _ (λ r l. simp (lt-ltb (r .machine) n l)) rs h) ∙ sum-ones rs
 
-pub first-none : (machine : List ℕ) (rows : ℕ) (first : List ℕ) → length first ≡ 17 → FirstRows machine rows 0 first
-first-none machine rows first e = record { room = e; at = λ m l. absurd (not-suc-le-zero l) }
-
-pub first-next : (machine : List ℕ) (rows m v : ℕ) (first : List ℕ) → FirstRows machine rows m first → m < 17 → v ≡ countBefore machine m rows
-    → FirstRows machine rows (m + 1) (set first m v)
-first-next machine rows m v first f l e =
+-- The first row of machine n, of which no row is read yet, is the count of rows.
+pub first-next : (first : List ℕ) (n rows : ℕ) (p : Plant) → rowCount p ≡ rows → n < 17 → FirstRows first n p → FirstRows (set first n rows) (n + 1) p
+first-next first n rows p e l f =
     record {
-      room = length-set first m v ∙ f .room;
-      at = λ j h. go j h (ℕ-discrete j m);
+      room = length-set first n rows ∙ f .room;
+      at = λ m h. go m h (ℕ-discrete m n);
+      numbered = all-weaken (λ r. r .machine < n) _ (λ r h. omega arith) (p .rows) (f .numbered);
     }
   where
-    go : (j : ℕ) → j < m + 1 → Dec (j ≡ m) → getD (set first m v) j 0 ≡ countBefore machine j rows
-    go j h (yes q) = rw q (getD-set-same first m v 0 (omega (arith, f .room)) ∙ e)
-    go j h (no q) = getD-set-other first m j v 0 q ∙ f .at j (omega arith)
+    go : (m : ℕ) → m < n + 1 → Dec (m ≡ n) → getD (set first n rows) m 0 ≡ rowsBefore p m
+    go m h (yes q) = rw q (getD-set-same first n rows 0 (omega (arith, f .room)) ∙ (sym e ∙ sym (all-before n (p .rows) (f .numbered))))
+    go m h (no q) = getD-set-other first n m rows 0 q ∙ f .at m (omega arith)
 
--- ---- for the table
+-- A row of machine n is not counted before n.
+own-row : (first : List ℕ) (n : ℕ) (p : Plant) (r : Row) → r .machine ≡ n → FirstRows first (n + 1) p → FirstRows first (n + 1) (withRow p r)
+unfolding All sum
+own-row first n p r e f =
+    record {
+      room = f .room;
+      at =
+          λ m l.
+          omega (arith, f .at m l, sum-append (λ (q : Row). cond (ltb (q .machine) m) 1 0) (p .rows) (r ∷ []), not-before m l);
+      numbered = all-append (λ q. q .machine < n + 1) (p .rows) (r ∷ []) (f .numbered) (omega arith, tt);
+    }
+  where
+    not-before : (m : ℕ) → m < n + 1 → _≡_ {A = ℕ} (cond (ltb (r .machine) m) 1 0) 0
+    not-before m l = simp (le-ltb (r .machine) m (omega arith))
 
-pub sum-map : {A : Type 0} (f : A → ℕ) (g : ℕ → A) (ks : List ℕ) → sum f (map g ks) ≡ sum (λ k. f (g k)) ks
-unfolding sum
-sum-map f g [] = refl
-sum-map f g (k ∷ ks) = omega (arith, sum-map f g ks)
+-- The first rows of the machines so far, with that of the next, stay what they are while the next machine is read.
+first-each : (s : List ℕ) (at : ℕ) (first : List ℕ) (p : Plant) → FirstRows first (machineCount p + 1) p
+    → Each (λ q next. FirstRows first (machineCount p + 1) q) (length s) (readMachine s at p)
+unfolding readMachine
+first-each s at first p f =
+    each-then (byteIn-each s at 1 _ 3 (omega arith)) λ states a ha.
+    each-then (rowsByte-each s a (rowCount p)) λ n b hb.
+    each-moved s b (hb .0 .inside)
+    (λ q next h. h .1)
+    (readRows-each
+    (drop b s)
+    (λ k i q. FirstRows first (machineCount p + 1) q)
+    (machineCount p)
+    states
+    (λ k i next q r g l h. own-row first (machineCount p) q r (h .machine) g)
+    n
+    0
+    0
+    (withMachine p states)
+    (ha .1 .0)
+    zero-le
+    (record { room = f .room; at = f .at; numbered = f .numbered }))
 
--- What the machine column counts is what the plant's rows count.
-pub before-is : (t : PlantTable) (m : ℕ) → countBefore (t .machine) m (t .rows) ≡ rowsBefore (plantOf t) m
-unfolding countBefore
-before-is t m = sym (sum-map (λ (r : Row). cond (ltb (r .machine) m) 1 0) (rowOf t) (below (t .rows)))
+-- The count of rows before machine n, stored as its first row once the machine is read.
+pub first-stored : (s : List ℕ) (at : ℕ) (first : List ℕ) (n used : ℕ) (p q : Plant) (next : ℕ) → machineCount p ≡ n → rowCount p ≡ used → n < 17
+    → FirstRows first n p → readMachine s at p ≡ found q next → FirstRows (set first n used) (n + 1) q
+first-stored s at first n used p q next m u l f e =
+    rw (← m) (each-found q next (first-each s at (set first (machineCount p) used) p (first-next first (machineCount p) used p u (rw m l) (rw m f))) e)
 
--- The table is ready once its machines' first rows are put in.
-pub ready : (t : PlantTable) (first : List ℕ) → Sound t 16 → FirstRows (t .machine) (t .rows) 17 first → Ready (withFirst t first)
-ready t first h f = record { sound = first-any t first 16 16 h (h .few-machines); first-row = λ m l. f .at m (omega arith) ∙ before-is t m }
+-- The table of the counts and columns that were filled.
+abbrev pub tableOf : ℕ → Stored → (states first : List ℕ) → Columns → PlantTable
+tableOf types r states first cs =
+    record {
+      types = types;
+      machines = r .machines;
+      rows = r .rows;
+      states = states;
+      first = first;
+      machine = cs .machine;
+      left = cs .left;
+      entered = cs .entered;
+      sent = cs .sent;
+      taken = cs .taken;
+      progress = cs .progress;
+    }
+
+-- What was read makes a ready table, once the entries behind the last machine's first row are stored too.
+pub table-ready : {n : ℕ} {file : List ℕ} {from types : ℕ} {states first first′ : List ℕ} {cs : Columns} {r : Stored} → types ≤ 64
+    → MachinesRead n file from types states first cs r → ((p : Plant) → rowCount p ≡ r .rows → FirstRows first (r .machines) p → FirstRows first′ 17 p)
+    → Ready (tableOf types r states first′ cs)
+table-ready {types = types} {states = states} {cs = cs} {r = r} few h ends =
+    record {
+      sound =
+          record {
+            few-machines = h .few-machines;
+            few-rows = h .few-rows;
+            few-types = few;
+            states-room = h .states-room;
+          };
+      first-row = λ m l. ends (plantIn types (take (r .machines) states) (r .rows) cs) (rows-in cs (r .rows)) (h .first-rows) .at m (omega arith);
+    }
 
 -- ---- for the crates that work on plants
 
@@ -140,6 +204,6 @@ machine-rows t ready m l =
     let high = ready .first-row (m + 1) (omega arith) in
     let next = rows-of-next m (plantOf t .rows) in (
       omega (arith, low, high, next),
-      omega (arith, high, rows-before-bound (plantOf t) (m + 1), rows-so-far t),
+      omega (arith, high, rows-before-bound (plantOf t) (m + 1), rows-counted t),
       omega (arith, low, high, next),
     )

@@ -12,4 +12,5 @@ pub mod FirstRowLaws
 pub mod RowLaws
 pub mod MachineLaws
 pub mod PlantLaws
+pub mod CountLaws
 pub mod OneToOne

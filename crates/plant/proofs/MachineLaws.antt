@@ -6,44 +6,46 @@ use native.Mathlib.Nat.{le-of-eq, le-refl}
 use native.Mathlib.Omega.{arith}
 use lib.ListN.{length, take, drop, length-drop}
 use lib.Seq.{take-all}
-use Rattle.livelock.specs.Plants.{Plant}
+use Rattle.livelock.specs.Plants.{Plant, rowCount, machineCount}
 use Rattle.plant.specs.Found.{Found, found, fault, andThen, movedBy}
 use Rattle.plant.specs.Reading.{byteIn, withMachine, readRows, rowsByte, readMachine, readMachines}
 use Rattle.plant.specs.Limits.{Placed, at-the-end, within}
-use Rattle.plant.specs.Tables.{plantOf, Sound, endFound, decodedFound}
-use Rattle.plant.specs.Inner.Steps.{offsetOf}
-use Rattle.plant.specs.declared.Decoded.{Decoded}
+use Rattle.plant.specs.Tables.{Columns, plantIn, endFound}
+use Rattle.plant.specs.Inner.Steps.{offsetOf, MachineRead}
+use Rattle.plant.specs.declared.Fault.{Fault}
 use Rattle.plant.specs.declared.End.{End}
 use Rattle.plant.specs.declared.End.the-variants as Ends
-use Rattle.plant.specs.declared.PlantTable.{PlantTable}
-use Rattle.plant.proofs.TableLaws.{rows-so-far, machines-so-far}
+use Rattle.plant.proofs.Told.{told}
 use Rattle.plant.proofs.Bounds.{Each, got, stopped, readRows-each}
 
 -- `&s[b..]`, as the rule for it has it.
-part-is : (s : List ℕ) (b : ℕ) → take (length s - b) (drop b s) ≡ drop b s
+pub part-is : (s : List ℕ) (b : ℕ) → take (length s - b) (drop b s) ≡ drop b s
 part-is s b = take-all (length s - b) (drop b s) (le-of-eq (length-drop b s))
 
 -- ---- one machine
 
-module _ (s : List ℕ) (at : ℕ) (t : PlantTable) (sound : Sound t (t .machines)) where
-  pub no-states : (number place : ℕ) → byteIn 1 65 3 s at ≡ fault number place → fault number place ≡ readMachine s at (plantOf t)
+module _ (s : List ℕ) (at : ℕ) (p : Plant) where
+  -- A fault of the count of states is the machine's,
+  pub no-states : (number place : ℕ) → byteIn 1 65 3 s at ≡ fault number place → fault number place ≡ readMachine s at p
   unfolding readMachine
   no-states number place e = rw e
 
-  pub no-rows : (states a number place : ℕ) → byteIn 1 65 3 s at ≡ found states a → rowsByte (t .rows) s a ≡ fault number place
-      → fault number place ≡ readMachine s at (plantOf t)
-  unfolding readMachine
-  no-rows states a number place e f = rw (e, rows-so-far t, f)
+  module _ (used states a : ℕ) (u : rowCount p ≡ used) (e : byteIn 1 65 3 s at ≡ found states a) where
+    -- so is a fault of the count of rows,
+    pub no-rows : (number place : ℕ) → rowsByte used s a ≡ fault number place → fault number place ≡ readMachine s at p
+    unfolding readMachine
+    no-rows number place f = rw (e, u, f)
 
-  pub machine-read : (states a n b : ℕ) (x : Found Plant) (q : Plant) → t .machines < 16 → byteIn 1 65 3 s at ≡ found states a → rowsByte (t .rows) s a ≡ found n b
-      → q ≡ withMachine (plantOf t) states → x ≡ readRows n (t .machines) states 0 (take (length s - b) (drop b s)) 0 q → movedBy b x ≡ readMachine s at (plantOf t)
-  unfolding readMachine
-  machine-read states a n b x q room e f w h =
-      let m = machines-so-far t _ sound (omega arith) in
-      let g = subst (λ (p : Plant). x ≡ readRows n (t .machines) states 0 (take (length s - b) (drop b s)) 0 p) w h in
-      rw (e, rows-so-far t, f, m, g, part-is)
+    -- and after both counts its rows decide, with their offsets counted from the start of the file.
+    pub machine-read : (m n b : ℕ) (x : Found Plant) (q : Plant) → machineCount p ≡ m → rowsByte used s a ≡ found n b → q ≡ withMachine p states
+        → x ≡ readRows n m states 0 (take (length s - b) (drop b s)) 0 q → movedBy b x ≡ readMachine s at p
+    unfolding readMachine
+    machine-read m n b x q c f w h =
+        let g = subst (λ (z : Plant). x ≡ readRows n m states 0 (take (length s - b) (drop b s)) 0 z) w h in
+        rw (e, u, f, c, g, part-is)
 
-place-within : (n number place : ℕ) → Placed n number place → place ≤ n
+-- The place of a fault is at most the length of the file.
+pub place-within : (n number place : ℕ) → Placed n number place → place ≤ n
 place-within n number place at-the-end = le-refl n
 place-within n number place (within h l) = omega arith
 
@@ -52,17 +54,29 @@ end-within J n p (Ends.At next) (got h) = h .0
 end-within J n p (Ends.Fault f) (stopped h) = place-within n (f .number) (f .place) h
 
 -- Reading rows in the part from b on ends in that part.
-pub rows-end : (n m states b : ℕ) (s : List ℕ) (p : Plant) (d : Decoded) → 0 < states
-    → decodedFound d ≡ readRows n m states 0 (take (length s - b) (drop b s)) 0 p → offsetOf (d .end) ≤ length s - b
-rows-end n m states b s p d h e =
+pub rows-end : (n m states b : ℕ) (s : List ℕ) (p q : Plant) (end : End) → 0 < states
+    → endFound end q ≡ readRows n m states 0 (take (length s - b) (drop b s)) 0 p → offsetOf end ≤ length s - b
+rows-end n m states b s p q end h e =
     rw
     (← length-drop b s)
     (end-within
     (λ q next. Unit {0})
     (length (drop b s))
-    (plantOf (d .table))
-    (d .end)
+    q
+    end
     (rw (e, part-is) (readRows-each (drop b s) (λ k at q. Unit {0}) m states (λ k at next q r j l i. tt) n 0 0 p h zero-le tt)))
+
+-- What the end of reading a machine says of `readMachine`.
+module _ {file : List ℕ} {at m types used : ℕ} {states : List ℕ} {before : Columns} {rows : ℕ} {states′ : List ℕ} {after : Columns} {e : End}
+    (r : MachineRead file at m types used states before rows states′ after e) where
+  -- It finds the fault at which reading ended,
+  pub machine-fault : (f : Fault) → e ≡ Ends.Fault f → readMachine file at (plantIn types (take m states) used before) ≡ fault (f .number) (f .place)
+  machine-fault f q = told (λ x. endFound x (plantIn types (take (m + 1) states′) rows after)) (r .holds) q
+
+  -- or the plant with machine m in it, up to the offset at which reading ended.
+  pub machine-found : (next : ℕ) → e ≡ Ends.At next
+      → readMachine file at (plantIn types (take m states) used before) ≡ found (plantIn types (take (m + 1) states′) rows after) next
+  machine-found next q = told (λ x. endFound x (plantIn types (take (m + 1) states′) rows after)) (r .holds) q
 
 -- ---- what is left to read after i of n machines
 
@@ -71,12 +85,15 @@ module _ (s : List ℕ) (at n i : ℕ) (p : Plant) (x : Found Plant) (h : readMa
   unfolding readMachines
   one-more more = let e : n - i ≡ suc (n - (i + 1)) = omega arith in rw e at h
 
+  -- A fault of the next machine is that of all the machines,
   pub machine-stops : i < n → (number place : ℕ) → readMachine s at p ≡ fault number place → fault number place ≡ x
   machine-stops more number place e = rw e at (one-more more)
 
+  -- after a machine that was read there is one machine fewer to read,
   pub machine-goes-on : i < n → (q : Plant) (next : ℕ) → readMachine s at p ≡ found q next → readMachines (n - (i + 1)) s next q ≡ x
   machine-goes-on more q next e = rw e at (one-more more)
 
+  -- and after the last machine the plant so far is what was found.
   pub machines-done : n ≤ i → found p at ≡ x
   unfolding readMachines
   machines-done done = let e : n - i ≡ 0 = omega arith in rw e at h

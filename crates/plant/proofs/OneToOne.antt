@@ -13,6 +13,7 @@ use Rattle.plant.specs.declared.Reading.the-variants as Readings
 pub same-fault : (f g : Fault) → f .number ≡ g .number → f .place ≡ g .place → f ≡ g
 same-fault f g n q = λ i. record { number = n i; place = q i }
 
+-- Answers of reading that mean the same are the same,
 pub answers-differ : (a b : R.Reading) → answerOf a ≡ answerOf b → a ≡ b
 answers-differ (Readings.Counts m t r) (Readings.Counts m′ t′ r′) e = cc
 answers-differ (Readings.Counts m t r) (Readings.Refused g) e = cc
@@ -22,6 +23,7 @@ answers-differ (Readings.Refused f) (Readings.Refused g) e =
     let q : f .place ≡ g .place = cc in
     ap Readings.Refused (same-fault f g n q)
 
+-- and so are ends that mean the same of one plant.
 pub ends-differ : (p : Plant) (a b : End) → endFound a p ≡ endFound b p → a ≡ b
 ends-differ p (Ends.At next) (Ends.At next′) e = cc
 ends-differ p (Ends.At next) (Ends.Fault g) e = cc

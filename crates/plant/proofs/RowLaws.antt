@@ -14,15 +14,18 @@ module _ (m states implied at : ℕ) (s : List ℕ) (n i : ℕ) (x : Found Plant
     unfolding readRows
     one-more p = let e : n - i ≡ suc (n - (i + 1)) = omega arith in rw e
 
+    -- A fault of the next row is that of all the rows,
     pub row-stops : (p : Plant) (number place : ℕ) → readRow m states (p .types) implied s at ≡ fault number place
         → readRows (n - i) m states implied s at p ≡ x → fault number place ≡ x
     row-stops p number place e h = sym (one-more p ∙ rw e) ∙ h
 
+    -- after a row that was read there is one row fewer to read, with the state that it leaves as the implied one,
     pub row-goes-on : (p q : Plant) (r : Row) (next : ℕ) → readRow m states (p .types) implied s at ≡ found r next → q ≡ withRow p r
         → readRows (n - i) m states implied s at p ≡ x → readRows (n - (i + 1)) m states (r .left) s next q ≡ x
     row-goes-on p q r next e w h =
         subst⁻¹ (λ (z : Plant). readRows (n - (i + 1)) m states (r .left) s next z ≡ x) w (sym (one-more p ∙ rw e) ∙ h)
 
+  -- and after the last row the plant so far is what was found.
   pub rows-done : (p : Plant) → n ≤ i → readRows (n - i) m states implied s at p ≡ x → found p at ≡ x
   unfolding readRows
   rows-done p done h = let e : n - i ≡ 0 = omega arith in rw e at h

@@ -2,8 +2,8 @@
 use mathlib.Core.Path.{_≡_, refl, _∙_}
 use mathlib.Core.Bool.{Bool, false}
 use mathlib.Core.List.{List, [], _∷_, _++_, map, map-append}
-use Prim.Native.Nat.{ℕ, zero, suc, _+_, _≤_, _<_}
-use native.Mathlib.Nat.{le-refl, not-suc-le-zero}
+use Prim.Native.Nat.{ℕ, zero, suc, _+_, _<_}
+use native.Mathlib.Nat.{not-suc-le-zero}
 use native.Mathlib.Decide.{ℕ-discrete}
 use native.Mathlib.Numerals.{add-one}
 use native.Mathlib.Omega.{arith}
@@ -14,59 +14,21 @@ use Rattle.livelock.specs.Plants.{Row, rowAt, noRow}
 use Rattle.livelock.proofs.ListLaws.{all-below}
 use Rattle.livelock.proofs.Pigeonhole.{below-length}
 use Rattle.plant.specs.Reading.{withRow, withMachine}
-use Rattle.plant.specs.Tables.{typeOf, rowOf, plantOf, Sound}
-use Rattle.plant.specs.Inner.Steps.{Grown}
+use Rattle.plant.specs.Tables.{typeOf, Columns, rowIn, plantIn, columnsOf, rowOf, plantOf, Sound}
+use Rattle.plant.specs.Inner.Steps.{columns, Room}
 use Rattle.plant.specs.declared.PlantTable.{PlantTable}
 
 -- ---- counts
 
--- The table with its machines' first rows put in.
-abbrev pub withFirst : PlantTable → List ℕ → PlantTable
-withFirst t first =
-    record {
-      types = t .types;
-      machines = t .machines;
-      rows = t .rows;
-      states = t .states;
-      first = first;
-      machine = t .machine;
-      left = t .left;
-      entered = t .entered;
-      sent = t .sent;
-      taken = t .taken;
-      progress = t .progress;
-    }
+-- The first n rows of columns are n, and a table has as many rows and machines as it says.
+pub rows-in : (cs : Columns) (n : ℕ) → length (map (rowIn cs) (below n)) ≡ n
+rows-in cs n = length-map (below n) (rowIn cs) ∙ below-length n
 
--- The first rows may be any, and the bound on the machines any that holds.
-pub first-any : (t : PlantTable) (first : List ℕ) (k l : ℕ) → Sound t k → t .machines ≤ l → Sound (withFirst t first) l
-first-any t first k l h few =
-    record {
-      few-machines = few;
-      few-rows = h .few-rows;
-      few-types = h .few-types;
-      states-room = h .states-room;
-      machine-room = h .machine-room;
-      left-room = h .left-room;
-      entered-room = h .entered-room;
-      sent-room = h .sent-room;
-      taken-room = h .taken-room;
-      progress-room = h .progress-room;
-    }
+pub rows-counted : (t : PlantTable) → length (map (rowOf t) (below (t .rows))) ≡ t .rows
+rows-counted t = rows-in (columnsOf t) (t .rows)
 
-pub recount : (t : PlantTable) (k l : ℕ) → Sound t k → t .machines ≤ l → Sound t l
-recount t k l h few = first-any t (t .first) k l h few
-
-pub more-machines : (t : PlantTable) (k l : ℕ) → Sound t k → k ≤ l → Sound t l
-more-machines t k l h le = recount t k l h (omega (arith, h .few-machines))
-
-pub own-machines : (t : PlantTable) (k : ℕ) → Sound t k → Sound t (t .machines)
-own-machines t k h = recount t k (t .machines) h (le-refl _)
-
-pub rows-so-far : (t : PlantTable) → length (map (rowOf t) (below (t .rows))) ≡ t .rows
-rows-so-far t = length-map (below (t .rows)) (rowOf t) ∙ below-length (t .rows)
-
-pub machines-so-far : (t : PlantTable) (k : ℕ) → Sound t k → k ≤ 16 → length (take (t .machines) (t .states)) ≡ t .machines
-machines-so-far t k h le = length-take-le (t .machines) (t .states) (omega (arith, h .few-machines, h .states-room))
+pub machines-counted : (t : PlantTable) → Sound t → length (take (t .machines) (t .states)) ≡ t .machines
+machines-counted t h = length-take-le (t .machines) (t .states) (omega (arith, h .few-machines, h .states-room))
 
 -- ---- rows
 
@@ -93,116 +55,68 @@ getD-map-below f d (suc n) k l = rw (map-append f (below n) (n ∷ [])) (go (ℕ
 pub row-is : (t : PlantTable) (k : ℕ) → k < t .rows → rowAt (plantOf t) k ≡ rowOf t k
 row-is t k l = getD-map-below (rowOf t) noRow (t .rows) k l
 
--- The table with one row stored behind the others.
-abbrev pub storedRow : PlantTable → (machine left entered sent taken : ℕ) → Bool → PlantTable
-storedRow t machine left entered sent taken progress =
-    record {
-      types = t .types;
-      machines = t .machines;
-      rows = t .rows + 1;
-      states = t .states;
-      first = t .first;
-      machine = set (t .machine) (t .rows) machine;
-      left = set (t .left) (t .rows) left;
-      entered = set (t .entered) (t .rows) entered;
-      sent = set (t .sent) (t .rows) sent;
-      taken = set (t .taken) (t .rows) taken;
-      progress = set (t .progress) (t .rows) progress;
-    }
+-- The columns with one row stored at k.
+abbrev pub storedRow : Columns → (k machine left entered sent taken : ℕ) → Bool → Columns
+storedRow cs k machine left entered sent taken progress =
+    columns (set (cs .machine) k machine) (set (cs .left) k left) (set (cs .entered) k entered) (set (cs .sent) k sent) (set (cs .taken) k taken) (set (cs .progress) k progress)
 
-module _ (t : PlantTable) (k : ℕ) (h : Sound t k) (room : t .rows < 1024) (machine left entered sent taken : ℕ) (progress : Bool) where
-  abbrev after : PlantTable
-  after = storedRow t machine left entered sent taken progress
+module _ (cs : Columns) (room : Room cs) (k : ℕ) (l : k < 1024) (machine left entered sent taken : ℕ) (progress : Bool) where
+  abbrev after : Columns
+  after = storedRow cs k machine left entered sent taken progress
 
   new-row : Row
   new-row = record { machine = machine; left = left; entered = entered; sent = typeOf sent; taken = typeOf taken; progress = progress }
 
   -- Column entries before the new one are kept, and the new one is there.
-  others : (i : ℕ) → i < t .rows → rowOf after i ≡ rowOf t i
-  others i l =
-      let n : i ≡ t .rows → ⊥ = (λ e. omega arith) in
+  others : (i : ℕ) → i < k → rowIn after i ≡ rowIn cs i
+  others i h =
+      let n : i ≡ k → ⊥ = (λ e. omega arith) in
       rw (
-        getD-set-other (t .machine) (t .rows) i machine 0 n,
-        getD-set-other (t .left) (t .rows) i left 0 n,
-        getD-set-other (t .entered) (t .rows) i entered 0 n,
-        getD-set-other (t .sent) (t .rows) i sent 0 n,
-        getD-set-other (t .taken) (t .rows) i taken 0 n,
-        getD-set-other (t .progress) (t .rows) i progress false n,
+        getD-set-other (cs .machine) k i machine 0 n,
+        getD-set-other (cs .left) k i left 0 n,
+        getD-set-other (cs .entered) k i entered 0 n,
+        getD-set-other (cs .sent) k i sent 0 n,
+        getD-set-other (cs .taken) k i taken 0 n,
+        getD-set-other (cs .progress) k i progress false n,
       )
 
-  newest : rowOf after (t .rows) ≡ new-row
+  newest : rowIn after k ≡ new-row
   unfolding new-row
   newest =
       rw (
-        getD-set-same (t .machine) (t .rows) machine 0 (omega (arith, h .machine-room)),
-        getD-set-same (t .left) (t .rows) left 0 (omega (arith, h .left-room)),
-        getD-set-same (t .entered) (t .rows) entered 0 (omega (arith, h .entered-room)),
-        getD-set-same (t .sent) (t .rows) sent 0 (omega (arith, h .sent-room)),
-        getD-set-same (t .taken) (t .rows) taken 0 (omega (arith, h .taken-room)),
-        getD-set-same (t .progress) (t .rows) progress false (omega (arith, h .progress-room)),
+        getD-set-same (cs .machine) k machine 0 (omega (arith, room .machine)),
+        getD-set-same (cs .left) k left 0 (omega (arith, room .left)),
+        getD-set-same (cs .entered) k entered 0 (omega (arith, room .entered)),
+        getD-set-same (cs .sent) k sent 0 (omega (arith, room .sent)),
+        getD-set-same (cs .taken) k taken 0 (omega (arith, room .taken)),
+        getD-set-same (cs .progress) k progress false (omega (arith, room .progress)),
       )
 
-  rows-after : map (rowOf after) (below (t .rows + 1)) ≡ map (rowOf t) (below (t .rows)) ++ (new-row ∷ [])
+  rows-after : map (rowIn after) (below (k + 1)) ≡ map (rowIn cs) (below k) ++ (new-row ∷ [])
   unfolding below
   rows-after =
-      rw (add-one (t .rows), map-append (rowOf after) (below (t .rows)) (t .rows ∷ []), map-equal (rowOf after) (rowOf t) (below (t .rows)) (all-below _ (t .rows) others), newest)
+      rw (add-one k, map-append (rowIn after) (below k) (k ∷ []), map-equal (rowIn after) (rowIn cs) (below k) (all-below _ k others), newest)
 
-  pub with-row : Grown after k (t .rows + 1) (withRow (plantOf t) (record { machine = machine; left = left; entered = entered; sent = typeOf sent; taken = typeOf taken; progress = progress }))
-  unfolding new-row
-  with-row =
+  -- The columns still have room for 1,024 rows.
+  pub room-kept : Room after
+  room-kept =
       record {
-        sound =
-            record {
-              few-machines = h .few-machines;
-              few-rows = omega arith;
-              few-types = h .few-types;
-              states-room = h .states-room;
-              machine-room = length-set (t .machine) (t .rows) machine ∙ h .machine-room;
-              left-room = length-set (t .left) (t .rows) left ∙ h .left-room;
-              entered-room = length-set (t .entered) (t .rows) entered ∙ h .entered-room;
-              sent-room = length-set (t .sent) (t .rows) sent ∙ h .sent-room;
-              taken-room = length-set (t .taken) (t .rows) taken ∙ h .taken-room;
-              progress-room = length-set (t .progress) (t .rows) progress ∙ h .progress-room;
-            };
-        counted = refl;
-        holds = λ i. record { types = t .types; states = take (t .machines) (t .states); rows = rows-after i };
+        machine = length-set (cs .machine) k machine ∙ room .machine;
+        left = length-set (cs .left) k left ∙ room .left;
+        entered = length-set (cs .entered) k entered ∙ room .entered;
+        sent = length-set (cs .sent) k sent ∙ room .sent;
+        taken = length-set (cs .taken) k taken ∙ room .taken;
+        progress = length-set (cs .progress) k progress ∙ room .progress;
       }
 
--- The table with one machine stored behind the others.
-pub with-machine : (t : PlantTable) (k states : ℕ) → Sound t k → t .machines < 16
-    → Grown
-    (record {
-      types = t .types;
-      machines = t .machines + 1;
-      rows = t .rows;
-      states = set (t .states) (t .machines) states;
-      first = t .first;
-      machine = t .machine;
-      left = t .left;
-      entered = t .entered;
-      sent = t .sent;
-      taken = t .taken;
-      progress = t .progress;
-    })
-    (k + 1)
-    (t .rows)
-    (withMachine (plantOf t) states)
-with-machine t k states h room =
-    let l : t .machines < length (t .states) = omega (arith, h .states-room) in
-    record {
-      sound =
-          record {
-            few-machines = omega (arith, h .few-machines);
-            few-rows = h .few-rows;
-            few-types = h .few-types;
-            states-room = length-set (t .states) (t .machines) states ∙ h .states-room;
-            machine-room = h .machine-room;
-            left-room = h .left-room;
-            entered-room = h .entered-room;
-            sent-room = h .sent-room;
-            taken-room = h .taken-room;
-            progress-room = h .progress-room;
-          };
-      counted = refl;
-      holds = rw (add-one (t .machines), take-suc-set);
-    }
+  -- The plant has one row more.
+  pub with-row : (types : ℕ) (states : List ℕ)
+      → plantIn types states (k + 1) after
+      ≡ withRow (plantIn types states k cs) (record { machine = machine; left = left; entered = entered; sent = typeOf sent; taken = typeOf taken; progress = progress })
+  unfolding new-row
+  with-row types states = λ i. record { types = types; states = states; rows = rows-after i }
+
+-- A machine's count of states is stored behind the others: the plant has one machine more.
+pub with-machine : (types m states rows : ℕ) (all : List ℕ) (cs : Columns) → m < length all
+    → plantIn types (take (m + 1) (set all m states)) rows cs ≡ withMachine (plantIn types (take m all) rows cs) states
+with-machine types m states rows all cs l = rw (add-one m, take-suc-set)

@@ -1,8 +1,8 @@
 -- The decoded table of `decode`, and the plant that it holds.
 use mathlib.Core.Path.{_≡_}
-use mathlib.Core.Bool.{false, cond}
+use mathlib.Core.Bool.{Bool, false, cond}
 use mathlib.Core.Option.{Option, none, some}
-use mathlib.Core.List.{map}
+use mathlib.Core.List.{List, map}
 use Prim.Native.Nat.{ℕ, _≤_}
 use lib.ListN.{length, getD, take}
 use lib.Dec.{ltb}
@@ -19,21 +19,41 @@ use Rattle.plant.specs.declared.PlantTable.{PlantTable}
 abbrev pub typeOf : ℕ → Option ℕ
 typeOf x = cond (ltb x 64) (some x) none
 
--- Row k, from the columns.
-abbrev pub rowOf : PlantTable → ℕ → Row
-rowOf t k =
+-- The columns of a table: entry k of each belongs to row k.
+pub record Columns : Type 0 where
+  pub machine : List ℕ
+  pub left : List ℕ
+  pub entered : List ℕ
+  pub sent : List ℕ
+  pub taken : List ℕ
+  pub progress : List Bool
+
+-- Row k of the columns.
+abbrev pub rowIn : Columns → ℕ → Row
+rowIn cs k =
     record {
-      machine = getD (t .machine) k 0;
-      left = getD (t .left) k 0;
-      entered = getD (t .entered) k 0;
-      sent = typeOf (getD (t .sent) k 0);
-      taken = typeOf (getD (t .taken) k 0);
-      progress = getD (t .progress) k false;
+      machine = getD (cs .machine) k 0;
+      left = getD (cs .left) k 0;
+      entered = getD (cs .entered) k 0;
+      sent = typeOf (getD (cs .sent) k 0);
+      taken = typeOf (getD (cs .taken) k 0);
+      progress = getD (cs .progress) k false;
     }
 
--- The plant: the entries up to the counts.
+-- The plant with these types and states, and with the first rows of the columns.
+abbrev pub plantIn : ℕ → List ℕ → ℕ → Columns → Plant
+plantIn types states rows cs = record { types = types; states = states; rows = map (rowIn cs) (below rows) }
+
+-- A table's columns, its row k, and its plant: the entries up to the counts.
+abbrev pub columnsOf : PlantTable → Columns
+columnsOf t =
+    record { machine = t .machine; left = t .left; entered = t .entered; sent = t .sent; taken = t .taken; progress = t .progress }
+
+abbrev pub rowOf : PlantTable → ℕ → Row
+rowOf t = rowIn (columnsOf t)
+
 abbrev pub plantOf : PlantTable → Plant
-plantOf t = record { types = t .types; states = take (t .machines) (t .states); rows = map (rowOf t) (below (t .rows)) }
+plantOf t = plantIn (t .types) (take (t .machines) (t .states)) (t .rows) (columnsOf t)
 
 -- Where reading ended, with the plant that was read.
 abbrev pub endFound : End → Plant → Found Plant
@@ -48,20 +68,14 @@ decodedFound d = endFound (d .end) (plantOf (d .table))
 abbrev pub rowsBefore : Plant → ℕ → ℕ
 rowsBefore p m = count (λ r. ltb (r .machine) m) (p .rows)
 
--- A table with at most so many machines, and with room for 16 machines and 1,024 rows.
-pub record Sound (t : PlantTable) (machines : ℕ) : Type 0 where
-  pub few-machines : t .machines ≤ machines
+-- A table with at most 16 machines, 1,024 rows and 64 types.
+pub record Sound (t : PlantTable) : Type 0 where
+  pub few-machines : t .machines ≤ 16
   pub few-rows : t .rows ≤ 1024
   pub few-types : t .types ≤ 64
   pub states-room : length (t .states) ≡ 16
-  pub machine-room : length (t .machine) ≡ 1024
-  pub left-room : length (t .left) ≡ 1024
-  pub entered-room : length (t .entered) ≡ 1024
-  pub sent-room : length (t .sent) ≡ 1024
-  pub taken-room : length (t .taken) ≡ 1024
-  pub progress-room : length (t .progress) ≡ 1024
 
 -- What `decode` ensures of its table: it has room, and the number of each machine's first row.
 pub record Ready (t : PlantTable) : Type 0 where
-  pub sound : Sound t 16
+  pub sound : Sound t
   pub first-row : (m : ℕ) → m ≤ 16 → getD (t .first) m 0 ≡ rowsBefore (plantOf t) m

@@ -1,13 +1,13 @@
 // Reading plant files: the bytes are judged one by one, and the first fault met decides.
 ghost use mathlib.Core.Path.{_≡_};
-ghost use mathlib.Core.Bool.{cond};
 ghost use Prim.Native.Nat.{ℕ, _+_, _^_, _≤_, _<_};
-ghost use Rattle.livelock.specs.Plants.{Plant};
-ghost use Rattle.plant.specs.Found.{found, fault, andThen, movedBy};
+ghost use lib.ListN.{length};
+ghost use Rattle.livelock.specs.Plants.{Plant, rowCount, machineCount};
+ghost use Rattle.plant.specs.Found.{andThen, movedBy};
 ghost use Rattle.plant.specs.Reading.{byteAt, inRange, byteIn, countByte, hasBit, isMap, mapByte, stateField, typeField, readRow};
-ghost use Rattle.plant.specs.Reading.{noMachines, withMachine, readRows, rowsByte, readMachine, readMachines, fileEnd, readPlant};
-ghost use Rattle.plant.specs.Inner.Steps.{oneIfBelow, countBefore, FirstRows, Grown, fieldFound, typeFound, rowFound, offsetOf};
-ghost use Rattle.plant.specs.Tables.{plantOf, Sound, Ready, endFound, decodedFound};
+ghost use Rattle.plant.specs.Reading.{noMachines, readRows, rowsByte, readMachine, readMachines, fileEnd, readPlant};
+ghost use Rattle.plant.specs.Inner.Steps.{fieldFound, typeFound, rowFound, offsetOf, columns, Room, RowsRead, MachineRead, MachinesRead, FirstRows, Counted};
+ghost use Rattle.plant.specs.Tables.{Ready, endFound, decodedFound};
 ghost use Rattle.plant.specs.Answers.{faultFound, answerOf, countsOf};
 
 // A fault's number in document 01's table, and its place.
@@ -64,10 +64,23 @@ pub enum End {
     Fault(Fault),
 }
 
+// Where reading ended, and how many machines and rows are stored: none where there is a fault.
+pub struct Stored {
+    pub end: End,
+    pub machines: usize,
+    pub rows: usize,
+}
+
 // What was read; the table is of use where there is no fault.
 pub struct Decoded {
     pub end: End,
     pub table: PlantTable,
+}
+
+// Where reading ended, and how many rows were read; the count is of use where there is no fault.
+pub struct Checked {
+    pub end: End,
+    pub rows: usize,
 }
 
 // The answer of the call that only reads.
@@ -96,17 +109,6 @@ fn byte_at(s: &[u8], at: usize) -> FieldStep
     })
 }
 
-// A byte that was read, if it passes its test, else the fault of this number at its place.
-fn judged(byte: Field, passes: bool, number: u8, place: usize) -> FieldStep
-    ensures { λ r. ⌜ fieldFound r ≡ cond passes (found (byte .value) (byte .next)) (fault number place) ⌝ }
-{
-    if passes {
-        FieldStep::Value(byte)
-    } else {
-        FieldStep::Fault(Fault { number, place })
-    }
-}
-
 fn in_range(b: u8, low: u8, end: u8) -> bool
     ensures { λ r. ⌜ r ≡ inRange low end b ⌝ }
 {
@@ -116,15 +118,20 @@ fn in_range(b: u8, low: u8, end: u8) -> bool
     b < end
 }
 
-// The byte at `at`, at least `low` and below `end`.
+// The byte at `at`, at least `low` and below `end`. A byte and its fault are handed back by different returns: as two arms of one
+// expression they were compiled into one computation of both offsets, which then waited for the value of the byte.
 fn byte_in(s: &[u8], at: usize, low: u8, end: u8, number: u8) -> FieldStep
     ensures { λ r. ⌜ fieldFound r ≡ byteIn low end number (now (s .entry)) at ⌝ }
 {
     let step = byte_at(s, at);
-    match step {
-        FieldStep::Fault(fault) => FieldStep::Fault(fault),
-        FieldStep::Value(byte) => judged(byte, in_range(byte.value, low, end), number, at),
+    let byte = match step {
+        FieldStep::Value(field) => field,
+        FieldStep::Fault(fault) => return FieldStep::Fault(fault),
+    };
+    if in_range(byte.value, low, end) {
+        return FieldStep::Value(byte);
     }
+    FieldStep::Fault(Fault { number, place: at })
 }
 
 // The count of machines.
@@ -154,10 +161,17 @@ fn rows_byte(s: &[u8], at: usize, used: usize) -> FieldStep
     ensures { λ r. ⌜ fieldFound r ≡ rowsByte used (now (s .entry)) at ⌝ }
 {
     let step = byte_at(s, at);
-    match step {
-        FieldStep::Fault(fault) => FieldStep::Fault(fault),
-        FieldStep::Value(byte) => judged(byte, used + byte.value as usize <= 1024, 7, at),
+    let byte = match step {
+        FieldStep::Value(field) => field,
+        FieldStep::Fault(fault) => return FieldStep::Fault(fault),
+    };
+    if used + byte.value as usize <= 1024 {
+        return FieldStep::Value(byte);
     }
+    FieldStep::Fault(Fault {
+        number: 7,
+        place: at,
+    })
 }
 
 // Whether the bit of this value stands in a map byte.
@@ -185,10 +199,17 @@ fn map_byte(s: &[u8], at: usize) -> FieldStep
     ensures { λ r. ⌜ fieldFound r ≡ mapByte (now (s .entry)) at ⌝ }
 {
     let step = byte_at(s, at);
-    match step {
-        FieldStep::Fault(fault) => FieldStep::Fault(fault),
-        FieldStep::Value(map) => judged(map, is_map(map.value), 4, at),
+    let byte = match step {
+        FieldStep::Value(field) => field,
+        FieldStep::Fault(fault) => return FieldStep::Fault(fault),
+    };
+    if is_map(byte.value) {
+        return FieldStep::Value(byte);
     }
+    FieldStep::Fault(Fault {
+        number: 4,
+        place: at,
+    })
 }
 
 // A state field, or the state that stands for it.
@@ -261,57 +282,47 @@ fn row_at(s: &[u8], at: usize, states: u8, types: u8, implied: u8) -> RowStep
     })
 }
 
-// The table with one machine more.
-fn with_machine(table: PlantTable, states: u8) -> PlantTable
-    requires { ⌜ Sound table (table .machines) × (table .machines < 16) ⌝ }
-    ensures { λ r. ⌜ Grown r (table .machines + 1) (table .rows) (withMachine (plantOf table) states) ⌝ }
+// `n` rows of machine `m`, from the part of the file that begins after its two bytes, stored behind the `used` rows so far. Here and
+// below the columns are lent and each row is stored in place: a table passed by value would be copied at each call.
+fn read_rows(
+    s: &[u8],
+    n: usize,
+    m: u8,
+    states: u8,
+    types: u8,
+    used: usize,
+    machine: &mut [u8; 1024],
+    left: &mut [u8; 1024],
+    entered: &mut [u8; 1024],
+    sent: &mut [u8; 1024],
+    taken: &mut [u8; 1024],
+    progress: &mut [bool; 1024],
+) -> End
+    requires { ⌜ Room (columns (now machine) (now left) (now entered) (now sent) (now taken) (now progress)) × (used + n ≤ 1024) × (types ≤ 64) ⌝ }
+    ensures { λ r. ⌜ RowsRead n m states types used (now (s .entry)) (columns (now (machine .entry)) (now (left .entry)) (now (entered .entry)) (now (sent .entry)) (now (taken .entry)) (now (progress .entry))) (columns (now (machine .exit)) (now (left .exit)) (now (entered .exit)) (now (sent .exit)) (now (taken .exit)) (now (progress .exit))) r ⌝ }
 {
-    let mut t = table;
-    let m = t.machines;
-    t.states[m] = states;
-    t.machines = m + 1;
-    t
-}
-
-// `n` rows of a machine, from the part of the file that begins after its two bytes. Each is stored in place: a function from
-// table to table would copy the table for each row.
-fn read_rows(s: &[u8], n: usize, machine: u8, states: u8, table: PlantTable) -> Decoded
-    requires { ⌜ Sound table (table .machines) × (table .rows + n ≤ 1024) ⌝ }
-    ensures { λ r. ⌜ decodedFound r ≡ readRows n machine states 0 (now (s .entry)) 0 (plantOf table) ⌝ }
-    ensures { λ r. ⌜ Sound (r .table) (table .machines) ⌝ }
-{
-    let mut t = table;
     let mut at = 0;
     let mut implied = 0;
     let mut i = 0;
     while i < n {
-        let step = row_at(s, at, states, t.types, implied);
+        let step = row_at(s, at, states, types, implied);
         match step {
-            RowStep::Fault(fault) => {
-                return Decoded {
-                    end: End::Fault(fault),
-                    table: t,
-                };
-            }
+            RowStep::Fault(fault) => return End::Fault(fault),
             RowStep::Value(row) => {
-                let k = t.rows;
-                t.machine[k] = machine;
-                t.left[k] = row.left;
-                t.entered[k] = row.entered;
-                t.sent[k] = row.sent;
-                t.taken[k] = row.taken;
-                t.progress[k] = row.progress;
-                t.rows = k + 1;
+                let k = used + i;
+                machine[k] = m;
+                left[k] = row.left;
+                entered[k] = row.entered;
+                sent[k] = row.sent;
+                taken[k] = row.taken;
+                progress[k] = row.progress;
                 implied = row.left;
                 at = row.next;
             }
         }
         i += 1;
     }
-    Decoded {
-        end: End::At(at),
-        table: t,
-    }
+    End::At(at)
 }
 
 // Where a part that begins at `base` ends, as an offset in the whole file.
@@ -328,81 +339,119 @@ fn moved(end: End, base: usize) -> End
     }
 }
 
-// The machine at `at`: its two bytes, and its rows.
-fn read_machine(file: &[u8], at: usize, table: PlantTable) -> Decoded
-    requires { ⌜ Sound table (table .machines) × (table .machines < 16) ⌝ }
-    ensures { λ r. ⌜ decodedFound r ≡ readMachine (now (file .entry)) at (plantOf table) ⌝ }
-    ensures { λ r. ⌜ Sound (r .table) (table .machines + 1) ⌝ }
+// The machine at `at`, which is machine `m`: its two bytes, and its rows. `rows` is the count of rows so far, and then also of these.
+fn read_machine(
+    file: &[u8],
+    at: usize,
+    m: usize,
+    types: u8,
+    rows: &mut usize,
+    states: &mut [u8; 16],
+    machine: &mut [u8; 1024],
+    left: &mut [u8; 1024],
+    entered: &mut [u8; 1024],
+    sent: &mut [u8; 1024],
+    taken: &mut [u8; 1024],
+    progress: &mut [bool; 1024],
+) -> End
+    requires { ⌜ Room (columns (now machine) (now left) (now entered) (now sent) (now taken) (now progress)) × (length (now states) ≡ 16) × (now rows ≤ 1024) × (types ≤ 64) × (m < 16) ⌝ }
+    ensures { λ r. ⌜ MachineRead (now (file .entry)) at m types (now (rows .entry)) (now (states .entry)) (columns (now (machine .entry)) (now (left .entry)) (now (entered .entry)) (now (sent .entry)) (now (taken .entry)) (now (progress .entry))) (now (rows .exit)) (now (states .exit)) (columns (now (machine .exit)) (now (left .exit)) (now (entered .exit)) (now (sent .exit)) (now (taken .exit)) (now (progress .exit))) r ⌝ }
 {
-    let m = table.machines;
-    let used = table.rows;
+    let used = *rows;
     let first = states_byte(file, at);
-    let states = match first {
+    let count = match first {
         FieldStep::Value(field) => field,
-        FieldStep::Fault(fault) => {
-            return Decoded {
-                end: End::Fault(fault),
-                table,
-            };
-        }
+        FieldStep::Fault(fault) => return End::Fault(fault),
     };
-    let second = rows_byte(file, states.next, used);
-    let count = match second {
+    let second = rows_byte(file, count.next, used);
+    let own = match second {
         FieldStep::Value(field) => field,
-        FieldStep::Fault(fault) => {
-            return Decoded {
-                end: End::Fault(fault),
-                table,
-            };
-        }
+        FieldStep::Fault(fault) => return End::Fault(fault),
     };
-    let t = with_machine(table, states.value);
-    let from = count.next;
-    let n = count.value as usize;
-    let read = read_rows(&file[from..], n, m as u8, states.value, t);
-    let inner = read.end;
-    let done = read.table;
-    let end = moved(inner, from);
-    Decoded { end, table: done }
+    let n = own.value as usize;
+    let from = own.next;
+    states[m] = count.value;
+    *rows = used + n;
+    let end = read_rows(
+        &file[from..],
+        n,
+        m as u8,
+        count.value,
+        types,
+        used,
+        machine,
+        left,
+        entered,
+        sent,
+        taken,
+        progress,
+    );
+    moved(end, from)
 }
 
-// `n` machines from `from` on.
-fn read_machines(file: &[u8], n: usize, from: usize, start: PlantTable) -> Decoded
-    requires { ⌜ Sound start 0 × (n ≤ 16) ⌝ }
-    ensures { λ r. ⌜ decodedFound r ≡ readMachines n (now (file .entry)) from (plantOf start) ⌝ }
-    ensures { λ r. ⌜ Sound (r .table) 16 ⌝ }
+// `n` machines from `from` on. The first row of a machine is the count of rows before its own.
+fn read_machines(
+    file: &[u8],
+    n: usize,
+    from: usize,
+    types: u8,
+    states: &mut [u8; 16],
+    first: &mut [u16; 17],
+    machine: &mut [u8; 1024],
+    left: &mut [u8; 1024],
+    entered: &mut [u8; 1024],
+    sent: &mut [u8; 1024],
+    taken: &mut [u8; 1024],
+    progress: &mut [bool; 1024],
+) -> Stored
+    requires { ⌜ Room (columns (now machine) (now left) (now entered) (now sent) (now taken) (now progress)) × (length (now states) ≡ 16) × (length (now first) ≡ 17) × (types ≤ 64) × (n ≤ 16) ⌝ }
+    ensures { λ r. ⌜ MachinesRead n (now (file .entry)) from types (now (states .exit)) (now (first .exit)) (columns (now (machine .exit)) (now (left .exit)) (now (entered .exit)) (now (sent .exit)) (now (taken .exit)) (now (progress .exit))) r ⌝ }
 {
-    let mut t = start;
     let mut at = from;
+    let mut rows = 0;
     let mut i = 0;
     while i < n {
-        let read = read_machine(file, at, t);
-        t = read.table;
-        let end = read.end;
+        let before = rows;
+        let end = read_machine(
+            file,
+            at,
+            i,
+            types,
+            &mut rows,
+            states,
+            machine,
+            left,
+            entered,
+            sent,
+            taken,
+            progress,
+        );
         match end {
             End::Fault(fault) => {
-                return Decoded {
+                return Stored {
                     end: End::Fault(fault),
-                    table: t,
+                    machines: 0,
+                    rows: 0,
                 };
             }
             End::At(next) => {
                 at = next;
             }
         }
+        first[i] = before as u16;
         i += 1;
     }
-    Decoded {
+    Stored {
         end: End::At(at),
-        table: t,
+        machines: n,
+        rows,
     }
 }
 
-// A table of which only the count of types is read.
-fn blank(types: u8) -> PlantTable
-    requires { ⌜ types ≤ 64 ⌝ }
-    ensures { λ r. ⌜ (plantOf r ≡ noMachines types) × (r .machines ≡ 0) ⌝ }
-    ensures { λ r. ⌜ Ready r ⌝ }
+// A refusal, with a table that holds nothing.
+fn refused(fault: Fault) -> Decoded
+    ensures { λ r. ⌜ decodedFound r ≡ faultFound fault ⌝ }
+    ensures { λ r. ⌜ Ready (r .table) ⌝ }
 {
     let states = [0; 16];
     let first = [0; 17];
@@ -412,30 +461,21 @@ fn blank(types: u8) -> PlantTable
     let sent = [0; 1024];
     let taken = [0; 1024];
     let progress = [false; 1024];
-    PlantTable {
-        types,
-        machines: 0,
-        rows: 0,
-        states,
-        first,
-        machine,
-        left,
-        entered,
-        sent,
-        taken,
-        progress,
-    }
-}
-
-// A refusal, with a table that holds nothing.
-fn refused(fault: Fault) -> Decoded
-    ensures { λ r. ⌜ decodedFound r ≡ faultFound fault ⌝ }
-    ensures { λ r. ⌜ Ready (r .table) ⌝ }
-{
-    let table = blank(0);
     Decoded {
         end: End::Fault(fault),
-        table,
+        table: PlantTable {
+            types: 0,
+            machines: 0,
+            rows: 0,
+            states,
+            first,
+            machine,
+            left,
+            entered,
+            sent,
+            taken,
+            progress,
+        },
     }
 }
 
@@ -458,42 +498,65 @@ fn at_file_end(file: &[u8], end: End) -> End
     }
 }
 
-fn one_if_below(a: u8, b: u8) -> u16
-    ensures { λ r. ⌜ r ≡ oneIfBelow a b ⌝ }
+// The entries of `first` behind the last machine's: the count of rows.
+fn fill_first(first: &mut [u16; 17], machines: usize, rows: usize)
+    requires { ⌜ (length (now first) ≡ 17) × (machines ≤ 16) × (rows ≤ 1024) ⌝ }
+    ensures { λ r. ⌜ ((p : Plant) → rowCount p ≡ rows → FirstRows (now (first .entry)) machines p → FirstRows (now (first .exit)) 17 p) ⌝ }
 {
-    if a < b {
-        return 1;
-    }
-    0
-}
-
-// How many of the first rows belong to machines before `m`.
-fn rows_before(machine: &[u8; 1024], rows: usize, m: u8) -> u16
-    requires { ⌜ rows ≤ 1024 ⌝ }
-    ensures { λ r. ⌜ r ≡ countBefore (now (machine .entry)) m rows ⌝ }
-{
-    let mut count = 0;
-    let mut k = 0;
-    while k < rows {
-        count += one_if_below(machine[k], m);
-        k += 1;
-    }
-    count
-}
-
-// Each machine's first row, and behind the last machine's the count of rows.
-fn first_rows(machine: &[u8; 1024], rows: usize) -> [u16; 17]
-    requires { ⌜ rows ≤ 1024 ⌝ }
-    ensures { λ r. ⌜ FirstRows (now (machine .entry)) rows 17 r ⌝ }
-{
-    let mut first = [0; 17];
-    let mut m: u8 = 0;
+    let mut m = machines;
     while m < 17 {
-        let at = m as usize;
-        first[at] = rows_before(machine, rows, m);
+        first[m] = rows as u16;
         m += 1;
     }
-    first
+}
+
+// The machines of a file, `n` of them from `from` on, and its end. The columns are locals of this function and lent to those that read.
+fn read_table(file: &[u8], n: usize, types: u8, from: usize) -> Decoded
+    requires { ⌜ (n ≤ 16) × (types ≤ 64) ⌝ }
+    ensures { λ r. ⌜ decodedFound r ≡ andThen (readMachines n (now (file .entry)) from (noMachines types)) (fileEnd (now (file .entry))) ⌝ }
+    ensures { λ r. ⌜ Ready (r .table) ⌝ }
+{
+    let mut states = [0; 16];
+    let mut first = [0; 17];
+    let mut machine = [0; 1024];
+    let mut left = [0; 1024];
+    let mut entered = [0; 1024];
+    let mut sent = [0; 1024];
+    let mut taken = [0; 1024];
+    let mut progress = [false; 1024];
+    let read = read_machines(
+        file,
+        n,
+        from,
+        types,
+        &mut states,
+        &mut first,
+        &mut machine,
+        &mut left,
+        &mut entered,
+        &mut sent,
+        &mut taken,
+        &mut progress,
+    );
+    let last = read.end;
+    fill_first(&mut first, read.machines, read.rows);
+    let end = at_file_end(file, last);
+    Decoded {
+        end,
+        table: PlantTable {
+            types,
+            machines: read.machines,
+            rows: read.rows,
+            states,
+            first,
+            machine,
+            left,
+            entered,
+            sent,
+            taken,
+            progress,
+        },
+    }
 }
 
 // The plant of a file, or the first fault, for the crates that work on plants.
@@ -511,29 +574,125 @@ pub fn decode(file: &[u8]) -> Decoded
         FieldStep::Value(field) => field,
         FieldStep::Fault(fault) => return refused(fault),
     };
-    let start = blank(types.value);
-    let read = read_machines(file, machines.value as usize, types.next, start);
-    let mut table = read.table;
-    let last = read.end;
-    let end = at_file_end(file, last);
-    let first = first_rows(&table.machine, table.rows);
-    table.first = first;
-    Decoded { end, table }
+    read_table(file, machines.value as usize, types.value, types.next)
+}
+
+// Where `n` rows of a machine end, in the part of the file that begins after its two bytes. No row is stored, so the machine's
+// number and the plant so far may be any.
+fn check_rows(s: &[u8], n: usize, states: u8, types: u8) -> End
+    requires { ⌜ types ≤ 64 ⌝ }
+    ensures { λ r. ⌜ ((m : ℕ) (p : Plant) → p .types ≡ types → Counted (machineCount p) types (rowCount p + n) (readRows n m states 0 (now (s .entry)) 0 p) r) ⌝ }
+{
+    let mut at = 0;
+    let mut left = 0;
+    let mut i = 0;
+    while i < n {
+        let step = row_at(s, at, states, types, left);
+        match step {
+            RowStep::Fault(fault) => {
+                return End::Fault(fault);
+            }
+            RowStep::Value(row) => {
+                left = row.left;
+                at = row.next;
+            }
+        }
+        i += 1;
+    }
+    End::At(at)
+}
+
+// Where the machine at `at` ends, after so many rows of other machines, and the rows with it.
+fn check_machine(file: &[u8], at: usize, types: u8, used: usize) -> Checked
+    requires { ⌜ (types ≤ 64) × (used ≤ 1024) ⌝ }
+    ensures { λ r. ⌜ ((p : Plant) → p .types ≡ types → rowCount p ≡ used → Counted (machineCount p + 1) types (r .rows) (readMachine (now (file .entry)) at p) (r .end)) ⌝ }
+    ensures { λ r. ⌜ r .rows ≤ 1024 ⌝ }
+{
+    let first = states_byte(file, at);
+    let states = match first {
+        FieldStep::Value(field) => field,
+        FieldStep::Fault(fault) => {
+            return Checked {
+                end: End::Fault(fault),
+                rows: used,
+            };
+        }
+    };
+    let second = rows_byte(file, states.next, used);
+    let count = match second {
+        FieldStep::Value(field) => field,
+        FieldStep::Fault(fault) => {
+            return Checked {
+                end: End::Fault(fault),
+                rows: used,
+            };
+        }
+    };
+    let from = count.next;
+    let n = count.value as usize;
+    let inner = check_rows(&file[from..], n, states.value, types);
+    let end = moved(inner, from);
+    Checked {
+        end,
+        rows: used + n,
+    }
+}
+
+// Where `n` machines from `from` on end, and how many rows they have.
+fn check_machines(file: &[u8], n: usize, from: usize, types: u8) -> Checked
+    requires { ⌜ types ≤ 64 ⌝ }
+    ensures { λ r. ⌜ Counted n types (r .rows) (readMachines n (now (file .entry)) from (noMachines types)) (r .end) ⌝ }
+{
+    let mut at = from;
+    let mut rows = 0;
+    let mut i = 0;
+    while i < n {
+        let checked = check_machine(file, at, types, rows);
+        rows = checked.rows;
+        let end = checked.end;
+        match end {
+            End::Fault(fault) => {
+                return Checked {
+                    end: End::Fault(fault),
+                    rows,
+                };
+            }
+            End::At(next) => {
+                at = next;
+            }
+        }
+        i += 1;
+    }
+    Checked {
+        end: End::At(at),
+        rows,
+    }
 }
 
 // The counts of machines, types and rows of a plant file, or the first fault.
 pub fn read(file: &[u8]) -> Reading
     ensures { λ r. ⌜ answerOf r ≡ countsOf (readPlant (now (file .entry))) ⌝ }
 {
-    let decoded = decode(file);
-    let t = decoded.table;
-    let end = decoded.end;
+    let first = machines_byte(file, 0);
+    let machines = match first {
+        FieldStep::Value(field) => field,
+        FieldStep::Fault(fault) => return Reading::Refused(fault),
+    };
+    let second = types_byte(file, machines.next);
+    let types = match second {
+        FieldStep::Value(field) => field,
+        FieldStep::Fault(fault) => return Reading::Refused(fault),
+    };
+    let n = machines.value as usize;
+    let checked = check_machines(file, n, types.next, types.value);
+    let last = checked.end;
+    let end = at_file_end(file, last);
     match end {
         End::Fault(fault) => Reading::Refused(fault),
         End::At(_) => Reading::Counts {
-            machines: t.machines,
-            types: t.types,
-            rows: t.rows,
+            machines: n,
+            types: types.value,
+            rows: checked.rows,
         },
     }
 }

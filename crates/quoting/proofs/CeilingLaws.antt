@@ -13,13 +13,12 @@ use Rattle.livelock.specs.Figures.{mostStates, perProgress, contentsWeight}
 use Rattle.livelock.specs.Cycles.{RowOf}
 use Rattle.livelock.proofs.ListLaws.{all-below, all-at}
 use Rattle.livelock.proofs.SumLaws.{sum-equal}
-use Rattle.plant.specs.Found.{Found, found, fault, andThen}
+use Rattle.plant.specs.Found.{found, andThen}
 use Rattle.plant.specs.Limits.{WithinLimits}
 use Rattle.plant.specs.Reading.{byteAt, byteThat, byteIn, readRows, rowsByte, readMachine, readMachines, readPlant}
-use Rattle.weighing.specs.Weighing.{firstAbove, checkedSizes, checkedWeights, checkedRoom, Bounded}
-use Rattle.weighing.specs.Weighing as weighing
+use Rattle.weighing.specs.Weighing.{firstAbove, checkedSizes, checkedWeights, judgedWeights, Bounded}
 use Rattle.weighing.proofs.FigureLaws.{most-limit, base-limit, per-progress-limit}
-use Rattle.weighing.proofs.WeighingLaws.{no-plant, judged-good}
+use Rattle.weighing.proofs.WeighingLaws.{then-then, then-found, judged-weights}
 use Rattle.quoting.specs.Classes.{edges, classOf}
 use Rattle.quoting.specs.Quoting.{content, checkedAmounts, checkedContents, checked, judged, ceilingFor, OpensWith, IsCeiling, largestCeiling}
 use Rattle.quoting.specs.Inner.Checks.{AllAtMost}
@@ -45,24 +44,10 @@ bound-for P ws contents g bounded c events opens few =
 
 -- ---- checks after checks
 
--- What is found after another thing was found.
-pub then-found : (x : Found Plant) (k : Plant → ℕ → Found Plant) (P : Plant) (end : ℕ) → andThen x k ≡ found P end
-    → (Q : Plant) × (next : ℕ) × (x ≡ found Q next) × (k Q next ≡ found P end)
-then-found (found Q next) k P end e = (Q, next, refl, e)
-then-found (fault number place) k P end e = no-plant number place P end e
-
--- Quoting judges as weighing does with a list of 64 entries, and then the contents and g.
-pub judged-after : (file ws contents : List ℕ) (g : ℕ) → andThen (weighing.judged file ws 64) (checkedContents contents g) ≡ judged file ws contents g
-unfolding checked weighing.checked checkedRoom
-judged-after file ws contents g = of-file (readPlant file)
-  where
-    of-weights : (x : Found Plant) → andThen (andThen x (checkedRoom 64)) (checkedContents contents g) ≡ andThen x (checkedContents contents g)
-    of-weights (found P end) = refl
-    of-weights (fault number place) = refl
-
-    of-file : (x : Found Plant) → andThen (andThen x (weighing.checked ws 64)) (checkedContents contents g) ≡ andThen x (checked ws contents g)
-    of-file (found P end) = of-weights (checkedWeights ws P end)
-    of-file (fault number place) = refl
+-- Quoting judges the weights as weighing does, and then the contents and g.
+pub judged-after : (file ws contents : List ℕ) (g : ℕ) → andThen (judgedWeights file ws) (checkedContents contents g) ≡ judged file ws contents g
+unfolding checked
+judged-after file ws contents g = then-then (readPlant file) (checkedWeights ws) (checkedContents contents g)
 
 -- ---- the largest ceiling
 
@@ -76,8 +61,8 @@ pub record Within (ws contents : List ℕ) (g : ℕ) (P : Plant) : Type 0 where
 -- Input that is judged to be a plant is within the limits.
 pub judged-within : (file ws contents : List ℕ) (g : ℕ) (P : Plant) (end : ℕ) → judged file ws contents g ≡ found P end → Within ws contents g P
 judged-within file ws contents g P end e =
-    let x = then-found (weighing.judged file ws 64) (checkedContents contents g) P end (judged-after file ws contents g ∙ e) in
-    let w = judged-good file ws 64 (x .0) (x .1) (x .2) in
+    let x = then-found (judgedWeights file ws) (checkedContents contents g) P end (judged-after file ws contents g ∙ e) in
+    let w = judged-weights file ws (x .0) (x .1) (x .2) in
     let a = contents-good contents g (x .0) P (x .1) end (x .3) in
     record {
       limits = subst WithinLimits (a .same) (w .0);
@@ -129,6 +114,7 @@ pub record LargestAttained : Type 0 where
   pub ceiling : ceilingFor largestPlant largestWeights largestContents 1000000 ≡ largestCeiling
   pub class : classOf largestCeiling ≡ 43
 
+-- All of this holds.
 pub largest-attained : LargestAttained
 unfolding bareMachines below sum greatest byteAt byteThat byteIn readRows rowsByte readMachine readMachines readPlant firstAbove checkedSizes checkedWeights checkedAmounts checkedContents checked edges classOf
 largest-attained =

@@ -1,19 +1,20 @@
--- Laws of the edges: the doubling rule of the table, and counting the edges not above a ceiling.
+-- Laws of the edges: the doubling rule of the table, counting the edges not above a ceiling, and the first edge above it.
 use mathlib.Core.Path.{_≡_, refl, sym, ap, _∙_}
 use mathlib.Core.Bool.{Bool, true, false, _&&_, cond}
 use mathlib.Core.List.{List, [], _∷_}
-use Prim.Native.Nat.{ℕ, zero, suc, _*_, _^_, _≤_, _<_}
-use native.Mathlib.Nat.{not-suc-le-zero, le-of-suc-le-suc, mul-one, one-mul, mul-assoc, mul-comm, pow-suc}
+use Prim.Native.Nat.{ℕ, zero, suc, _+_, _*_, _^_, _≤_, _<_, min}
+use native.Mathlib.Nat.{not-suc-le-zero, le-of-suc-le-suc, add-zero, mul-one, one-mul, mul-assoc, mul-comm, pow-suc}
+use native.Mathlib.Decide.{decLt}
 use native.Mathlib.Omega.{arith}
-use borrow.Author.Tests.{eqb-true}
+use borrow.Author.Tests.{eqb-true, le-leb, lt-leb}
 use lib.Dec.{leb, eqb}
 use lib.ListN.{length, getD}
-use Rattle.livelock.specs.Lists.{below, sum}
+use lib.Pow.{pow-mono}
+use Rattle.livelock.specs.Lists.{below, count}
+use Rattle.livelock.proofs.SumLaws.{sum-map, sum-next}
 use Rattle.livelock.proofs.Tests.{and-iff}
-use Rattle.plant.proofs.FirstRowLaws.{sum-map}
-use Rattle.weighing.proofs.FigureLaws.{sum-limit}
+use Rattle.weighing.proofs.FigureLaws.{sum-none, sum-limit}
 use Rattle.quoting.specs.Classes.{edges, classOf}
-use Rattle.quoting.specs.Inner.Checks.{oneIfNotAbove}
 
 -- ---- the doubling rule
 
@@ -49,13 +50,13 @@ edge-is k h = doubled 1 table refl k h ∙ one-mul _
 
 -- ---- counting
 
--- How many of the first k edges are not above the ceiling.
+-- How many of the first n edges are not above the ceiling.
 abbrev pub edgesNotAbove : ℕ → ℕ → ℕ
-edgesNotAbove k ceiling = sum (λ i. oneIfNotAbove (2 ^ i) ceiling) (below k)
+edgesNotAbove n ceiling = count (λ k. leb (2 ^ k) ceiling) (below n)
 
--- They are at most k.
-pub edges-limit : (k ceiling : ℕ) → edgesNotAbove k ceiling ≤ k
-edges-limit k ceiling = omega (arith, sum-limit (λ i. oneIfNotAbove (2 ^ i) ceiling) 1 k (λ i l. at-most-one (leb (2 ^ i) ceiling)))
+-- They are at most n.
+pub edges-limit : (n ceiling : ℕ) → edgesNotAbove n ceiling ≤ n
+edges-limit n ceiling = omega (arith, sum-limit (λ k. cond (leb (2 ^ k) ceiling) 1 0) 1 n (λ k l. at-most-one (leb (2 ^ k) ceiling)))
   where
     at-most-one : (b : Bool) → cond b 1 0 ≤ 1
     at-most-one true = omega arith
@@ -64,4 +65,38 @@ edges-limit k ceiling = omega (arith, sum-limit (λ i. oneIfNotAbove (2 ^ i) cei
 -- The class counts all 43.
 pub class-is : (ceiling : ℕ) → classOf ceiling ≡ edgesNotAbove 43 ceiling
 unfolding classOf edges
-class-is ceiling = sum-map (λ edge. oneIfNotAbove edge ceiling) (λ k. 2 ^ k) (below 43)
+class-is ceiling = sum-map (λ edge. cond (leb edge ceiling) 1 0) (λ k. 2 ^ k) (below 43)
+
+-- ---- the first edge above the ceiling
+
+-- Edges rise: where edge k is not above the ceiling, the edges before it are not.
+pub none-before : (k ceiling : ℕ) → 2 ^ k ≤ ceiling → (i : ℕ) → i < k + 1 → 2 ^ i ≤ ceiling
+none-before k ceiling h i l =
+    let before : i ≤ k = omega arith in
+    omega (arith, pow-mono before)
+
+module _ (n ceiling : ℕ) where
+  -- An edge that is not above the ceiling counts,
+  edge-counts : 2 ^ n ≤ ceiling → edgesNotAbove (suc n) ceiling ≡ edgesNotAbove n ceiling + 1
+  edge-counts h = rw (le-leb (2 ^ n) ceiling h) at (sum-next (λ k. cond (leb (2 ^ k) ceiling) 1 0) n)
+
+  -- and one that is above it does not.
+  edge-left-out : ceiling < 2 ^ n → edgesNotAbove (suc n) ceiling ≡ edgesNotAbove n ceiling
+  edge-left-out h = rw (lt-leb (2 ^ n) ceiling h, add-zero) at (sum-next (λ k. cond (leb (2 ^ k) ceiling) 1 0) n)
+
+-- No edge before k is above the ceiling.
+module _ (k ceiling : ℕ) (none : (i : ℕ) → i < k → 2 ^ i ≤ ceiling) where
+  -- Where edge k is above it, so are the later ones, and of the first n edges those before k count.
+  first-counted : (n : ℕ) → (k < n → ceiling < 2 ^ k) → edgesNotAbove n ceiling ≡ min n k
+  first-counted zero above = omega (arith, sum-none (λ k. cond (leb (2 ^ k) ceiling) 1 0))
+  first-counted (suc n) above = go (decLt n k) (first-counted n (λ l. above (omega arith)))
+    where
+      go : Dec (n < k) → edgesNotAbove n ceiling ≡ min n k → edgesNotAbove (suc n) ceiling ≡ min (suc n) k
+      go (yes l) so-far = omega (arith, edge-counts n ceiling (none n l))
+      go (no l) so-far =
+          let from : k ≤ n = omega arith in
+          omega (arith, edge-left-out n ceiling (omega (arith, above (omega arith), pow-mono from)))
+
+  -- So the class is k, where edge k is above the ceiling or there are no more edges.
+  pub first-is-class : k ≤ 43 → (k < 43 → ceiling < 2 ^ k) → k ≡ classOf ceiling
+  first-is-class l above = omega (arith, class-is ceiling, first-counted 43 above)

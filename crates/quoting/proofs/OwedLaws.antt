@@ -1,4 +1,4 @@
--- Laws of what is owed: what follows the checks of the contents and g, and the whole answer made of that of weighing.
+-- Laws of what is owed: what follows the checks of the contents and g, and the whole answer made of the verdict of weighing.
 use mathlib.Core.Path.{_≡_, refl, sym, ap, _∙_, subst}
 use mathlib.Core.Logic.{_↔_, _⊎_, inl, inr}
 use mathlib.Core.Bool.{Bool, true, false, cond, false≢true}
@@ -12,25 +12,23 @@ use Rattle.livelock.specs.Figures.{mostStates, perProgress}
 use Rattle.livelock.specs.Figures as Figures
 use Rattle.livelock.proofs.Decision.{decision, not-both}
 use Rattle.plant.specs.Found.{Found, found, fault, andThen}
-use Rattle.plant.specs.Limits.{WithinLimits}
 use Rattle.plant.specs.Reading.{noMachines}
 use Rattle.plant.specs.declared.Fault.{Fault}
 use Rattle.plant.proofs.OneToOne.{same-fault}
-use Rattle.weighing.specs.Weighing.{firstAbove}
-use Rattle.weighing.specs.Weighing as weighing
+use Rattle.weighing.specs.Weighing.{firstAbove, judgedWeights, OnPassingVerdict, OwedVerdict}
 use Rattle.weighing.specs.Answers as weighed
-use Rattle.weighing.specs.declared.Weighed.{Weighed}
+use Rattle.weighing.specs.declared.Verdict.{Verdict}
 use Rattle.weighing.proofs.FigureLaws.{most-limit, base-limit, per-progress-limit}
-use Rattle.weighing.proofs.WeighingLaws.{Good, no-plant, judged-good}
+use Rattle.weighing.proofs.WeighingLaws.{no-plant, then-found, judged-weights, verdict-refused, verdict-fails, verdict-passes}
 use Rattle.quoting.specs.Answers.{Answer, quoted, refused, answerOf}
 use Rattle.quoting.specs.Classes.{classOf}
-use Rattle.quoting.specs.Quoting.{amounts, checkedAmounts, checkedContents, judged, ceilingFor, OnPassing, Owed, for-fault, for-plant, largestCeiling}
+use Rattle.quoting.specs.Quoting.{amounts, checkedAmounts, checkedContents, judged, ceilingFor, Owed, for-fault, for-plant, largestCeiling}
 use Rattle.quoting.specs.Inner.Checks.{AllAtMost, weightOfContents, Checks, Priced, FiguresFit, quotedFor, OwedChecked}
 use Rattle.quoting.specs.declared.Check.the-variants as CheckVariants
 use Rattle.quoting.specs.declared.Quoted.{Quoted}
 use Rattle.quoting.specs.declared.Quoted.the-variants as QuotedVariants
 use Rattle.quoting.proofs.AmountLaws.{none-above, contents-good}
-use Rattle.quoting.proofs.CeilingLaws.{bound-for, then-found, judged-after, judged-within}
+use Rattle.quoting.proofs.CeilingLaws.{bound-for, judged-after, judged-within}
 use Rattle.quoting.proofs.CeilingLaws.{largestFile, largestWeights, largestContents, largestPlant, largest-attained}
 
 -- ---- after the checks of the contents and g
@@ -72,144 +70,93 @@ module _ (passes : Bool) (base states progress : ℕ) (ws contents : List ℕ) (
       go true false e = owed e
       go false y e = for-fault e
 
--- ---- what weighing said
-
--- The answer is no refusal.
-abbrev Weighs : weighed.Answer → Type 0
-Weighs (weighed.passed F n G) = Unit {0}
-Weighs (weighed.cycle k) = Unit {0}
-Weighs (weighed.refused number place) = ⊥
-
--- The answer has figures.
-abbrev Passed : weighed.Answer → Type 0
-Passed (weighed.passed F n G) = Unit {0}
-Passed (weighed.cycle k) = ⊥
-Passed (weighed.refused number place) = ⊥
-
--- What is owed for a call's result r is owed for what r is.
-pub owed-told : {ws before after : List ℕ} {x : Found Plant} {r r′ : Weighed} → weighing.Owed ws before after (weighed.answerOf r) x
-    → r ≡ r′ → weighing.Owed ws before after (weighed.answerOf r′) x
-owed-told {ws} {before} {after} {x} owed e = subst (λ (y : Weighed). weighing.Owed ws before after (weighed.answerOf y) x) e owed
-
--- What weighing owes for x.
-module _ {ws before after : List ℕ} {a : weighed.Answer} where
-  -- An answer that is no refusal is owed for a plant.
-  weighs-plant : (x : Found Plant) → weighing.Owed ws before after a x → Weighs a → (P : Plant) × (end : ℕ) × (x ≡ found P end)
-  weighs-plant (fault number place) (weighing.for-fault h) w = absurd (subst Weighs (h .refusal) w)
-  weighs-plant (found P end) owed w = (P, end, refl)
-
-  -- An answer without figures is owed only where the weights do not pass,
-  not-passing : (P : Plant) (end : ℕ) → weighing.Owed ws before after a (found P end) → (Passed a → ⊥) → Passes P ws → ⊥
-  not-passing P end (weighing.for-plant passing failing) n p = n (subst Passed (sym (passing p .figures)) tt)
-
-  -- and one with figures only where they do.
-  passing-weights : (P : Plant) (end : ℕ) → WellFormed P → weighing.Owed ws before after a (found P end) → Passed a → Passes P ws × weighing.OnPassing P ws before after a
-  passing-weights P end formed (weighing.for-plant passing failing) w = go (decision P formed ws)
-    where
-      go : Passes P ws ⊎ ((c : List ℕ) × FailingCycle P ws c) → Passes P ws × weighing.OnPassing P ws before after a
-      go (inl p) = (p, passing p)
-      go (inr x) = absurd (subst Passed (failing (λ p. not-both P ws (x .0) p (x .1)) .count) w)
-
 -- ---- the whole answer
 
--- Quoting finds what weighing finds with a list of 64 entries, and then checks the contents and g (`judged-after`). So a fault of weighing
--- is the fault; and where weighing says "passed" or "cycle", its own promise says which plant was weighed and whether its weights pass,
--- and the answer for that plant is what the private functions promise for every plant with so many types.
+-- Quoting finds what judging the weights finds, and then checks the contents and g (`judged-after`). So a fault of the verdict is the fault;
+-- and where it says whether the weights pass, its own promise says in which plant, and the answer for that plant is what the private
+-- functions promise for every plant with so many types.
 
--- The plant that was weighed, where weighing refused nothing.
-record WeighedPlant (file ws before after : List ℕ) (a : weighed.Answer) : Type 0 where
-  plant : Plant
-  end : ℕ
-  is : weighing.judged file ws 64 ≡ found plant end
-  limits : WithinLimits plant
-  good : Good ws plant plant
-  owed : weighing.Owed ws before after a (found plant end)
+-- What is owed for a call's result r is owed for what r is.
+pub owed-told : {ws : List ℕ} {x : Found Plant} {r r′ : Verdict} → OwedVerdict ws (weighed.judgementOf r) x → r ≡ r′ → OwedVerdict ws (weighed.judgementOf r′) x
+owed-told {ws} {x} owed e = subst (λ (y : Verdict). OwedVerdict ws (weighed.judgementOf y) x) e owed
 
-module _ (file ws before after : List ℕ) (a : weighed.Answer) (owed : weighing.Owed ws before after a (weighing.judged file ws 64)) (weighs : Weighs a) where
-  -- There is such a plant,
-  weighed-plant : WeighedPlant file ws before after a
-  weighed-plant =
-      let x = weighs-plant (weighing.judged file ws 64) owed weighs in
-      let w = judged-good file ws 64 (x .0) (x .1) (x .2) in
-      record {
-        plant = x .0;
-        end = x .1;
-        is = x .2;
-        limits = w .0;
-        good = w .1;
-        owed = subst (λ (y : Found Plant). weighing.Owed ws before after a y) (x .2) owed;
-      }
+-- The plant that was judged.
+module _ (file ws : List ℕ) (P : Plant) (end : ℕ) (is : judgedWeights file ws ≡ found P end) where
+  -- There is one weight for each of its types,
+  one-each : P .types ≡ length ws
+  one-each = sym (judged-weights file ws P end is .1 .one-each)
 
-  -- so the weights are at most 64, none above 1,000.
-  pub weights-good : (length ws ≤ 64) × AllAtMost 1000 ws
-  weights-good =
-      let w = weighed-plant in
-      (subst (λ (n : ℕ). n ≤ 64) (sym (w .good .one-each)) (w .limits .few-types), none-above 1000 ws (w .good .light))
+  -- so the weights are at most 64, and none is above 1,000.
+  weights-fit : (length ws ≤ 64) × AllAtMost 1000 ws
+  weights-fit =
+      let w = judged-weights file ws P end is in
+      (subst (λ (n : ℕ). n ≤ 64) one-each (w .0 .few-types), none-above 1000 ws (w .1 .light))
 
-module _ (file ws before after contents : List ℕ) (g : ℕ) where
-  -- What is owed for the plant that was weighed, its contents and g checked, is owed for the input.
-  for-input : {P : Plant} {end : ℕ} (b : Answer) → weighing.judged file ws 64 ≡ found P end
-      → Owed ws contents g b (checkedContents contents g P end) → Owed ws contents g b (judged file ws contents g)
-  for-input b is h =
+  -- What is owed for the plant, its contents and g checked, is owed for the input.
+  for-input : (contents : List ℕ) (g : ℕ) (b : Answer) → Owed ws contents g b (checkedContents contents g P end) → Owed ws contents g b (judged file ws contents g)
+  for-input contents g b h =
       subst (Owed ws contents g b) (ap (λ (y : Found Plant). andThen y (checkedContents contents g)) (sym is) ∙ judged-after file ws contents g) h
 
+module _ (file ws contents : List ℕ) (g : ℕ) where
   -- A fault of the file or of the weights is the answer.
-  pub quote-refused : (number place : ℕ) → weighing.Owed ws before after (weighed.refused number place) (weighing.judged file ws 64)
-      → Owed ws contents g (refused number place) (judged file ws contents g)
-  quote-refused number place owed = subst (Owed ws contents g (refused number place)) (judged-after file ws contents g) (go (weighing.judged file ws 64) owed)
-    where
-      go : (x : Found Plant) → weighing.Owed ws before after (weighed.refused number place) x → Owed ws contents g (refused number place) (andThen x (checkedContents contents g))
-      go (fault n q) (weighing.for-fault h) =
-          let r = h .refusal in
-          let e : refused number place ≡ refused n q = cc in
-          for-fault e
-      go (found P end) (weighing.for-plant passing failing) =
-          absurd (subst Weighs (sym (failing (λ p. subst Passed (sym (passing p .figures)) tt) .count)) tt)
+  pub quote-refused : (number place : ℕ) → OwedVerdict ws (weighed.refusing number place) (judgedWeights file ws) → Owed ws contents g (refused number place) (judged file ws contents g)
+  quote-refused number place owed =
+      subst (Owed ws contents g (refused number place))
+      (ap (λ (y : Found Plant). andThen y (checkedContents contents g)) (verdict-refused (judgedWeights file ws) owed) ∙ judged-after file ws contents g)
+      (for-fault refl)
 
-  -- Where a cycle was shown, the weights do not pass.
-  pub quote-failing : (k : ℕ) (b : Answer) → weighing.Owed ws before after (weighed.cycle k) (weighing.judged file ws 64)
-      → OwedChecked false 0 0 0 ws contents g b → Owed ws contents g b (judged file ws contents g)
-  quote-failing k b owed given =
-      let w = weighed-plant file ws before after (weighed.cycle k) owed tt in
-      for-input b (w .is)
-      (checked-owed false 0 0 0 ws contents g b (w .plant) (w .end) (sym (w .good .one-each)) given
-      (λ e. for-plant (λ p. absurd (not-passing (w .plant) (w .end) (w .owed) (λ n. n) p)) (λ n. e)))
+  -- Where the weights do not pass, they are within their limits,
+  module _ (owed : OwedVerdict ws weighed.failing (judgedWeights file ws)) where
+    pub failing-weights : (length ws ≤ 64) × AllAtMost 1000 ws
+    failing-weights = let x = verdict-fails (judgedWeights file ws) owed in weights-fit file ws (x .0) (x .1) (x .2)
 
-  module _ (F n G : ℕ) (owed : weighing.Owed ws before after (weighed.passed F n G) (weighing.judged file ws 64)) where
+    -- and 22 is owed after the checks.
+    pub quote-failing : (b : Answer) → OwedChecked false 0 0 0 ws contents g b → Owed ws contents g b (judged file ws contents g)
+    quote-failing b given =
+        let x = verdict-fails (judgedWeights file ws) owed in
+        for-input file ws (x .0) (x .1) (x .2) contents g b
+        (checked-owed false 0 0 0 ws contents g b (x .0) (x .1) (one-each file ws (x .0) (x .1) (x .2)) given (λ e. for-plant (λ p. absurd (x .3 p)) (λ n. e)))
+
+  module _ (F n G : ℕ) (owed : OwedVerdict ws (weighed.passing F n G) (judgedWeights file ws)) where
     -- Where figures were handed back, the weights pass,
-    passing-plant : (w : WeighedPlant file ws before after (weighed.passed F n G)) → Passes (w .plant) ws × weighing.OnPassing (w .plant) ws before after (weighed.passed F n G)
-    passing-plant w = passing-weights (w .plant) (w .end) (w .limits .formed) (w .owed) tt
+    passing-plant : (P : Plant) × (end : ℕ) × (judgedWeights file ws ≡ found P end) × Passes P ws × OnPassingVerdict P ws (weighed.passing F n G)
+    passing-plant = verdict-passes (judgedWeights file ws) (λ P end e. judged-weights file ws P end e .0 .formed) owed
+
+    -- they are within their limits,
+    pub passing-weights : (length ws ≤ 64) × AllAtMost 1000 ws
+    passing-weights = let x = passing-plant in weights-fit file ws (x .0) (x .1) (x .2)
 
     -- the figures are the plant's,
-    figures-are : (w : WeighedPlant file ws before after (weighed.passed F n G)) → (F ≡ Figures.base (w .plant) ws) × (n ≡ mostStates (w .plant)) × (G ≡ perProgress (w .plant) ws)
-    figures-are w = let e = passing-plant w .1 .figures in (cc, cc, cc)
+    figures-are : (P : Plant) → OnPassingVerdict P ws (weighed.passing F n G) → (F ≡ Figures.base P ws) × (n ≡ mostStates P) × (G ≡ perProgress P ws)
+    figures-are P h = let e = h .figures in (cc, cc, cc)
 
-    -- so they are within their limits,
+    -- so they are within theirs,
     pub figures-fit : FiguresFit F n G
     figures-fit =
-        let w = weighed-plant file ws before after (weighed.passed F n G) owed tt in
-        let f = figures-are w in
-        let light : (t : ℕ) → t < w .plant .types → getD ws t 0 ≤ 1000 = λ t l. none-above 1000 ws (w .good .light) t in
+        let x = passing-plant in
+        let f = figures-are (x .0) (x .4) in
+        let limits = judged-weights file ws (x .0) (x .1) (x .2) .0 in
+        let light : (t : ℕ) → t < x .0 .types → getD ws t 0 ≤ 1000 = λ t l. weights-fit file ws (x .0) (x .1) (x .2) .1 t in
         record {
-          base-limit = rw (f .0) (base-limit (w .plant) (w .limits) ws light);
-          states-limit = rw (f .1) (most-limit (w .plant) (w .limits));
-          progress-limit = rw (f .2) (per-progress-limit (w .plant) (w .limits) ws light);
+          base-limit = rw (f .0) (base-limit (x .0) limits ws light);
+          states-limit = rw (f .1) (most-limit (x .0) limits);
+          progress-limit = rw (f .2) (per-progress-limit (x .0) limits ws light);
         }
 
     -- and the ceiling made of them is the plant's,
-    ceiling-is : (w : WeighedPlant file ws before after (weighed.passed F n G)) → F + n * weightOfContents ws contents + G * g ≡ ceilingFor (w .plant) ws contents g
-    ceiling-is w = let f = figures-are w in rw (f .0, f .1, f .2, w .good .one-each)
+    ceiling-is : (P : Plant) → OnPassingVerdict P ws (weighed.passing F n G) → P .types ≡ length ws → F + n * weightOfContents ws contents + G * g ≡ ceilingFor P ws contents g
+    ceiling-is P h types = let f = figures-are P h in rw (f .0, f .1, f .2, ← types)
 
     -- which is what is owed.
     pub quote-passing : (b : Answer) → OwedChecked true F n G ws contents g b → Owed ws contents g b (judged file ws contents g)
     quote-passing b given =
-        let w = weighed-plant file ws before after (weighed.passed F n G) owed tt in
-        let p = passing-plant w in
-        for-input b (w .is)
-        (checked-owed true F n G ws contents g b (w .plant) (w .end) (sym (w .good .one-each)) given
+        let x = passing-plant in
+        let types = one-each file ws (x .0) (x .1) (x .2) in
+        for-input file ws (x .0) (x .1) (x .2) contents g b
+        (checked-owed true F n G ws contents g b (x .0) (x .1) types given
         (λ e. for-plant
-        (λ q. record { quote = e ∙ ap (λ (c : ℕ). quoted c (classOf c)) (ceiling-is w); bounds = bound-for (w .plant) ws contents g (p .1 .bounded) })
-        (λ q. absurd (q (p .0)))))
+        (λ q. record { quote = e ∙ ap (λ (c : ℕ). quoted c (classOf c)) (ceiling-is (x .0) (x .4) types); bounds = bound-for (x .0) ws contents g (x .4 .bounded) })
+        (λ q. absurd (q (x .3)))))
 
 -- ---- what the answer says
 

@@ -1,14 +1,14 @@
 // Quoting ceilings and price classes.
 ghost use mathlib.Core.Path.{_≡_};
-ghost use Prim.Native.Nat.{_^_, _≤_, _<_};
+ghost use Prim.Native.Nat.{_≤_};
 ghost use lib.ListN.{length};
 ghost use Rattle.weighing.specs.Weighing.{firstAbove};
 ghost use Rattle.quoting.specs.Classes.{classOf};
 ghost use Rattle.quoting.specs.Answers.{answerOf};
 ghost use Rattle.quoting.specs.Quoting.{amounts, judged, Owed};
-ghost use Rattle.quoting.specs.Inner.Checks.{oneIfNotAbove, AllAtMost, weightOfContents, Refuses, Checks, Priced, FiguresFit, OwedChecked};
+ghost use Rattle.quoting.specs.Inner.Checks.{AllAtMost, weightOfContents, Refuses, Checks, Priced, FiguresFit, OwedChecked};
 use plant::Fault;
-use weighing::Weighed;
+use weighing::Verdict;
 
 // The edges of the price classes.
 const EDGES: [u64; 43] = [
@@ -69,33 +69,18 @@ enum Check {
     Fault(Fault),
 }
 
-// Edge k.
-fn edge(k: usize) -> u64
-    requires { ⌜ k < 43 ⌝ }
-    ensures { λ r. ⌜ r ≡ 2 ^ k ⌝ }
-{
-    EDGES[k]
-}
-
-// 1 for an edge not above the ceiling.
-fn one_if_not_above(edge: u64, ceiling: u64) -> u32
-    ensures { λ r. ⌜ r ≡ oneIfNotAbove edge ceiling ⌝ }
-{
-    if edge <= ceiling {
-        return 1;
-    }
-    0
-}
-
-// How many edges are not above the ceiling.
+// How many edges are not above the ceiling. Edges rise, so this is the index of the first one above it; without one, 43. The table
+// is a local, since the compiler writes a constant array anew wherever it is indexed.
 fn price_class(ceiling: u64) -> u32
     ensures { λ r. ⌜ r ≡ classOf ceiling ⌝ }
 {
+    let edges = EDGES;
     let mut class = 0;
-    let mut k = 0;
-    while k < 43 {
-        class += one_if_not_above(edge(k), ceiling);
-        k += 1;
+    while class < 43 {
+        if edges[class as usize] > ceiling {
+            return class;
+        }
+        class += 1;
     }
     class
 }
@@ -199,12 +184,11 @@ fn quote_weighed(
 pub fn quote(file: &[u8], weights: &[u16], contents: &[u32], g: u32) -> Quoted
     ensures { λ r. ⌜ Owed (now (weights .entry)) (now (contents .entry)) g (answerOf r) (judged (now (file .entry)) (now (weights .entry)) (now (contents .entry)) g) ⌝ }
 {
-    let mut shown = [0; 64];
-    let weighed = weighing::weigh(file, weights, &mut shown);
-    match weighed {
-        Weighed::Refused(fault) => Quoted::Refused(fault),
-        Weighed::Cycle { rows: _ } => quote_weighed(false, 0, 0, 0, weights, contents, g),
-        Weighed::Passed {
+    let verdict = weighing::judge(file, weights);
+    match verdict {
+        Verdict::Refused(fault) => Quoted::Refused(fault),
+        Verdict::Fails => quote_weighed(false, 0, 0, 0, weights, contents, g),
+        Verdict::Passes {
             base,
             states,
             progress,

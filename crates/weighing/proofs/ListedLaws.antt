@@ -1,16 +1,23 @@
--- Laws of the edge list while it grows row by row.
+-- Laws of the edge list: while it grows row by row, and the limits of its edges.
 use mathlib.Core.Path.{_≡_, refl, sym, _∙_, subst}
 use mathlib.Core.Logic.{_≢_, _⊎_, inl, inr}
 use mathlib.Core.Bool.{Bool, true, false, false≢true}
+use mathlib.Core.Option.{Option, none, some}
 use mathlib.Core.List.{List}
 use Prim.Native.Nat.{ℕ, _+_, _≤_, _<_}
 use native.Mathlib.Decide.{decLt}
 use native.Mathlib.Omega.{arith}
-use lib.ListN.{length, getD, set, length-set}
+use lib.ListN.{getD, set, length-set}
 use lib.Seq.{getD-set-same, getD-set-other}
-use lib.IntN.{ℤ, pos}
-use Rattle.weighing.specs.declared.edges.Edges.{Edges}
-use Rattle.weighing.specs.Inner.Edges.{rowWeight, oneIfQuiet, Columns, EdgeOf, Has, Listed}
+use lib.IntN.{ℤ, pos, _-ℤ_}
+use Rattle.livelock.proofs.CycleWeights.{messageWeight}
+use Rattle.livelock.proofs.Differences.{difference-minus}
+use Rattle.plant.specs.Tables.{typeOf}
+use Rattle.weighing.specs.Inner.Signs.{rise, fall}
+use Rattle.weighing.specs.Inner.Edges.{rowWeight, oneIfQuiet, Columns, EdgeOf, Edges, Has, Room, Listed}
+use Rattle.weighing.specs.Inner.Checks.{RowsBetween}
+use Rattle.weighing.specs.Inner.Rounds.{EdgesIn}
+use Rattle.weighing.proofs.SignLaws.{rise-at-most, fall-at-most}
 
 -- A quiet row counts 1, a row with progress 0.
 abbrev Counts : ℕ → Bool → Type 0
@@ -27,17 +34,9 @@ one-at-most q true e = omega (arith, e)
 one-at-most q false e = omega (arith, e)
 
 -- No row yet, no edge.
-pub none-listed : (t : Columns) (ws : List ℕ) (low : ℕ) (e : Edges) → (e .count ≡ 0) × (length (e .from) ≡ 256) × (length (e .to) ≡ 256) × (length (e .weight) ≡ 256) × (length (e .row) ≡ 256) → Listed t ws low low e
-none-listed t ws low e h =
-    record {
-      few = omega (arith, h .0);
-      from-room = h .1;
-      to-room = h .2;
-      weight-room = h .3;
-      row-room = h .4;
-      each = λ i b. absurd (omega (arith, h .0));
-      every = λ j a b q. absurd (omega arith);
-    }
+pub none-listed : (t : Columns) (ws : List ℕ) (low : ℕ) (from to : List ℕ) (weight : List ℤ) (row : List ℕ) → Room from to weight row
+    → Listed t ws low low (record { count = 0; from = from; to = to; weight = weight; row = row })
+none-listed t ws low from to weight row h = record { few = omega arith; room = h; each = λ i b. absurd (omega arith); every = λ j a b q. absurd (omega arith) }
 
 -- At the end of the rows all are listed.
 pub all-listed : (t : Columns) (ws : List ℕ) (low k high : ℕ) (e : Edges) → k ≡ high → Listed t ws low k e → Listed t ws low high e
@@ -104,10 +103,10 @@ module _ (t : Columns) (ws : List ℕ) (low k : ℕ) (e : Edges) (h : Listed t w
   unfolding from-after to-after weight-after row-after
   new quiet =
       rw (
-        getD-set-same (e .row) (e .count) k 0 (rw (h .row-room) in-room),
-        getD-set-same (e .from) (e .count) (getD (t .left) k 0) 0 (rw (h .from-room) in-room),
-        getD-set-same (e .to) (e .count) (getD (t .entered) k 0) 0 (rw (h .to-room) in-room),
-        getD-set-same (e .weight) (e .count) w (pos 0) (rw (h .weight-room) in-room),
+        getD-set-same (e .row) (e .count) k 0 (rw (h .room .row-room) in-room),
+        getD-set-same (e .from) (e .count) (getD (t .left) k 0) 0 (rw (h .room .from-room) in-room),
+        getD-set-same (e .to) (e .count) (getD (t .entered) k 0) 0 (rw (h .room .to-room) in-room),
+        getD-set-same (e .weight) (e .count) w (pos 0) (rw (h .room .weight-room) in-room),
       )
       (this quiet)
 
@@ -131,7 +130,7 @@ module _ (t : Columns) (ws : List ℕ) (low k : ℕ) (e : Edges) (h : Listed t w
       record { place = p .place; within = omega (arith, p .within); is = getD-set-other (e .row) (e .count) (p .place) k 0 other ∙ p .is }
   every-after (inl c) j a b quiet (no d) =
       let same : k ≡ j = omega arith in
-      record { place = e .count; within = omega (arith, c .0); is = getD-set-same (e .row) (e .count) k 0 (rw (h .row-room) in-room) ∙ same }
+      record { place = e .count; within = omega (arith, c .0); is = getD-set-same (e .row) (e .count) k 0 (rw (h .room .row-room) in-room) ∙ same }
   every-after (inr c) j a b quiet (no d) =
       let same : j ≡ k = omega arith in
       absurd (c .1 (subst (λ (x : ℕ). getD (t .progress) x false ≡ false) same quiet))
@@ -150,10 +149,48 @@ module _ (t : Columns) (ws : List ℕ) (low k : ℕ) (e : Edges) (h : Listed t w
       let c : Counts q (getD (t .progress) k false) = rw counted (counts (getD (t .progress) k false)) in
       record {
         few = few-after c;
-        from-room = rw length-set (h .from-room);
-        to-room = rw length-set (h .to-room);
-        weight-room = rw length-set (h .weight-room);
-        row-room = rw length-set (h .row-room);
+        room =
+            record {
+              from-room = rw length-set (h .room .from-room);
+              to-room = rw length-set (h .room .to-room);
+              weight-room = rw length-set (h .room .weight-room);
+              row-room = rw length-set (h .room .row-room);
+            };
         each = λ i b. each-after c i b (decLt i (e .count));
         every = λ j a b quiet. every-after c j a b quiet (decLt j k);
+      }
+
+-- ---- limits
+
+-- Where no weight is above 65,535, no message's is.
+message-light : (ws : List ℕ) → ((i : ℕ) → getD ws i 0 ≤ 65535) → (o : Option ℕ) → messageWeight ws o ≤ 65535
+message-light ws light none = omega arith
+message-light ws light (some t) = light t
+
+module _ (t : Columns) (ws : List ℕ) (light : (i : ℕ) → getD ws i 0 ≤ 65535) (low high : ℕ) (e : Edges) (h : Listed t ws low high e) where
+  -- No edge's rise is above 65,535,
+  rise-light : (i : ℕ) → i < e .count → rise (getD (e .weight) i (pos 0)) ≤ 65535
+  rise-light i l =
+      let a = messageWeight ws (typeOf (getD (t .sent) (getD (e .row) i 0) 0)) in
+      let b = messageWeight ws (typeOf (getD (t .taken) (getD (e .row) i 0) 0)) in
+      rw (h .each i l .weighs) (omega (arith, rise-at-most (pos a -ℤ pos b) a b (difference-minus a b), message-light ws light (typeOf (getD (t .sent) (getD (e .row) i 0) 0))))
+
+  -- and no edge's fall.
+  fall-light : (i : ℕ) → i < e .count → fall (getD (e .weight) i (pos 0)) ≤ 65535
+  fall-light i l =
+      let a = messageWeight ws (typeOf (getD (t .sent) (getD (e .row) i 0) 0)) in
+      let b = messageWeight ws (typeOf (getD (t .taken) (getD (e .row) i 0) 0)) in
+      rw (h .each i l .weighs) (omega (arith, fall-at-most (pos a -ℤ pos b) a b (difference-minus a b), message-light ws light (typeOf (getD (t .taken) (getD (e .row) i 0) 0))))
+
+  -- The edges lead between the states that the rows do, and none weighs more than 65,535 either way.
+  pub edges-in : (states : ℕ) → 1 ≤ states → states ≤ 64 → RowsBetween t low high states → EdgesIn states (e .count) 65535 (e .from) (e .to) (e .weight)
+  edges-in states least few rows =
+      record {
+        some-state = least;
+        states-in = few;
+        few = omega (arith, h .few, rows .few);
+        from-in = λ i l. let x = h .each i l in rw (x .left) (rows .left-in (getD (e .row) i 0) (x .from-low) (x .below-high));
+        to-in = λ i l. let x = h .each i l in rw (x .entered) (rows .entered-in (getD (e .row) i 0) (x .from-low) (x .below-high));
+        rise-in = rise-light;
+        fall-in = fall-light;
       }

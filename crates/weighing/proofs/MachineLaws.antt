@@ -2,7 +2,6 @@
 use mathlib.Core.Path.{_≡_, refl, sym, ap, _∙_, subst}
 use mathlib.Core.Logic.{_↔_}
 use mathlib.Core.Bool.{Bool, true, false, false≢true}
-use mathlib.Core.Option.{Option, none, some}
 use mathlib.Core.List.{List, [], _∷_, map}
 use Prim.Native.Nat.{ℕ, _+_, _≤_, _<_}
 use native.Mathlib.Omega.{arith}
@@ -13,22 +12,22 @@ use Rattle.livelock.specs.Lists.{sum, count, All, Distinct}
 use Rattle.livelock.specs.Plants.{Row, Plant, rowAt, rowCount, stateCount, hasProgress, WellFormed}
 use Rattle.livelock.specs.Cycles.{Walk, leaves, enters, RowOf, firstLeft, SimpleCycle, Quiet}
 use Rattle.livelock.specs.Weights.{cycleWeight}
-use Rattle.livelock.proofs.ListLaws.{all-weaken, all-both, all-at, all-of-map}
+use Rattle.livelock.proofs.ListLaws.{all-weaken, all-both, all-of-map}
 use Rattle.livelock.proofs.Walks.{walk-first}
-use Rattle.livelock.proofs.Graphs.{Graph, Cycle}
+use Rattle.livelock.proofs.Graphs.{Cycle}
 use Rattle.livelock.proofs.Differences.{Difference, difference-minus}
-use Rattle.livelock.proofs.CycleWeights.{messageWeight, sentWeight, takenWeight, below-zero-iff, zero-or-more-iff}
+use Rattle.livelock.proofs.CycleWeights.{sentWeight, takenWeight, below-zero-iff, zero-or-more-iff}
 use Rattle.livelock.proofs.QuietGraphs.{QuietRowOf, row-within}
-use Rattle.plant.specs.Tables.{plantOf, rowsBefore, Ready}
+use Rattle.plant.specs.Tables.{plantOf, rowOf, rowsBefore, Ready}
 use Rattle.plant.specs.Limits.{WithinLimits}
 use Rattle.plant.specs.declared.PlantTable.{PlantTable}
-use Rattle.plant.proofs.TableLaws.{row-is, rows-so-far, machines-so-far}
+use Rattle.plant.proofs.TableLaws.{row-is, rows-counted}
 use Rattle.plant.proofs.FirstRowLaws.{row-of-machine, machine-rows}
-use Rattle.weighing.specs.declared.edges.Edges.{Edges}
 use Rattle.weighing.specs.Inner.Signs.{rise, fall}
-use Rattle.weighing.specs.Inner.Edges.{columnsOf, Has, Listed}
-use Rattle.weighing.specs.Inner.Rounds.{edgeGraph, EdgesIn, AllBelowZero, Decided}
-use Rattle.weighing.proofs.SignLaws.{rise-fall, rise-at-most, fall-at-most, difference-same}
+use Rattle.weighing.specs.Inner.Edges.{columnsOf, Edges, Has, Listed}
+use Rattle.weighing.specs.Inner.Rounds.{AllBelowZero, Decided}
+use Rattle.weighing.specs.Inner.Checks.{RowsBetween, graphOf}
+use Rattle.weighing.proofs.SignLaws.{rise-fall, difference-same}
 
 -- ---- edges and rows
 
@@ -39,11 +38,6 @@ pub record RowEdge (P : Plant) (ws : List ℕ) (m j a b : ℕ) (w : ℤ) : Type 
   pub entered : b ≡ enters P j
   pub weighs : w ≡ pos (sentWeight P ws j) -ℤ pos (takenWeight P ws j)
 
--- Where no weight is above 65,535, no message's is.
-message-light : (ws : List ℕ) → ((i : ℕ) → getD ws i 0 ≤ 65535) → (o : Option ℕ) → messageWeight ws o ≤ 65535
-message-light ws light none = omega arith
-message-light ws light (some t) = light t
-
 -- Each of the edges e is a quiet row of machine m.
 module _ (P : Plant) (formed : WellFormed P) (ws : List ℕ) (m : ℕ) (e : Edges)
     (each : (i : ℕ) → i < e .count → RowEdge P ws m (getD (e .row) i 0) (getD (e .from) i 0) (getD (e .to) i 0) (getD (e .weight) i (pos 0))) where
@@ -51,42 +45,9 @@ module _ (P : Plant) (formed : WellFormed P) (ws : List ℕ) (m : ℕ) (e : Edge
   abbrev rowOfEdge : ℕ → ℕ
   rowOfEdge i = getD (e .row) i 0
 
-  -- The edges as a graph.
-  abbrev graph : Graph
-  graph = edgeGraph (e .count) (e .from) (e .to) (e .weight)
-
   -- A list of edges.
   abbrev AllEdges : List ℕ → Type 0
   AllEdges es = All (λ i. i < e .count) es
-
-  -- ---- bounds
-
-  -- No edge's rise is above 65,535,
-  rise-light : ((i : ℕ) → getD ws i 0 ≤ 65535) → (i : ℕ) → i < e .count → rise (getD (e .weight) i (pos 0)) ≤ 65535
-  rise-light light i l =
-      let a = sentWeight P ws (rowOfEdge i) in
-      let b = takenWeight P ws (rowOfEdge i) in
-      rw (each i l .weighs) (omega (arith, rise-at-most (pos a -ℤ pos b) a b (difference-minus a b), message-light ws light (rowAt P (rowOfEdge i) .sent)))
-
-  -- and no edge's fall.
-  fall-light : ((i : ℕ) → getD ws i 0 ≤ 65535) → (i : ℕ) → i < e .count → fall (getD (e .weight) i (pos 0)) ≤ 65535
-  fall-light light i l =
-      let a = sentWeight P ws (rowOfEdge i) in
-      let b = takenWeight P ws (rowOfEdge i) in
-      rw (each i l .weighs) (omega (arith, fall-at-most (pos a -ℤ pos b) a b (difference-minus a b), message-light ws light (rowAt P (rowOfEdge i) .taken)))
-
-  -- The edges lead between states of the machine, and none weighs more than 65,535 either way.
-  edges-in : ((i : ℕ) → getD ws i 0 ≤ 65535) → (1 ≤ stateCount P m) × (stateCount P m ≤ 64) → e .count ≤ 256 → EdgesIn (stateCount P m) (e .count) 65535 (e .from) (e .to) (e .weight)
-  edges-in light states few =
-      record {
-        some-state = states .0;
-        states-in = states .1;
-        few = few;
-        from-in = λ i l. rw (each i l .left) (row-within P formed m (rowOfEdge i) (each i l .row .0) .0);
-        to-in = λ i l. rw (each i l .entered) (row-within P formed m (rowOfEdge i) (each i l .row .0) .1);
-        rise-in = rise-light light;
-        fall-in = fall-light light;
-      }
 
   -- ---- lists of edges and lists of rows
 
@@ -99,19 +60,19 @@ module _ (P : Plant) (formed : WellFormed P) (ws : List ℕ) (m : ℕ) (e : Edge
       difference-same w (rise w) (fall w) a b (rise-fall w) (subst (λ (z : ℤ). Difference z a b) (sym (each i l .weighs)) (difference-minus a b))
 
   -- So it is for lists.
-  same-weights : (es : List ℕ) → AllEdges es → sum (graph .plus) es + sum (takenWeight P ws) (map rowOfEdge es) ≡ sum (sentWeight P ws) (map rowOfEdge es) + sum (graph .minus) es
+  same-weights : (es : List ℕ) → AllEdges es → sum (graphOf e .plus) es + sum (takenWeight P ws) (map rowOfEdge es) ≡ sum (sentWeight P ws) (map rowOfEdge es) + sum (graphOf e .minus) es
   unfolding All sum
   same-weights [] u = refl
   same-weights (i ∷ es) u = omega (arith, same-weight i (u .0), same-weights es (u .1))
 
   -- The rows leave the states that the edges leave.
-  same-left : (es : List ℕ) → AllEdges es → map (graph .src) es ≡ map (leaves P) (map rowOfEdge es)
+  same-left : (es : List ℕ) → AllEdges es → map (graphOf e .src) es ≡ map (leaves P) (map rowOfEdge es)
   unfolding All
   same-left [] u = refl
   same-left (i ∷ es) u = rw (each i (u .0) .left, same-left es (u .1))
 
   -- A walk over the edges is one over their rows,
-  rows-walk : (s t : ℕ) (es : List ℕ) → AllEdges es → Walk (graph .src) (graph .dst) s es t → Walk (leaves P) (enters P) s (map rowOfEdge es) t
+  rows-walk : (s t : ℕ) (es : List ℕ) → AllEdges es → Walk (graphOf e .src) (graphOf e .dst) s es t → Walk (leaves P) (enters P) s (map rowOfEdge es) t
   unfolding All Walk
   rows-walk s t [] u w = w
   rows-walk s t (i ∷ es) u w = (
@@ -120,7 +81,7 @@ module _ (P : Plant) (formed : WellFormed P) (ws : List ℕ) (m : ℕ) (e : Edge
   )
 
   -- and the other way.
-  edges-walk : (s t : ℕ) (es : List ℕ) → AllEdges es → Walk (leaves P) (enters P) s (map rowOfEdge es) t → Walk (graph .src) (graph .dst) s es t
+  edges-walk : (s t : ℕ) (es : List ℕ) → AllEdges es → Walk (leaves P) (enters P) s (map rowOfEdge es) t → Walk (graphOf e .src) (graphOf e .dst) s es t
   unfolding All Walk
   edges-walk s t [] u w = w
   edges-walk s t (i ∷ es) u w = (
@@ -135,7 +96,7 @@ module _ (P : Plant) (formed : WellFormed P) (ws : List ℕ) (m : ℕ) (e : Edge
   -- ---- cycles
 
   -- Edges whose rows are a simple cycle are one.
-  edges-cycle : (es : List ℕ) → AllEdges es → SimpleCycle P m (map rowOfEdge es) → Cycle graph es
+  edges-cycle : (es : List ℕ) → AllEdges es → SimpleCycle P m (map rowOfEdge es) → Cycle (graphOf e) es
   edges-cycle es u s =
       record {
         non-empty = subst (λ (n : ℕ). 0 < n) (length-map es rowOfEdge) (s .non-empty);
@@ -146,11 +107,11 @@ module _ (P : Plant) (formed : WellFormed P) (ws : List ℕ) (m : ℕ) (e : Edge
       }
 
   -- Where every cycle of the edges is below zero, a simple cycle that is the rows of edges weighs below zero.
-  edges-pass : AllBelowZero graph → (es : List ℕ) → AllEdges es → SimpleCycle P m (map rowOfEdge es) → cycleWeight P ws (map rowOfEdge es) <ℤ pos 0
+  edges-pass : AllBelowZero (graphOf e) → (es : List ℕ) → AllEdges es → SimpleCycle P m (map rowOfEdge es) → cycleWeight P ws (map rowOfEdge es) <ℤ pos 0
   edges-pass h es u s = below-zero-iff P formed ws (map rowOfEdge es) .1 (omega (arith, h es (edges-cycle es u s), same-weights es u))
 
   -- The rows of a cycle of edges are a quiet simple cycle, which weighs zero or more if that does.
-  cycle-fails : (es : List ℕ) → Cycle graph es → sum (graph .minus) es ≤ sum (graph .plus) es
+  cycle-fails : (es : List ℕ) → Cycle (graphOf e) es → sum (graphOf e .minus) es ≤ sum (graphOf e .plus) es
       → SimpleCycle P m (map rowOfEdge es) × Quiet P (map rowOfEdge es) × (pos 0 ≤ℤ cycleWeight P ws (map rowOfEdge es))
   cycle-fails es c h =
       let u : AllEdges es = all-weaken _ (λ i. i < e .count) (λ i x. x .0) es (c .edges) in
@@ -183,7 +144,7 @@ module _ (P : Plant) (formed : WellFormed P) (ws : List ℕ) (m : ℕ) (e : Edge
         record { edges = first .place ∷ rest .edges; within = (first .within, rest .within); are = rw (first .is, rest .are) }
 
     -- Where every cycle of the edges is below zero, every quiet simple cycle is.
-    cycles-pass : AllBelowZero graph → (c : List ℕ) → SimpleCycle P m c → Quiet P c → cycleWeight P ws c <ℤ pos 0
+    cycles-pass : AllBelowZero (graphOf e) → (c : List ℕ) → SimpleCycle P m c → Quiet P c → cycleWeight P ws c <ℤ pos 0
     cycles-pass h c s q =
         let f = edges-for c (all-both (RowOf P m) _ c (s .of-machine) q) in
         subst (λ (x : List ℕ). SimpleCycle P m x → cycleWeight P ws x <ℤ pos 0) (f .are) (edges-pass h (f .edges) (f .within)) s
@@ -191,19 +152,12 @@ module _ (P : Plant) (formed : WellFormed P) (ws : List ℕ) (m : ℕ) (e : Edge
 -- ---- a decoded table
 
 module _ (t : PlantTable) (ready : Ready t) (limits : WithinLimits (plantOf t)) where
-  -- The rows of machine m, for its edge list.
-  pub rows-from : (m : ℕ) → m < 16
-      → (getD (t .first) m 0 ≤ getD (t .first) (m + 1) 0) × (getD (t .first) (m + 1) 0 ≤ 1024) × (getD (t .first) (m + 1) 0 ≤ getD (t .first) m 0 + 255)
-  rows-from m l =
-      let rows = machine-rows t ready m l in
-      (rows .0, omega (arith, rows .1, ready .sound .few-rows), omega (arith, rows .2, limits .rows-each m))
-
-  module _ (ws : List ℕ) (m : ℕ) (within : m < t .machines) (e : Edges) (listed : Listed (columnsOf t) ws (getD (t .first) m 0) (getD (t .first) (m + 1) 0) e) where
+  module _ (m : ℕ) (within : m < t .machines) where
     -- The machine is one of the sixteen that a table has room for.
     in-sixteen : m < 16
     in-sixteen = omega (arith, ready .sound .few-machines)
 
-    -- The edges are listed from the machine's first row
+    -- Its rows stand from its first row
     low-is : getD (t .first) m 0 ≡ rowsBefore (plantOf t) m
     low-is = ready .first-row m (omega (arith, in-sixteen))
 
@@ -211,16 +165,39 @@ module _ (t : PlantTable) (ready : Ready t) (limits : WithinLimits (plantOf t)) 
     high-is : getD (t .first) (m + 1) 0 ≡ rowsBefore (plantOf t) (m + 1)
     high-is = ready .first-row (m + 1) (omega (arith, in-sixteen))
 
+    -- A row from there is the machine's,
+    row-between : (j : ℕ) → getD (t .first) m 0 ≤ j → j < getD (t .first) (m + 1) 0 → RowOf (plantOf t) m j
+    row-between j a b =
+        let there : j < rowCount (plantOf t) = omega (arith, machine-rows t ready m in-sixteen .1, rows-counted t) in
+        (there, row-of-machine (plantOf t) limits m j there .1 (omega (arith, low-is), omega (arith, high-is)))
+
+    -- and the columns have it.
+    row-columns : (j : ℕ) → RowOf (plantOf t) m j → rowAt (plantOf t) j ≡ rowOf t j
+    row-columns j r = row-is t j (omega (arith, r .0, rows-counted t))
+
+    -- So its rows are between its states.
+    pub rows-between : RowsBetween (columnsOf t) (getD (t .first) m 0) (getD (t .first) (m + 1) 0) (stateCount (plantOf t) m)
+    rows-between =
+        let rows = machine-rows t ready m in-sixteen in
+        record {
+          in-table = omega (arith, rows .1, ready .sound .few-rows);
+          ordered = rows .0;
+          few = omega (arith, rows .2, limits .rows-each m);
+          left-in = λ j a b. let r = row-between j a b in subst (λ (x : Row). x .left < stateCount (plantOf t) m) (row-columns j r) (row-within (plantOf t) (limits .formed) m j r .0);
+          entered-in = λ j a b. let r = row-between j a b in subst (λ (x : Row). x .entered < stateCount (plantOf t) m) (row-columns j r) (row-within (plantOf t) (limits .formed) m j r .1);
+        }
+
+  module _ (ws : List ℕ) (m : ℕ) (within : m < t .machines) (e : Edges) (listed : Listed (columnsOf t) ws (getD (t .first) m 0) (getD (t .first) (m + 1) 0) e) where
     -- Each edge is a quiet row of the machine,
     pub edge-row : (i : ℕ) → i < e .count → RowEdge (plantOf t) ws m (getD (e .row) i 0) (getD (e .from) i 0) (getD (e .to) i 0) (getD (e .weight) i (pos 0))
     unfolding hasProgress
     edge-row i l =
         let x = listed .each i l in
         let j = getD (e .row) i 0 in
-        let there : j < rowCount (plantOf t) = omega (arith, x .below-high, machine-rows t ready m in-sixteen .1, rows-so-far t) in
-        let is = row-is t j (omega (arith, there, rows-so-far t)) in
+        let r = row-between m within j (x .from-low) (x .below-high) in
+        let is = row-columns m within j r in
         record {
-          row = ((there, row-of-machine (plantOf t) limits m j there .1 (omega (arith, x .from-low, low-is), omega (arith, x .below-high, high-is))), ap (λ (r : Row). r .progress) is ∙ x .quiet);
+          row = (r, ap (λ (r : Row). r .progress) is ∙ x .quiet);
           left = x .left ∙ sym (ap (λ (r : Row). r .left) is);
           entered = x .entered ∙ sym (ap (λ (r : Row). r .entered) is);
           weighs = rw is (x .weighs);
@@ -231,28 +208,21 @@ module _ (t : PlantTable) (ready : Ready t) (limits : WithinLimits (plantOf t)) 
     unfolding hasProgress
     row-edge j r =
         let between = row-of-machine (plantOf t) limits m j (r .0 .0) .0 (r .0 .1) in
-        let is = row-is t j (omega (arith, r .0 .0, rows-so-far t)) in
-        listed .every j (omega (arith, between .0, low-is)) (omega (arith, between .1, high-is)) (sym (ap (λ (r : Row). r .progress) is) ∙ r .1)
-
-    -- The edges are within the limits that deciding and searching ask for.
-    pub machine-edges : ((i : ℕ) → getD ws i 0 ≤ 65535) → EdgesIn (stateCount (plantOf t) m) (e .count) 65535 (e .from) (e .to) (e .weight)
-    machine-edges light =
-        edges-in (plantOf t) (limits .formed) ws m e edge-row light
-        (all-at (λ n. (1 ≤ n) × (n ≤ 64)) 0 (plantOf t .states) (limits .states) m (omega (arith, machines-so-far t 16 (ready .sound) (omega arith))))
-        (omega (arith, listed .few, rows-from m in-sixteen .2))
+        let is = row-columns m within j (r .0) in
+        listed .every j (omega (arith, between .0, low-is m within)) (omega (arith, between .1, high-is m within)) (sym (ap (λ (r : Row). r .progress) is) ∙ r .1)
 
     -- Where every cycle of the edges is below zero, every quiet simple cycle of the machine is.
-    pub machine-passes : AllBelowZero (edgeGraph (e .count) (e .from) (e .to) (e .weight)) → (c : List ℕ) → SimpleCycle (plantOf t) m c → Quiet (plantOf t) c → cycleWeight (plantOf t) ws c <ℤ pos 0
+    pub machine-passes : AllBelowZero (graphOf e) → (c : List ℕ) → SimpleCycle (plantOf t) m c → Quiet (plantOf t) c → cycleWeight (plantOf t) ws c <ℤ pos 0
     machine-passes = cycles-pass (plantOf t) (limits .formed) ws m e edge-row row-edge
 
     -- The rows of a cycle of edges that is zero or more are a quiet simple cycle of the machine that weighs zero or more.
-    pub machine-fails : (es : List ℕ) → Cycle (edgeGraph (e .count) (e .from) (e .to) (e .weight)) es
-        → sum (edgeGraph (e .count) (e .from) (e .to) (e .weight) .minus) es ≤ sum (edgeGraph (e .count) (e .from) (e .to) (e .weight) .plus) es
+    pub machine-fails : (es : List ℕ) → Cycle (graphOf e) es
+        → sum (graphOf e .minus) es ≤ sum (graphOf e .plus) es
         → SimpleCycle (plantOf t) m (map (λ i. getD (e .row) i 0) es) × Quiet (plantOf t) (map (λ i. getD (e .row) i 0) es) × (pos 0 ≤ℤ cycleWeight (plantOf t) ws (map (λ i. getD (e .row) i 0) es))
     machine-fails = cycle-fails (plantOf t) (limits .formed) ws m e edge-row
 
     -- What `decide` says of the edges, it says of the machine: true exactly when every quiet simple cycle weighs below zero.
-    pub machine-decided : (b : Bool) → Decided (edgeGraph (e .count) (e .from) (e .to) (e .weight)) b
+    pub machine-decided : (b : Bool) → Decided (graphOf e) b
         → (b ≡ true) ↔ ((c : List ℕ) → SimpleCycle (plantOf t) m c → Quiet (plantOf t) c → cycleWeight (plantOf t) ws c <ℤ pos 0)
     machine-decided true d = (λ q. machine-passes d, λ p. refl)
     machine-decided false d =

@@ -1,7 +1,5 @@
 -- Laws of the rounds of relaxation over an edge list.
-use mathlib.Core.Path.{_≡_, refl, sym, _∙_, subst}
-use mathlib.Core.Logic.{_≢_, _↔_, _⊎_, inl, inr, ⊎-elim}
-use mathlib.Core.Bool.{Bool, true, false, false≢true}
+use mathlib.Core.Path.{_≡_, refl, sym, subst}
 use mathlib.Core.List.{List}
 use Prim.Native.Nat.{ℕ, _+_, _-_, _≤_, _<_, max}
 use native.Mathlib.Decide.{ℕ-discrete}
@@ -10,57 +8,13 @@ use native.Mathlib.Omega.{arith}
 use lib.ListN.{length, getD, set, replicate, getD-replicate}
 use lib.Seq.{getD-set-same, getD-set-other}
 use lib.IntN.{ℤ, pos}
-use lib.Dec.{eqb}
 use borrow.Author.Tests.{eq-eqb, ne-eqb}
 use Rattle.livelock.specs.Lists.{below, greatest}
-use Rattle.livelock.proofs.ListLaws.{all-below, all-or-one}
+use Rattle.livelock.proofs.ListLaws.{all-below}
 use Rattle.livelock.proofs.SumLaws.{greatest-next, greatest-bound}
-use Rattle.livelock.proofs.Tests.{every, every-below-iff, equal-iff}
 use Rattle.livelock.proofs.Graphs.{Graph, Within, via, via-bound}
 use Rattle.weighing.specs.Inner.Signs.{rise, fall}
 use Rattle.weighing.specs.Inner.Rounds.{edgeGraph, EdgesIn}
-
--- ---- whether two tables agree
-
-module _ (a b : List ℕ) where
-  -- One state more.
-  pub agree-next : (s : ℕ) → ((i : ℕ) → i < s → getD a i 0 ≡ getD b i 0) → getD a s 0 ≡ getD b s 0 → (i : ℕ) → i < s + 1 → getD a i 0 ≡ getD b i 0
-  agree-next s h e i l = go (ℕ-discrete i s)
-    where
-      go : Dec (i ≡ s) → getD a i 0 ≡ getD b i 0
-      go (yes q) = rw q e
-      go (no q) = h i (omega arith)
-
-  agree-iff : (n : ℕ) → (every (λ s. eqb (getD a s 0) (getD b s 0)) (below n) ≡ true) ↔ ((s : ℕ) → s < n → getD a s 0 ≡ getD b s 0)
-  agree-iff n = every-below-iff (λ s. eqb (getD a s 0) (getD b s 0)) (λ s. getD a s 0 ≡ getD b s 0) (λ s. equal-iff (getD a s 0) (getD b s 0)) n
-
-  -- The tables agree at all states,
-  pub agree-all : (n : ℕ) → ((s : ℕ) → s < n → getD a s 0 ≡ getD b s 0) → true ≡ every (λ s. eqb (getD a s 0) (getD b s 0)) (below n)
-  agree-all n h = sym (agree-iff n .1 h)
-
-  -- and only then the test says so;
-  pub agreed : (n : ℕ) → every (λ s. eqb (getD a s 0) (getD b s 0)) (below n) ≡ true → (s : ℕ) → s < n → getD a s 0 ≡ getD b s 0
-  agreed n e = agree-iff n .0 e
-
-  -- or they differ at a state,
-  pub agree-not : (n s : ℕ) → s < n → getD a s 0 ≢ getD b s 0 → false ≡ every (λ s. eqb (getD a s 0) (getD b s 0)) (below n)
-  agree-not n s l ne = go (every (λ s. eqb (getD a s 0) (getD b s 0)) (below n)) refl
-    where
-      go : (t : Bool) → every (λ s. eqb (getD a s 0) (getD b s 0)) (below n) ≡ t → false ≡ t
-      go true e = absurd (ne (agreed n e s l))
-      go false e = refl
-
-  -- and if the test says no, there is such a state.
-  pub differ : (n : ℕ) → every (λ s. eqb (getD a s 0) (getD b s 0)) (below n) ≡ false → (s : ℕ) × (s < n) × (getD a s 0 ≢ getD b s 0)
-  differ n t =
-      ⊎-elim
-      (λ h. absurd (false≢true (sym t ∙ agree-iff n .1 h)))
-      (λ x. x)
-      (all-or-one (λ s. getD a s 0 ≡ getD b s 0) n (λ s l. at s l (ℕ-discrete (getD a s 0) (getD b s 0))))
-    where
-      at : (s : ℕ) → s < n → Dec (getD a s 0 ≡ getD b s 0) → (getD a s 0 ≡ getD b s 0) ⊎ ((s : ℕ) × (s < n) × (getD a s 0 ≢ getD b s 0))
-      at s l (yes e) = inl e
-      at s l (no ne) = inr (s, l, ne)
 
 -- ---- one round
 
@@ -68,10 +22,12 @@ module _ (count states most : ℕ) (from to : List ℕ) (lengths : List ℤ) (ok
   abbrev g : Graph
   g = edgeGraph count from to lengths
 
+  -- Every edge of the list leads from one of the states to one of them.
   pub edges-within : Within (edgeGraph count from to lengths) states
   edges-within e u = (ok .from-in e (u .0), ok .to-in e (u .0))
 
   module _ (f : ℕ → ℕ) where
+    -- Before the first edge every entry is 0.
     pub round-starts : (s : ℕ) → s < 64 → getD (replicate 64 0) s 0 ≡ greatest (via (edgeGraph count from to lengths) f s) (below 0)
     unfolding greatest below
     round-starts s h = getD-replicate 64 s 0 0 h
@@ -95,6 +51,7 @@ module _ (count states most : ℕ) (from to : List ℕ) (lengths : List ℤ) (ok
       low : getD from i 0 < 64
       low = omega (arith, ok .from-in i there, ok .states-in)
 
+      -- So each entry is the greatest length over the edges up to this one.
       pub round-goes-on : (s : ℕ) → s < 64 → getD (set new (getD from i 0) v) s 0 ≡ greatest (via (edgeGraph count from to lengths) f s) (below (i + 1))
       unfolding via
       round-goes-on s h = rw (add-one i, greatest-next (via (edgeGraph count from to lengths) f s) i) (go (ℕ-discrete s (getD from i 0)))

@@ -1,14 +1,15 @@
 -- Laws of signed numbers, for code that keeps them in 64 bits.
-use mathlib.Core.Path.{_≡_, sym}
+use mathlib.Core.Path.{_≡_, sym, ap}
 use mathlib.Core.Bool.{true, false, false≢true}
 use Prim.Native.Nat.{ℕ, _+_, _-_, _*_, _^_, _≤_, _<_}
 use native.Mathlib.Omega.{arith}
-use lib.Dec.{T}
+use lib.Dec.{T, ltb}
 use lib.IntN.{ℤ, pos, negsuc, natAbs, _+ℤ_, _-ℤ_, _*ℤ_}
-use lib.Signed.{leZ, nonNeg}
+use lib.Signed.{leZ, ltZ, nonNeg}
 use mir.Syntax.{w64}
-use mir.Val.{SFits}
-use borrow.Author.Tests.{leb-true, leb-false}
+use mir.Val.{SFits, toZ, ofZ}
+use mir.Facts.{toZ-pos, toZ-ofZ}
+use borrow.Author.Tests.{leb-true, leb-false, le-ltb}
 use Rattle.livelock.proofs.Differences.{Difference, difference-shift, difference-minus, difference-plus, difference-times}
 use Rattle.weighing.specs.Inner.Signs.{rise, fall}
 
@@ -53,6 +54,11 @@ pub difference-above : (z : ℤ) (a b n : ℕ) → Difference z a b → leZ z (p
 difference-above (pos d) a b n i h = omega (arith, leb-false d n h)
 difference-above (negsuc d) a b n i h = absurd (false≢true (sym h))
 
+-- The test in the code whether a − b is above n.
+pub difference-test : (z : ℤ) (a b n : ℕ) → Difference z a b → ltZ (pos n) z ≡ ltb n (a - b)
+difference-test (pos d) a b n i = let e : d ≡ a - b = omega arith in ap (ltb n) e
+difference-test (negsuc d) a b n i = sym (le-ltb n (a - b) (omega arith))
+
 -- A difference that is not negative, as a natural number.
 pub difference-natural : (z : ℤ) (a b : ℕ) → Difference z a b → b ≤ a → T (nonNeg z) × (natAbs z ≡ a - b)
 difference-natural (pos d) a b i h = (tt, omega arith)
@@ -62,6 +68,14 @@ difference-natural (negsuc d) a b i h = absurd (omega arith)
 pub difference-sum-of : (n : ℕ) (z : ℤ) → Difference (pos n +ℤ z) (rise z + n) (fall z)
 difference-sum-of n z =
     difference-shift (pos n +ℤ z) (n + rise z) (0 + fall z) (rise z + n) (fall z) (omega arith) (difference-plus (pos n) z n 0 (rise z) (fall z) (omega arith) (rise-fall z))
+
+-- The sum of a height and a length fits 64 bits, so the code's number is the sum itself.
+module _ (next : ℕ) (length : ℤ) (low : next ≤ 2199023255552) (up : rise length ≤ 4194304) (down : fall length ≤ 4194304) where
+  pub along-fits : SFits w64 (pos next +ℤ length)
+  along-fits = difference-fits (pos next +ℤ length) (rise length + next) (fall length) (difference-sum-of next length) (omega arith)
+
+  pub along-is : SFits w64 length → toZ w64 (ofZ w64 (toZ w64 next +ℤ toZ w64 (ofZ w64 length))) ≡ pos next +ℤ length
+  along-is fits = rw (toZ-pos w64 {n = next} (omega arith), toZ-ofZ fits) (toZ-ofZ along-fits)
 
 -- A number and a multiple of a signed one.
 pub difference-length : (first n : ℕ) (z : ℤ) → Difference (pos first +ℤ pos n *ℤ z) (first + n * rise z) (n * fall z)

@@ -1,4 +1,4 @@
--- Laws of weighing: the first weight above 1,000, the machines one after the other, the checks 9 to 11, and what the answer says.
+-- Laws of weighing: the first weight above 1,000, the machines one after the other, the checks 9 to 11, and what the answer and the verdict say.
 use mathlib.Core.Path.{_≡_, refl, sym, ap, _∙_, subst}
 use mathlib.Core.Logic.{_≢_, _↔_, _⊎_, inl, inr}
 use mathlib.Core.Bool.{Bool, true, false, cond, false≢true}
@@ -8,38 +8,43 @@ use native.Mathlib.Decide.{decLt}
 use native.Mathlib.Numerals.{add-one}
 use native.Mathlib.Omega.{arith}
 use lib.ListN.{length, getD, take, drop, drop-of-length-le, length-map}
-use lib.Seq.{drop-cons, getD-take}
+use lib.Seq.{drop-cons}
 use lib.Dec.{eqb, ltb}
-use lib.IntN.{pos}
-use lib.Signed.{_<ℤ_}
 use borrow.Author.Tests.{eq-eqb, ne-eqb, lt-ltb, le-ltb, eqb-true, ltb-false}
-use Rattle.livelock.specs.Plants.{Plant, machineCount, stateCount, WellFormed}
-use Rattle.livelock.specs.Cycles.{SimpleCycle, Quiet}
-use Rattle.livelock.specs.Weights.{cycleWeight, Passes, FailingCycle}
-use Rattle.livelock.specs.Figures.{mostStates}
-use Rattle.livelock.proofs.Graphs.{Graph}
-use Rattle.livelock.proofs.QuietGraphs.{cycle-machine, most-states}
+use Rattle.livelock.specs.Lists.{below, sum, greatest}
+use Rattle.livelock.specs.Plants.{Plant, machineCount, WellFormed}
+use Rattle.livelock.specs.Weights.{Passes, FailingCycle}
+use Rattle.livelock.specs.Figures.{base, mostStates, perProgress}
+use Rattle.livelock.proofs.SumLaws.{greatest-below}
+use Rattle.livelock.proofs.Graphs.{Graph, Cycle}
+use Rattle.livelock.proofs.QuietGraphs.{cycle-machine}
 use Rattle.livelock.proofs.Decision.{decision, not-both}
 use Rattle.livelock.proofs.Ceiling.{ceiling}
 use Rattle.plant.specs.Found.{Found, found, fault, andThen}
 use Rattle.plant.specs.Reading.{readPlant}
-use Rattle.plant.specs.Tables.{plantOf}
+use Rattle.plant.specs.Tables.{plantOf, endFound}
 use Rattle.plant.specs.Limits.{WithinLimits}
+use Rattle.plant.specs.declared.End.{End}
 use Rattle.plant.specs.declared.PlantTable.{PlantTable}
 use Rattle.plant.proofs.FileBounds.{within-limits}
 use Rattle.plant.proofs.OneToOne.{same-fault}
-use Rattle.plant.proofs.TableLaws.{machines-so-far}
-use Rattle.weighing.specs.Answers.{Answer, passed, cycle, refused, answerOf}
-use Rattle.weighing.specs.Weighing.{firstAbove, checkedSizes, checkedWeights, checkedRoom, checked, judged, OnPassing, OnFailing, Owed, for-fault, for-plant}
-use Rattle.weighing.specs.Inner.Checks.{Weighable, EdgesWeighed, PassedFor, OwedFor}
-use Rattle.weighing.specs.Inner.Edges.{columnsOf, Listed}
-use Rattle.weighing.specs.Inner.FigureSums.{SomeStates}
-use Rattle.weighing.specs.Inner.Rounds.{edgeGraph, EdgesIn, AllBelowZero, SomeZeroOrMore, Decided}
-use Rattle.weighing.specs.declared.edges.Edges.{Edges}
+use Rattle.plant.proofs.TableLaws.{machines-counted}
+use Rattle.weighing.specs.Answers.{Answer, passed, cycle, refused, answerOf, Judgement, judgementOf}
+use Rattle.weighing.specs.Answers as Answers
+use Rattle.weighing.specs.Weighing.{firstAbove, checkedSizes, checkedWeights, judgedWeights, checkedRoom, checked, judged, Bounded}
+use Rattle.weighing.specs.Weighing.{OnPassing, OnFailing, Owed, for-fault, for-plant, OnPassingVerdict, OwedVerdict, verdict-for-fault, verdict-for-plant}
+use Rattle.weighing.specs.Inner.Checks.{WeightsChecked, RoomChecked, Machines, graphOf, PassingRows, FailingRows, FirstFailing, Weighable, ShownRows, Lent}
+use Rattle.weighing.specs.Inner.Edges.{Columns, columnsOf, Edges, Listed}
+use Rattle.weighing.specs.Inner.FigureSums.{FiguresOf}
+use Rattle.weighing.specs.Inner.Rounds.{EdgesIn, AllBelowZero, SomeZeroOrMore, Decided}
+use Rattle.weighing.specs.declared.figures.Figures.{Figures}
 use Rattle.weighing.specs.declared.Weighed.{Weighed}
 use Rattle.weighing.specs.declared.Weighed.the-variants as Variants
-use Rattle.weighing.proofs.FigureLaws.{states-limit, most-limit}
-use Rattle.weighing.proofs.MachineLaws.{rows-from, machine-edges, machine-passes, machine-fails}
+use Rattle.weighing.specs.declared.Verdict.{Verdict}
+use Rattle.weighing.specs.declared.Verdict.the-variants as Verdicts
+use Rattle.weighing.proofs.FigureLaws.{states-limit, greatest-limit}
+use Rattle.weighing.proofs.ListedLaws.{edges-in}
+use Rattle.weighing.proofs.MachineLaws.{rows-between, machine-passes, machine-fails}
 
 -- ---- the first number above a limit
 
@@ -73,10 +78,6 @@ when-false g false e d = d
 
 -- ---- one machine after the other
 
--- Every quiet simple cycle of machine m weighs below zero.
-abbrev pub PassesAt : Plant → List ℕ → ℕ → Type 0
-PassesAt P ws m = (c : List ℕ) → SimpleCycle P m c → Quiet P c → cycleWeight P ws c <ℤ pos 0
-
 -- What holds below m and at m holds below m + 1.
 pub below-next : (F : ℕ → Type 0) (m : ℕ) → ((j : ℕ) → j < m → F j) → F m → (j : ℕ) → j < m + 1 → F j
 below-next F m h f j l = go (decLt j m)
@@ -85,121 +86,184 @@ below-next F m h f j l = go (decLt j m)
     go (yes x) = h j x
     go (no x) = let e : m ≡ j = omega arith in subst F e f
 
+-- Machine m has the rows from `low` up to, and not including, `high`.
+module _ (c : Columns) (first states ws : List ℕ) (given : Machines c first states) (m : ℕ) (within : m < length states)
+    (low high : ℕ) (low-is : low ≡ getD first m 0) (high-is : high ≡ getD first (m + 1) 0) where
+  -- They are few enough for an edge list.
+  pub turn-rows : (high ≤ 1024) × (low ≤ high) × (high ≤ low + 255)
+  turn-rows =
+      let x = given .rows m within in
+      (omega (arith, high-is, x .in-table), omega (arith, low-is, high-is, x .ordered), omega (arith, low-is, high-is, x .few))
+
+  module _ (e : Edges) (listed : Listed c ws low high e) where
+    -- The edges are the machine's.
+    turn-listed : Listed c ws (getD first m 0) (getD first (m + 1) 0) e
+    turn-listed = subst (λ (x : ℕ). Listed c ws x (getD first (m + 1) 0) e) low-is (subst (λ (y : ℕ). Listed c ws low y e) high-is listed)
+
+    -- They are within the limits.
+    pub turn-edges : ((i : ℕ) → getD ws i 0 ≤ 65535) → (n : ℕ) → n ≡ getD states m 0 → EdgesIn n (e .count) 65535 (e .from) (e .to) (e .weight)
+    turn-edges light n n-is =
+        subst (λ (s : ℕ). EdgesIn s (e .count) 65535 (e .from) (e .to) (e .weight)) (sym n-is)
+        (edges-in c ws light (getD first m 0) (getD first (m + 1) 0) e turn-listed (getD states m 0) (given .some-state m within) (given .few-states m within) (given .rows m within))
+
+    -- The machine passes if every cycle is below zero,
+    pub turn-passes : AllBelowZero (graphOf e) → PassingRows c ws (getD first m 0) (getD first (m + 1) 0)
+    turn-passes below-zero = record { edges = e; listed = turn-listed; below-zero = below-zero }
+
+    -- and fails if one is not.
+    pub turn-fails : SomeZeroOrMore (graphOf e) → FailingRows c ws (getD first m 0) (getD first (m + 1) 0) e
+    turn-fails zero-or-more = record { listed = turn-listed; zero-or-more = zero-or-more }
+
+-- No machine has more than n states, and n is at most 64.
+pub turn-states : (c : Columns) (first states : List ℕ) → Machines c first states → (m : ℕ) → m < length states → (s n : ℕ) → s ≡ getD states m 0
+    → n ≡ greatest (λ k. getD states k 0) (below (length states)) → (s ≤ n) × (n ≤ 64)
+turn-states c first states given m within s n s-is n-is = (
+  omega (arith, s-is, n-is, greatest-below (λ k. getD states k 0) (length states) m within),
+  omega (arith, n-is, greatest-limit (λ k. getD states k 0) 64 (length states) (given .few-states)),
+)
+
+-- Where machine m fails, there is a cycle for the search to find.
+pub search-begins : (c : Columns) (first states ws : List ℕ) → Machines c first states → (m : ℕ) (e : Edges) → FirstFailing c first states ws m e → m < length states
+    → ((i : ℕ) → getD ws i 0 ≤ 65535) → (s : ℕ) → s ≡ getD states m 0 → EdgesIn s (e .count) 65535 (e .from) (e .to) (e .weight) × SomeZeroOrMore (graphOf e)
+search-begins c first states ws given m e failing within light s s-is =
+    let x = failing .fails within in
+    (turn-edges c first states ws given m within _ _ refl refl e (x .listed) light s s-is, x .zero-or-more)
+
+-- ---- the machines of a table
+
 module _ (t : PlantTable) (ws : List ℕ) (ok : Weighable t ws) where
   -- The machines of the table are the plant's.
   pub machines-are : machineCount (plantOf t) ≡ t .machines
-  machines-are = machines-so-far t 16 (ok .ready .sound) (omega arith)
+  machines-are = machines-counted t (ok .ready .sound)
 
-  -- What the figures ask of the counts of states.
-  pub counts-good : (1 ≤ length (take (t .machines) (t .states))) × (length (take (t .machines) (t .states)) ≤ 16) × SomeStates (take (t .machines) (t .states))
-  counts-good = (ok .limits .some-machine, ok .limits .few-machines, λ m l. states-limit (plantOf t) (ok .limits) m l .0)
-
-  -- Where every machine passes, the weights do.
-  all-pass : ((m : ℕ) → m < t .machines → PassesAt (plantOf t) ws m) → Passes (plantOf t) ws
-  all-pass each m c s q = each m (omega (arith, cycle-machine (plantOf t) (ok .limits .formed) m c s, machines-are)) c s q
-
-  -- Then the figures are owed, and the bound holds.
-  pub passing-owed : ((m : ℕ) → m < t .machines → PassesAt (plantOf t) ws m) → (before after : List ℕ) → after ≡ before
-      → (r : Weighed) → PassedFor (take (t .machines) (t .states)) ws r → OwedFor t ws before after r
-  passing-owed each before after kept r figures end =
-      let p = all-pass each in
-      for-plant
-      (λ q. record { figures = figures (plantOf t) refl (sym (ok .one-each)); whole-kept = kept; bounded = ceiling (plantOf t) (ok .limits .formed) ws p })
-      (λ q. absurd (q p))
-
--- ---- the turn of one machine
-
--- The edges e of machine m of the table, which has so many states.
-pub record Turn (t : PlantTable) (ws : List ℕ) (m states : ℕ) (e : Edges) : Type 0 where
-  pub ok : Weighable t ws
-  pub within : m < t .machines
-  pub states-are : states ≡ getD (t .states) m 0
-  pub listed : Listed (columnsOf t) ws (getD (t .first) m 0) (getD (t .first) (m + 1) 0) e
-
-module _ (t : PlantTable) (ws : List ℕ) (ok : Weighable t ws) (m : ℕ) (within : m < t .machines) (low high : ℕ) (low-is : low ≡ getD (t .first) m 0) (high-is : high ≡ getD (t .first) (m + 1) 0) where
-  -- The rows from which the edges of machine m are listed.
-  pub turn-rows : (high ≤ 1024) × (low ≤ high) × (high ≤ low + 255)
-  turn-rows =
-      let x = rows-from t (ok .ready) (ok .limits) m (omega (arith, ok .ready .sound .few-machines)) in
-      (omega (arith, high-is, x .1), omega (arith, low-is, high-is, x .0), omega (arith, low-is, high-is, x .2))
-
-  -- Once they are listed, it is the machine's turn.
-  pub turn-begins : (states : ℕ) (e : Edges) → states ≡ getD (t .states) m 0 → Listed (columnsOf t) ws low high e → Turn t ws m states e
-  turn-begins states e states-are given =
+  -- What weighing the machines asks of the columns.
+  pub machines-good : Machines (columnsOf t) (t .first) (take (t .machines) (t .states))
+  machines-good =
       record {
-        ok = ok;
-        within = within;
-        states-are = states-are;
-        listed = subst (λ (x : ℕ). Listed (columnsOf t) ws x (getD (t .first) (m + 1) 0) e) low-is (subst (λ (y : ℕ). Listed (columnsOf t) ws low y e) high-is given);
+        few = ok .limits .few-machines;
+        some-state = λ m l. states-limit (plantOf t) (ok .limits) m l .0;
+        few-states = λ m l. states-limit (plantOf t) (ok .limits) m l .1;
+        rows = λ m l. rows-between t (ok .ready) (ok .limits) m (omega (arith, machines-are));
       }
 
-module _ {t : PlantTable} {ws : List ℕ} {m states : ℕ} {e : Edges} (turn : Turn t ws m states e) where
-  -- The machine is one of the plant's,
-  in-plant : m < machineCount (plantOf t)
-  in-plant = rw (machines-are t ws (turn .ok)) (turn .within)
+  module _ (c : Columns) (first states : List ℕ) (lent : Lent t c first states) where
+    -- A count of states is lent for each machine.
+    one-count-each : length states ≡ t .machines
+    one-count-each = sym (ap length (lent .counts)) ∙ machines-are
 
-  -- with as many states.
-  count-is : stateCount (plantOf t) m ≡ states
-  count-is = getD-take (t .machines) (t .states) m 0 (turn .within) ∙ sym (turn .states-are)
+    -- The answers with the figures f: they are owed where the weights pass, and the bound holds.
+    module _ (f : Figures) (figures : FiguresOf states ws f) (p : Passes (plantOf t) ws) where
+      figures-are : {A : Type 0} (answer : ℕ → ℕ → ℕ → A) → answer (f .base) (f .«most_states») (f .«per_progress») ≡ answer (base (plantOf t) ws) (mostStates (plantOf t)) (perProgress (plantOf t) ws)
+      figures-are answer = let x = figures (plantOf t) (lent .counts) (sym (ok .one-each)) in rw (x .0, x .1, x .2)
 
-  -- The edges are within the limits,
-  pub turn-edges : ((i : ℕ) → getD ws i 0 ≤ 65535) → EdgesIn states (e .count) 65535 (e .from) (e .to) (e .weight)
-  turn-edges light =
-      subst (λ (s : ℕ). EdgesIn s (e .count) 65535 (e .from) (e .to) (e .weight)) count-is (machine-edges t (turn .ok .ready) (turn .ok .limits) ws m (turn .within) e (turn .listed) light)
+      bounded : Bounded (plantOf t) ws
+      bounded = ceiling (plantOf t) (ok .limits .formed) ws p
 
-  -- and so is the count of states.
-  pub turn-states : (n : ℕ) → n ≡ mostStates (plantOf t) → (states ≤ n) × (n ≤ 64)
-  turn-states n n-is = (omega (arith, count-is, n-is, most-states (plantOf t) m in-plant), omega (arith, n-is, most-limit (plantOf t) (turn .ok .limits)))
+      pub passing-owed : (before : List ℕ) (end : ℕ) → Owed ws before before (passed (f .base) (f .«most_states») (f .«per_progress»)) (found (plantOf t) end)
+      passing-owed before end =
+          for-plant
+          (λ q. record { figures = figures-are passed; whole-kept = refl; bounded = bounded })
+          (λ q. absurd (q p))
 
-  module _ {before after : List ℕ} {k : ℕ} (weighed : EdgesWeighed (edgeGraph (e .count) (e .from) (e .to) (e .weight)) states (e .row) before after k) where
-    -- With no rows shown the machine passes, and the list is kept.
-    pub turn-passes : k ≡ 0 → PassesAt (plantOf t) ws m × (after ≡ before)
-    turn-passes z = let x = weighed .passing z in (machine-passes t (turn .ok .ready) (turn .ok .limits) ws m (turn .within) e (turn .listed) (x .0), x .1)
+      pub passing-verdict : (end : ℕ) → OwedVerdict ws (Answers.passing (f .base) (f .«most_states») (f .«per_progress»)) (found (plantOf t) end)
+      passing-verdict end =
+          verdict-for-plant
+          (λ q. record { figures = figures-are Answers.passing; bounded = bounded })
+          (λ q. absurd (q p))
 
-    -- Else the rows shown are a quiet simple cycle that weighs zero or more, so the weights do not pass.
-    pub turn-fails : 0 < k → OwedFor t ws before after (Variants.Cycle k)
-    turn-fails l end =
-        let x = weighed .failing l in
-        let w = x .written in
-        let rows : List ℕ = map (λ i. getD (e .row) i 0) (w .cycle) in
-        let f = machine-fails t (turn .ok .ready) (turn .ok .limits) ws m (turn .within) e (turn .listed) (w .cycle) (w .simple) (w .weighs) in
-        let fails : FailingCycle (plantOf t) ws rows = record { machine = m; simple = f .0; quiet = f .1; weighs = f .2 } in
-        let long : length rows ≡ k = length-map (w .cycle) (λ i. getD (e .row) i 0) ∙ w .long in
-        for-plant
-        (λ p. absurd (not-both (plantOf t) ws rows p fails))
-        (λ q.
-        record {
-          rows = rows;
-          fails = fails;
-          few = omega (arith, long, x .few, count-is, states-limit (plantOf t) (turn .ok .limits) m in-plant .1);
-          count = ap cycle (sym long);
-          shown = subst (λ (i : ℕ). after ≡ rows ++ drop i before) (sym long) (w .shown);
-        })
+    -- Machine m is the first that fails, and e are its edges.
+    module _ (m : ℕ) (e : Edges) (failing : FirstFailing c first states ws m e) where
+      -- So it is in the table.
+      in-table : FirstFailing (columnsOf t) (t .first) (take (t .machines) (t .states)) ws m e
+      in-table =
+          subst (λ (x : Columns). FirstFailing x (t .first) (take (t .machines) (t .states)) ws m e) (sym (lent .columns))
+          (subst (λ (x : List ℕ). FirstFailing c x (take (t .machines) (t .states)) ws m e) (sym (lent .first-rows))
+          (subst (λ (x : List ℕ). FirstFailing c first x ws m e) (sym (lent .counts)) failing))
+
+      -- Where there is none, the weights pass.
+      pub none-fails : length states ≤ m → Passes (plantOf t) ws
+      none-fails h k rows s q =
+          let within : k < t .machines = omega (arith, cycle-machine (plantOf t) (ok .limits .formed) k rows s, machines-are) in
+          let p = in-table .before k (omega (arith, one-count-each)) in
+          machine-passes t (ok .ready) (ok .limits) ws k within (p .edges) (p .listed) (p .below-zero) rows s q
+
+      module _ (within : m < length states) where
+        of-plant : m < machineCount (plantOf t)
+        of-plant = omega (arith, one-count-each, machines-are)
+
+        fails : FailingRows (columnsOf t) ws (getD (t .first) m 0) (getD (t .first) (m + 1) 0) e
+        fails = in-table .fails of-plant
+
+        -- Else the rows of a cycle of the edges that is zero or more are a failing cycle,
+        failing-rows : (es : List ℕ) → Cycle (graphOf e) es → sum (graphOf e .minus) es ≤ sum (graphOf e .plus) es → FailingCycle (plantOf t) ws (map (λ i. getD (e .row) i 0) es)
+        failing-rows es simple weighs =
+            let f = machine-fails t (ok .ready) (ok .limits) ws m (omega (arith, one-count-each)) e (fails .listed) es simple weighs in
+            record { machine = m; simple = f .0; quiet = f .1; weighs = f .2 }
+
+        -- so the weights do not pass,
+        one-fails : Passes (plantOf t) ws → ⊥
+        one-fails p = let x = fails .zero-or-more in not-both (plantOf t) ws _ p (failing-rows (x .0) (x .1) (x .2))
+
+        -- the verdict that they fail is owed,
+        pub failing-verdict : (end : ℕ) → OwedVerdict ws Answers.failing (found (plantOf t) end)
+        failing-verdict end = verdict-for-plant (λ p. absurd (one-fails p)) (λ q. refl)
+
+        -- and the cycle that is shown is owed.
+        pub failing-owed : (s : ℕ) → s ≡ getD states m 0 → (k : ℕ) (before after : List ℕ) → ShownRows (graphOf e) s (e .row) k before after
+            → (end : ℕ) → Owed ws before after (cycle k) (found (plantOf t) end)
+        failing-owed s s-is k before after x end =
+            let w = x .written in
+            let rows : List ℕ = map (λ i. getD (e .row) i 0) (w .cycle) in
+            let long : length rows ≡ k = length-map (w .cycle) (λ i. getD (e .row) i 0) ∙ w .long in
+            for-plant
+            (λ p. absurd (one-fails p))
+            (λ q.
+            record {
+              rows = rows;
+              fails = failing-rows (w .cycle) (w .simple) (w .weighs);
+              few = omega (arith, long, x .few, s-is, ap (λ (l : List ℕ). getD l m 0) (lent .counts), states-limit (plantOf t) (ok .limits) m of-plant .1);
+              count = ap cycle (sym long);
+              shown = subst (λ (i : ℕ). after ≡ rows ++ drop i before) (sym long) (w .shown);
+            })
 
 -- ---- the checks
 
-module _ (ws : List ℕ) (room : ℕ) (P : Plant) (end : ℕ) where
+-- What follows where reading ended, for what `end` is.
+pub end-told : (P : Plant) (k : Plant → ℕ → Found Plant) (x : Found Plant) (end end′ : End) → end ≡ end′ → x ≡ andThen (endFound end′ P) k → x ≡ andThen (endFound end P) k
+end-told P k x end end′ e h = h ∙ ap (λ (y : End). andThen (endFound y P) k) (sym e)
+
+module _ (ws : List ℕ) (P : Plant) (end : ℕ) where
   -- Not one weight for each type: fault 9.
-  pub refuse-9 : length ws ≢ P .types → fault 9 0 ≡ checked ws room P end
-  unfolding checked checkedWeights
+  pub refuse-9 : length ws ≢ P .types → fault 9 0 ≡ checkedWeights ws P end
+  unfolding checkedWeights
   refuse-9 h = rw (ne-eqb (length ws) (P .types) h)
 
   module _ (one-each : length ws ≡ P .types) where
     -- A weight above 1,000: fault 10 at the first.
-    pub refuse-10 : (i : ℕ) → i ≡ firstAbove 1000 ws → i < length ws → fault 10 i ≡ checked ws room P end
-    unfolding checked checkedWeights checkedSizes
+    pub refuse-10 : (i : ℕ) → i ≡ firstAbove 1000 ws → i < length ws → fault 10 i ≡ checkedWeights ws P end
+    unfolding checkedWeights checkedSizes
     refuse-10 i q l = rw (q, eq-eqb (length ws) (P .types) one-each, lt-ltb (firstAbove 1000 ws) (length ws) (rw (← q) l))
 
-    module _ (light : length ws ≤ firstAbove 1000 ws) where
-      -- A lent list shorter than 64: fault 11.
-      pub refuse-11 : room < 64 → fault 11 0 ≡ checked ws room P end
-      unfolding checked checkedWeights checkedSizes checkedRoom
-      refuse-11 l = rw (eq-eqb (length ws) (P .types) one-each, le-ltb (firstAbove 1000 ws) (length ws) light, lt-ltb room 64 l)
+    -- Otherwise the weights are good.
+    pub accept-weights : length ws ≤ firstAbove 1000 ws → found P end ≡ checkedWeights ws P end
+    unfolding checkedWeights checkedSizes
+    accept-weights light = rw (eq-eqb (length ws) (P .types) one-each, le-ltb (firstAbove 1000 ws) (length ws) light)
 
-      -- Otherwise the plant is weighed.
-      pub refuse-none : 64 ≤ room → found P end ≡ checked ws room P end
-      unfolding checked checkedWeights checkedSizes checkedRoom
-      refuse-none l = rw (eq-eqb (length ws) (P .types) one-each, le-ltb (firstAbove 1000 ws) (length ws) light, le-ltb room 64 l)
+-- A lent list shorter than 64: fault 11.
+pub refuse-11 : (room : ℕ) (P : Plant) (end : ℕ) → room < 64 → fault 11 0 ≡ checkedRoom room P end
+unfolding checkedRoom
+refuse-11 room P end l = rw (lt-ltb room 64 l)
+
+-- Otherwise what was found stays.
+pub accept-room : (room : ℕ) (x : Found Plant) → 64 ≤ room → x ≡ andThen x (checkedRoom room)
+unfolding checkedRoom
+accept-room room (found P end) l = rw (le-ltb room 64 l)
+accept-room room (fault number place) l = refl
+
+-- With good weights and room, the plant is weighed.
+pub refuse-none : (ws : List ℕ) (room : ℕ) (P : Plant) (end : ℕ) → length ws ≡ P .types → length ws ≤ firstAbove 1000 ws → 64 ≤ room → found P end ≡ checked ws room P end
+unfolding checked
+refuse-none ws room P end one-each light l = rw (← accept-weights ws P end one-each light) (accept-room room (found P end) l)
 
 -- ---- the whole answer
 
@@ -211,13 +275,34 @@ refusal ws before number place x e = subst (Owed ws before before (refused numbe
 pub owed-same : (ws before after : List ℕ) (a : Answer) (x y : Found Plant) → x ≡ y → Owed ws before after a x → Owed ws before after a y
 owed-same ws before after a x y e h = subst (Owed ws before after a) e h
 
--- A fault of the file is the fault,
-pub judged-fault : (file ws : List ℕ) (room number place : ℕ) → readPlant file ≡ fault number place → fault number place ≡ judged file ws room
-judged-fault file ws room number place e = rw e
+-- A verdict on a fault found is its number and place.
+pub verdict-refusal : (ws : List ℕ) (number place : ℕ) (x : Found Plant) → fault number place ≡ x → OwedVerdict ws (Answers.refusing number place) x
+verdict-refusal ws number place x e = subst (OwedVerdict ws (Answers.refusing number place)) e (verdict-for-fault refl)
 
--- and a plant is checked.
+-- What is read first, what follows it, and what follows that.
+pub then-then : (x : Found Plant) (k l : Plant → ℕ → Found Plant) → andThen (andThen x k) l ≡ andThen x (λ P end. andThen (k P end) l)
+then-then (found P end) k l = refl
+then-then (fault number place) k l = refl
+
+-- The checks of the weights, then that of the lent list.
+judged-room : (file ws : List ℕ) (room : ℕ) → andThen (judgedWeights file ws) (checkedRoom room) ≡ judged file ws room
+unfolding checked
+judged-room file ws room = then-then (readPlant file) (checkedWeights ws) (checkedRoom room)
+
+-- A file that reads as P has P checked.
 pub judged-plant : (file ws : List ℕ) (room : ℕ) (P : Plant) (end : ℕ) → readPlant file ≡ found P end → checked ws room P end ≡ judged file ws room
 judged-plant file ws room P end e = rw e
+
+-- A table that reading the file gave, and where it ended.
+module _ (file ws : List ℕ) (t : PlantTable) (read : End) (reads : endFound read (plantOf t) ≡ readPlant file) (weighed : End) (types : ℕ)
+    (weights : WeightsChecked types ws read weighed) (types-are : t .types ≡ types) where
+  -- After the checks of the weights it is as judged,
+  pub weights-judged : endFound weighed (plantOf t) ≡ judgedWeights file ws
+  weights-judged = weights (plantOf t) types-are ∙ ap (λ (x : Found Plant). andThen x (checkedWeights ws)) reads
+
+  -- and so it is after that of the lent list.
+  pub room-judged : (room : ℕ) (end : End) → RoomChecked room weighed end → endFound end (plantOf t) ≡ judged file ws room
+  room-judged room end h = h (plantOf t) ∙ (ap (λ (x : Found Plant). andThen x (checkedRoom room)) weights-judged ∙ judged-room file ws room)
 
 -- ---- what the answer says
 
@@ -262,37 +347,62 @@ no-plant number place P end e = absurd (false≢true (ap isFound e))
     isFound (found p k) = true
     isFound (fault n q) = false
 
--- What the checks of the weights and of the lent list say of plant Q when they find plant P.
+-- What is found after another thing was found.
+pub then-found : (x : Found Plant) (k : Plant → ℕ → Found Plant) (P : Plant) (end : ℕ) → andThen x k ≡ found P end
+    → (Q : Plant) × (next : ℕ) × (x ≡ found Q next) × (k Q next ≡ found P end)
+then-found (found Q next) k P end e = (Q, next, refl, e)
+then-found (fault number place) k P end e = no-plant number place P end e
+
+-- What the checks of the weights say of plant Q when they find plant P.
 pub record Good (ws : List ℕ) (Q P : Plant) : Type 0 where
   pub same : Q ≡ P
   pub one-each : length ws ≡ Q .types
   pub light : length ws ≤ firstAbove 1000 ws
 
 -- They change no plant, and there is one weight for each type, none above 1,000.
+weights-good : (ws : List ℕ) (Q P : Plant) (k end : ℕ) → checkedWeights ws Q k ≡ found P end → Good ws Q P
+unfolding checkedWeights checkedSizes
+weights-good ws Q P k end = go (eqb (length ws) (Q .types)) (ltb (firstAbove 1000 ws) (length ws)) refl refl
+  where
+    go : (a b : Bool) → eqb (length ws) (Q .types) ≡ a → ltb (firstAbove 1000 ws) (length ws) ≡ b
+        → cond a (cond b (fault 10 (firstAbove 1000 ws)) (found Q k)) (fault 9 0) ≡ found P end → Good ws Q P
+    go true true p q e = no-plant _ _ P end e
+    go true false p q e = record { same = cc; one-each = eqb-true _ _ p; light = ltb-false _ _ q }
+    go false b p q e = no-plant _ _ P end e
+
+-- The check of the lent list changes none either, and there is room for a cycle.
+room-good : (room : ℕ) (Q P : Plant) (k end : ℕ) → checkedRoom room Q k ≡ found P end → (Q ≡ P) × (64 ≤ room)
+unfolding checkedRoom
+room-good room Q P k end = go (ltb room 64) refl
+  where
+    go : (a : Bool) → ltb room 64 ≡ a → cond a (fault 11 0) (found Q k) ≡ found P end → (Q ≡ P) × (64 ≤ room)
+    go true q e = no-plant _ _ P end e
+    go false q e = (cc, ltb-false _ _ q)
+
+-- So it is with all checks.
 pub checked-good : (ws : List ℕ) (room : ℕ) (Q P : Plant) (k end : ℕ) → checked ws room Q k ≡ found P end → Good ws Q P
-unfolding checked checkedWeights checkedSizes checkedRoom
-checked-good ws room Q P k end = go (eqb (length ws) (Q .types)) (ltb (firstAbove 1000 ws) (length ws)) (ltb room 64) refl refl
-  where
-    go : (a b c : Bool) → eqb (length ws) (Q .types) ≡ a → ltb (firstAbove 1000 ws) (length ws) ≡ b
-        → andThen (cond a (cond b (fault 10 (firstAbove 1000 ws)) (found Q k)) (fault 9 0)) (λ p e. cond c (fault 11 0) (found p e)) ≡ found P end → Good ws Q P
-    go true true c p q e = no-plant _ _ P end e
-    go true false true p q e = no-plant _ _ P end e
-    go true false false p q e = record { same = cc; one-each = eqb-true _ _ p; light = ltb-false _ _ q }
-    go false b c p q e = no-plant _ _ P end e
+unfolding checked
+checked-good ws room Q P k end e =
+    let x = then-found (checkedWeights ws Q k) (checkedRoom room) P end e in
+    subst (Good ws Q) (room-good room (x .0) P (x .1) end (x .3) .0) (weights-good ws Q (x .0) k (x .1) (x .2))
 
--- A plant that is weighed is one that a file reads as, so it is within the limits, and the weights are good for it.
-pub judged-good : (file ws : List ℕ) (room : ℕ) (P : Plant) (end : ℕ) → judged file ws room ≡ found P end → WithinLimits P × Good ws P P
-judged-good file ws room P end e = go (readPlant file) refl
-  where
-    go : (x : Found Plant) → readPlant file ≡ x → WithinLimits P × Good ws P P
-    go (fault number place) q = no-plant number place P end (judged-fault file ws room number place q ∙ e)
-    go (found Q k) q =
-        let g = checked-good ws room Q P k end (judged-plant file ws room Q k q ∙ e) in
-        subst (λ (x : Plant). WithinLimits x × Good ws x P) (g .same) (within-limits file Q k q, g)
+-- A plant for which the weights are good is one that a file reads as, so it is within the limits.
+pub judged-weights : (file ws : List ℕ) (P : Plant) (end : ℕ) → judgedWeights file ws ≡ found P end → WithinLimits P × Good ws P P
+judged-weights file ws P end e =
+    let x = then-found (readPlant file) (checkedWeights ws) P end e in
+    let g = weights-good ws (x .0) P (x .1) end (x .3) in
+    subst (λ (y : Plant). WithinLimits y × Good ws y P) (g .same) (within-limits file (x .0) (x .1) (x .2), g)
 
--- The first of these alone.
+-- A plant that is weighed is such a plant, and there is room for a cycle.
+pub judged-good : (file ws : List ℕ) (room : ℕ) (P : Plant) (end : ℕ) → judged file ws room ≡ found P end → (WithinLimits P × Good ws P P) × (64 ≤ room)
+judged-good file ws room P end e =
+    let x = then-found (judgedWeights file ws) (checkedRoom room) P end (judged-room file ws room ∙ e) in
+    let y = room-good room (x .0) P (x .1) end (x .3) in
+    (subst (λ (z : Plant). WithinLimits z × Good ws z z) (y .0) (judged-weights file ws (x .0) (x .1) (x .2)), y .1)
+
+-- The limits alone.
 pub judged-limits : (file ws : List ℕ) (room : ℕ) (P : Plant) (end : ℕ) → judged file ws room ≡ found P end → WithinLimits P
-judged-limits file ws room P end e = judged-good file ws room P end e .0
+judged-limits file ws room P end e = judged-good file ws room P end e .0 .0
 
 -- For every input that is judged to be a plant, figures are handed back exactly when every quiet simple cycle weighs below zero.
 pub passed-iff : (file ws before after : List ℕ) (a : Answer) (P : Plant) (end : ℕ) → judged file ws (length before) ≡ found P end
@@ -338,3 +448,62 @@ one-to-one (Variants.Refused f) (Variants.Refused g) e =
     let n : f .number ≡ g .number = cc in
     let q : f .place ≡ g .place = cc in
     ap Variants.Refused (same-fault f g n q)
+
+-- ---- what a verdict says
+
+-- Two verdicts that are owed for one thing found are one.
+same-verdict : {ws : List ℕ} {v w : Judgement} (x : Found Plant) → ((P : Plant) (end : ℕ) → x ≡ found P end → WellFormed P) → OwedVerdict ws v x → OwedVerdict ws w x → v ≡ w
+same-verdict (fault number place) formed (verdict-for-fault h) (verdict-for-fault i) = h ∙ sym i
+same-verdict {ws} {v} {w} (found P end) formed (verdict-for-plant h f) (verdict-for-plant i g) = go (decision P (formed P end refl) ws)
+  where
+    go : Passes P ws ⊎ ((c : List ℕ) × FailingCycle P ws c) → v ≡ w
+    go (inl p) = h p .figures ∙ sym (i p .figures)
+    go (inr x) =
+        let fails : Passes P ws → ⊥ = λ p. not-both P ws (x .0) p (x .1) in
+        f fails ∙ sym (g fails)
+
+-- So for every input the verdict is determined.
+pub verdict-determined : (file ws : List ℕ) (v w : Judgement) → OwedVerdict ws v (judgedWeights file ws) → OwedVerdict ws w (judgedWeights file ws) → v ≡ w
+verdict-determined file ws v w = same-verdict (judgedWeights file ws) (λ P end e. judged-weights file ws P end e .0 .formed)
+
+-- The kinds of verdicts: figures, that the weights do not pass, a refusal.
+abbrev kindOfVerdict : Judgement → ℕ
+kindOfVerdict (Answers.passing F n G) = 0
+kindOfVerdict Answers.failing = 1
+kindOfVerdict (Answers.refusing number place) = 2
+
+-- A refusal is owed for that fault alone,
+pub verdict-refused : {ws : List ℕ} {number place : ℕ} (x : Found Plant) → OwedVerdict ws (Answers.refusing number place) x → fault number place ≡ x
+verdict-refused (fault n q) (verdict-for-fault h) = cc
+verdict-refused (found P end) (verdict-for-plant passes fails) = absurd (omega (arith, ap kindOfVerdict (fails (λ p. absurd (omega (arith, ap kindOfVerdict (passes p .figures)))))))
+
+-- that the weights do not pass is owed for a plant for which they do not,
+pub verdict-fails : {ws : List ℕ} (x : Found Plant) → OwedVerdict ws Answers.failing x → (P : Plant) × (end : ℕ) × (x ≡ found P end) × (Passes P ws → ⊥)
+verdict-fails (fault n q) (verdict-for-fault h) = absurd (omega (arith, ap kindOfVerdict h))
+verdict-fails (found P end) (verdict-for-plant passes fails) = (P, end, refl, λ p. absurd (omega (arith, ap kindOfVerdict (passes p .figures))))
+
+-- and figures are owed for a plant for which they do.
+pub verdict-passes : {ws : List ℕ} {F n G : ℕ} (x : Found Plant) → ((P : Plant) (end : ℕ) → x ≡ found P end → WellFormed P) → OwedVerdict ws (Answers.passing F n G) x
+    → (P : Plant) × (end : ℕ) × (x ≡ found P end) × Passes P ws × OnPassingVerdict P ws (Answers.passing F n G)
+verdict-passes (fault n q) formed (verdict-for-fault h) = absurd (omega (arith, ap kindOfVerdict h))
+verdict-passes {ws} {F} {n} {G} (found P end) formed (verdict-for-plant passes fails) = go (decision P (formed P end refl) ws)
+  where
+    go : Passes P ws ⊎ ((c : List ℕ) × FailingCycle P ws c)
+        → (Q : Plant) × (k : ℕ) × (found P end ≡ found Q k) × Passes Q ws × OnPassingVerdict Q ws (Answers.passing F n G)
+    go (inl p) = (P, end, refl, p, passes p)
+    go (inr x) = absurd (omega (arith, ap kindOfVerdict (fails (λ p. not-both P ws (x .0) p (x .1)))))
+
+-- Different verdicts never mean the same.
+pub verdicts-differ : (a b : Verdict) → judgementOf a ≡ judgementOf b → a ≡ b
+verdicts-differ (Verdicts.Passes F n G) (Verdicts.Passes F′ n′ G′) e = cc
+verdicts-differ (Verdicts.Passes F n G) Verdicts.Fails e = cc
+verdicts-differ (Verdicts.Passes F n G) (Verdicts.Refused g) e = cc
+verdicts-differ Verdicts.Fails (Verdicts.Passes F′ n′ G′) e = cc
+verdicts-differ Verdicts.Fails Verdicts.Fails e = refl
+verdicts-differ Verdicts.Fails (Verdicts.Refused g) e = cc
+verdicts-differ (Verdicts.Refused f) (Verdicts.Passes F′ n′ G′) e = cc
+verdicts-differ (Verdicts.Refused f) Verdicts.Fails e = cc
+verdicts-differ (Verdicts.Refused f) (Verdicts.Refused g) e =
+    let n : f .number ≡ g .number = cc in
+    let q : f .place ≡ g .place = cc in
+    ap Verdicts.Refused (same-fault f g n q)

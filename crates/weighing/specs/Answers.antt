@@ -2,6 +2,8 @@
 use Prim.Native.Nat.{ℕ}
 use Rattle.weighing.specs.declared.Weighed.{Weighed}
 use Rattle.weighing.specs.declared.Weighed.the-variants as Variants
+use Rattle.weighing.specs.declared.Verdict.{Verdict}
+use Rattle.weighing.specs.declared.Verdict.the-variants as Verdicts
 
 -- "Passing hands back F, n and G"; otherwise "their count is handed back"; or "its number and a place". Different answers are different here.
 pub data Answer : Type 0 where
@@ -14,3 +16,15 @@ abbrev pub answerOf : Weighed → Answer
 answerOf (Variants.Passed base states progress) = passed base states progress
 answerOf (Variants.Cycle rows) = cycle rows
 answerOf (Variants.Refused f) = refused (f .number) (f .place)
+
+-- Without a cycle: "Passing hands back F, n and G"; or that the weights do not pass; or "its number and a place".
+pub data Judgement : Type 0 where
+  passing : ℕ → ℕ → ℕ → Judgement
+  failing : Judgement
+  refusing : ℕ → ℕ → Judgement
+
+-- What an answer of `judge` says.
+abbrev pub judgementOf : Verdict → Judgement
+judgementOf (Verdicts.Passes base states progress) = passing base states progress
+judgementOf Verdicts.Fails = failing
+judgementOf (Verdicts.Refused f) = refusing (f .number) (f .place)

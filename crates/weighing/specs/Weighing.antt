@@ -11,7 +11,7 @@ use Rattle.livelock.specs.Weights.{Passes, FailingCycle}
 use Rattle.livelock.specs.Figures.{base, mostStates, perProgress, ceilingOf}
 use Rattle.plant.specs.Found.{Found, found, fault, andThen}
 use Rattle.plant.specs.Reading.{readPlant}
-use Rattle.weighing.specs.Answers.{Answer, passed, cycle, refused}
+use Rattle.weighing.specs.Answers.{Answer, passed, cycle, refused, Judgement, passing, failing, refusing}
 
 -- The index of the first number above a limit, or the length if none is.
 unfoldable pub firstAbove : ℕ → List ℕ → ℕ
@@ -25,6 +25,10 @@ checkedSizes ws P end = cond (ltb (firstAbove 1000 ws) (length ws)) (fault 10 (f
 -- "weights | 9 | not one for each type | 0", then 10: a plant for which the weights are good.
 unfoldable pub checkedWeights : List ℕ → Plant → ℕ → Found Plant
 checkedWeights ws P end = cond (eqb (length ws) (P .types)) (checkedSizes ws P end) (fault 9 0)
+
+-- "File first, then downward as each call reads its parts": the plant for which the weights are good, or the fault.
+abbrev pub judgedWeights : List ℕ → List ℕ → Found Plant
+judgedWeights file ws = andThen (readPlant file) (checkedWeights ws)
 
 -- "lent cycle list (weighing) | 11 | shorter than 64 | 0".
 unfoldable pub checkedRoom : ℕ → Plant → ℕ → Found Plant
@@ -67,3 +71,13 @@ pub data Owed (ws before after : List ℕ) (a : Answer) : Found Plant → Type 0
   for-fault : {number place : ℕ} → OnFault number place before after a → Owed ws before after a (fault number place)
   for-plant : {P : Plant} {end : ℕ} → (Passes P ws → OnPassing P ws before after a) → ((Passes P ws → ⊥) → OnFailing P ws before after a)
       → Owed ws before after a (found P end)
+
+-- "Passing hands back F, n and G as in the mission"; and the bound holds.
+pub record OnPassingVerdict (P : Plant) (ws : List ℕ) (v : Judgement) : Type 0 where
+  pub figures : v ≡ passing (base P ws) (mostStates P) (perProgress P ws)
+  pub bounded : Bounded P ws
+
+-- What a verdict owes, by the input alone: for a fault its number and place; for a plant the figures if the weights pass, and that they do not if not.
+pub data OwedVerdict (ws : List ℕ) (v : Judgement) : Found Plant → Type 0 where
+  verdict-for-fault : {number place : ℕ} → v ≡ refusing number place → OwedVerdict ws v (fault number place)
+  verdict-for-plant : {P : Plant} {end : ℕ} → (Passes P ws → OnPassingVerdict P ws v) → ((Passes P ws → ⊥) → v ≡ failing) → OwedVerdict ws v (found P end)

@@ -1,14 +1,14 @@
-// Whether every simple cycle of an edge list weighs below zero: rounds of relaxation (Bellman and Ford) with lengths 1 + n × weight.
+// Whether every simple cycle of an edge list weighs below zero: relaxation in place (Bellman and Ford) with lengths 1 + n × weight.
 ghost use mathlib.Core.Path.{_≡_};
-ghost use Prim.Native.Nat.{_≤_};
-ghost use lib.ListN.{getD};
-ghost use lib.Dec.{eqb};
+ghost use Prim.Native.Nat.{_+_, _-_, _≤_, _<_};
+ghost use lib.ListN.{length};
+ghost use lib.Dec.{ltb};
 ghost use lib.IntN.{pos, _+ℤ_, _*ℤ_};
-ghost use Rattle.livelock.specs.Lists.{below};
-ghost use Rattle.livelock.proofs.Tests.{every};
+ghost use Rattle.livelock.proofs.Lengths.{lengthened};
 ghost use Rattle.weighing.specs.Inner.Signs.{rise, fall};
-ghost use Rattle.weighing.specs.Inner.Rounds.{edgeGraph, EdgesIn, Light, Lengths, Decided};
-use crate::relaxing::round;
+ghost use Rattle.weighing.specs.Inner.Rounds.{edgeGraph, EdgesIn, AtMost, Pass, Decided};
+use crate::casts::wide;
+use crate::relaxing::raised;
 
 // The length of a row: of a cycle of at most n rows it is above zero exactly when the cycle weighs zero or more.
 fn row_length(n: u64, weight: i64) -> i64
@@ -18,36 +18,46 @@ fn row_length(n: u64, weight: i64) -> i64
     1 + n as i64 * weight
 }
 
-// The lengths of the first `count` edges.
-fn row_lengths(weight: &[i64; 256], count: usize, n: u64) -> [i64; 256]
-    requires { ⌜ (n ≤ 64) × (count ≤ 256) × Light count (now weight) ⌝ }
-    ensures { λ r. ⌜ Lengths n count (now (weight .entry)) r ⌝ }
+// Whether the length along an edge and `next` on from its end is above `at`.
+fn rises(at: u64, next: u64, length: i64) -> bool
+    requires { ⌜ (at ≤ 4398046511104) × (next ≤ 2199023255552) × (rise length ≤ 4194304) × (fall length ≤ 4194304) ⌝ }
+    ensures { λ r. ⌜ r ≡ ltb at ((rise length + next) - fall length) ⌝ }
 {
-    let mut lengths = [0; 256];
+    next as i64 + length > at as i64
+}
+
+// One pass over the edges, in place; whether a height was raised. The height of a is read first: read just before the test, the compiler would store it
+// at every edge, raised or not, and the next edge would wait for the store.
+fn relax(
+    from: &[u8; 256],
+    to: &[u8; 256],
+    weight: &[i64; 256],
+    count: usize,
+    states: usize,
+    n: u64,
+    heights: &mut [u64; 64],
+) -> bool
+    requires { ⌜ EdgesIn states count 65535 (now from) (now to) (now weight) × (n ≤ 64) × (length (now heights) ≡ 64) × AtMost 68719476736 (now heights) ⌝ }
+    ensures { λ r. ⌜ Pass (lengthened n (edgeGraph count (now (from .entry)) (now (to .entry)) (now (weight .entry)))) count (now (heights .entry)) (now (heights .exit)) r ⌝ }
+{
+    let mut changed = false;
     let mut i = 0;
     while i < count {
-        lengths[i] = row_length(n, weight[i]);
+        let a = wide(from[i]);
+        let height = heights[a];
+        let b = wide(to[i]);
+        let length = row_length(n, weight[i]);
+        let next = heights[b];
+        if rises(height, next, length) {
+            heights[a] = raised(height, next, length);
+            changed = true;
+        }
         i += 1;
     }
-    lengths
+    changed
 }
 
-// Whether two tables agree at the first `states` states.
-fn agree(a: &[u64; 64], b: &[u64; 64], states: usize) -> bool
-    requires { ⌜ states ≤ 64 ⌝ }
-    ensures { λ r. ⌜ r ≡ every (λ s. eqb (getD (now (a .entry)) s 0) (getD (now (b .entry)) s 0)) (below states) ⌝ }
-{
-    let mut s = 0;
-    while s < states {
-        if a[s] != b[s] {
-            return false;
-        }
-        s += 1;
-    }
-    true
-}
-
-// Whether every simple cycle weighs below zero. A round that changes nothing says yes; a change in each of as many rounds as there are states says no.
+// Whether every simple cycle weighs below zero. A pass that raises no height says yes; if each of as many passes as there are states raises one, the answer is no.
 pub fn decide(
     from: &[u8; 256],
     to: &[u8; 256],
@@ -59,15 +69,12 @@ pub fn decide(
     requires { ⌜ EdgesIn states count 65535 (now from) (now to) (now weight) × (states ≤ n) × (n ≤ 64) ⌝ }
     ensures { λ r. ⌜ Decided (edgeGraph count (now (from .entry)) (now (to .entry)) (now (weight .entry))) r ⌝ }
 {
-    let lengths = row_lengths(weight, count, n);
     let mut heights = [0; 64];
     let mut k = 0;
     while k < states {
-        let next = round(from, to, &lengths, count, states, &heights);
-        if agree(&heights, &next, states) {
+        if !relax(from, to, weight, count, states, n, &mut heights) {
             return true;
         }
-        heights = next;
         k += 1;
     }
     false

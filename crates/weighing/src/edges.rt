@@ -1,19 +1,9 @@
-// The quiet rows of one machine, copied once into an edge list that the rounds and the search are lent.
+// The quiet rows of one machine, copied into lent lists of edges, which the rounds and the search are lent in turn.
 ghost use mathlib.Core.Path.{_≡_};
 ghost use Prim.Native.Nat.{_+_, _≤_};
-ghost use lib.ListN.{length};
 ghost use Rattle.livelock.proofs.CycleWeights.{messageWeight};
 ghost use Rattle.plant.specs.Tables.{typeOf};
-ghost use Rattle.weighing.specs.Inner.Edges.{rowWeight, oneIfQuiet, Listed};
-
-// Edge i leads from state from[i] to state to[i], weighs weight[i] and is row row[i]. Entries past the count are unused.
-pub struct Edges {
-    pub count: usize,
-    pub from: [u8; 256],
-    pub to: [u8; 256],
-    pub weight: [i64; 256],
-    pub row: [u16; 256],
-}
+ghost use Rattle.weighing.specs.Inner.Edges.{rowWeight, oneIfQuiet, Room, Listed};
 
 // The weight of a message: 0 for none.
 fn message_weight(message: u8, weights: &[u16]) -> u16
@@ -41,23 +31,8 @@ fn one_if_quiet(progress: bool) -> usize
     if progress { 0 } else { 1 }
 }
 
-fn no_edges() -> Edges
-    ensures { λ r. ⌜ (r .count ≡ 0) × (length (r .from) ≡ 256) × (length (r .to) ≡ 256) × (length (r .weight) ≡ 256) × (length (r .row) ≡ 256) ⌝ }
-{
-    let from = [0; 256];
-    let to = [0; 256];
-    let weight = [0; 256];
-    let row = [0; 256];
-    Edges {
-        count: 0,
-        from,
-        to,
-        weight,
-        row,
-    }
-}
-
-// The quiet rows from `low` up to, and not including, `high`. Each row is stored; only a quiet one is counted, so that the next takes its place otherwise.
+// Lists the quiet rows from `low` up to, and not including, `high`, and hands back how many they are: edge i leads from state from[i] to state to[i],
+// weighs weight[i] and is row row[i]. Each row is stored; only a quiet one is counted, so that the next takes its place otherwise.
 // One lifetime for all columns, so that a caller can lend the fields of one table.
 pub fn edges_of<'a>(
     left: &'a [u8; 1024],
@@ -68,21 +43,23 @@ pub fn edges_of<'a>(
     low: usize,
     high: usize,
     weights: &[u16],
-) -> Edges
-    requires { ⌜ (high ≤ 1024) × (low ≤ high) × (high ≤ low + 255) ⌝ }
-    ensures { λ r. ⌜ Listed (record { left = now (left .entry); entered = now (entered .entry); sent = now (sent .entry); taken = now (taken .entry); progress = now (progress .entry) }) (now (weights .entry)) low high r ⌝ }
+    from: &mut [u8; 256],
+    to: &mut [u8; 256],
+    weight: &mut [i64; 256],
+    row: &mut [u16; 256],
+) -> usize
+    requires { ⌜ (high ≤ 1024) × (low ≤ high) × (high ≤ low + 255) × Room (now from) (now to) (now weight) (now row) ⌝ }
+    ensures { λ r. ⌜ Listed (record { left = now (left .entry); entered = now (entered .entry); sent = now (sent .entry); taken = now (taken .entry); progress = now (progress .entry) }) (now (weights .entry)) low high (record { count = r; from = now (from .exit); to = now (to .exit); weight = now (weight .exit); row = now (row .exit) }) ⌝ }
 {
-    let mut e = no_edges();
+    let mut count = 0;
     let mut k = low;
     while k < high {
-        let i = e.count;
-        let weight = row_weight(sent[k], taken[k], weights);
-        e.from[i] = left[k];
-        e.to[i] = entered[k];
-        e.weight[i] = weight;
-        e.row[i] = k as u16;
-        e.count = i + one_if_quiet(progress[k]);
+        from[count] = left[k];
+        to[count] = entered[k];
+        weight[count] = row_weight(sent[k], taken[k], weights);
+        row[count] = k as u16;
+        count += one_if_quiet(progress[k]);
         k += 1;
     }
-    e
+    count
 }

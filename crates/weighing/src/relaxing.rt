@@ -1,4 +1,5 @@
-// One round of relaxation over an edge list: it serves the decision and the search.
+// Relaxation over an edge list, in two ways. The decision relaxes heights in place (deciding.rt), since a height may be the length of any walk.
+// The search goes from table to table (`round`), since it needs walks of exactly k edges.
 ghost use mathlib.Core.Path.{_≡_};
 ghost use Prim.Native.Nat.{_+_, _-_, _≤_, max};
 ghost use Rattle.weighing.specs.Inner.Signs.{rise, fall};

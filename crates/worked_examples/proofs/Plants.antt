@@ -34,28 +34,34 @@ rowPlant mark =
 
 -- ---- reading
 
+-- File A reads as plant A, to its end after 20 bytes,
 pub reads-A : readPlant fileA ≡ found plantA 20
 unfolding panelAndProbeBytes panelAndProbe byteAt byteThat byteIn mapByte stateField typeField readRow readRows rowsByte readMachine readMachines readPlant
 reads-A = refl
 
+-- and file B as plant B.
 pub reads-B : readPlant fileB ≡ found plantB 20
 unfolding panelAndProbeBytes panelAndProbe byteAt byteThat byteIn mapByte stateField typeField readRow readRows rowsByte readMachine readMachines readPlant
 reads-B = refl
 
+-- The file of one state reads as the machine with no row,
 pub reads-one-state : readPlant oneState ≡ found onePlant 4
 unfolding oneState onePlant byteAt byteThat byteIn rowsByte readRows readMachine readMachines readPlant
 reads-one-state = refl
 
+-- with the row 00 as that machine with a row without progress,
 pub reads-quiet-row : readPlant (oneRow 0x00) ≡ found (rowPlant false) 5
 unfolding oneRow rowPlant byteAt byteThat byteIn mapByte stateField typeField readRow readRows rowsByte readMachine readMachines readPlant
 reads-quiet-row = refl
 
+-- and with the row 10 as that machine with a row that has progress.
 pub reads-progress-row : readPlant (oneRow 0x10) ≡ found (rowPlant true) 5
 unfolding oneRow rowPlant byteAt byteThat byteIn mapByte stateField typeField readRow readRows rowsByte readMachine readMachines readPlant
 reads-progress-row = refl
 
 -- ---- weights
 
+-- The weights 1, 0 pass in plant A.
 pub passes-1-0 : Passes plantA (1 ∷ 0 ∷ [])
 unfolding panelAndProbe below greatest every statePotential longest via hasProgress
 passes-1-0 = passing-iff plantA formed-A (1 ∷ 0 ∷ []) .0 refl
@@ -65,6 +71,7 @@ pub shown-1-2 : FailingCycle plantA (1 ∷ 2 ∷ []) (2 ∷ 3 ∷ [])
 unfolding panelAndProbe below sum sumℤ cycleWeight
 shown-1-2 = record { machine = 1; simple = probe-cycle true; quiet = probe-quiet; weighs = leZ-yes tt }
 
+-- In the plant without a row, the empty list of weights passes.
 pub one-state-passes : Passes onePlant []
 unfolding onePlant below greatest every statePotential longest via hasProgress
 one-state-passes = passing-iff onePlant (well-formed-iff onePlant .0 refl) [] .0 refl

@@ -89,6 +89,7 @@ none-passes =
     let b = confirmed-iff twoClients set confirmed (sym second-client-confirmed) .0 refl in
     record { plant = b .plant; end = b .file-end; reads = b .file-reads; none = λ ws long p. exclusion (b .plant) ws p (b .entries) (b .balanced) }
 
+-- The answers of the published test hold of the definitions.
 pub published : PublishedExample
 unfolding clientRows inTurn below sum greatest firstAbove
 published =

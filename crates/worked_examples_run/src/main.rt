@@ -18,12 +18,9 @@ fn read(title: &[u8], file: &[u8]) {
             types,
             rows,
         } => {
-            printing::say(b"machines ");
-            printing::number(machines as u64);
-            printing::say(b", types ");
-            printing::number(types as u64);
-            printing::say(b", rows ");
-            printing::number(rows as u64);
+            printing::say_number(b"machines ", machines as u64);
+            printing::say_number(b", types ", types as u64);
+            printing::say_number(b", rows ", rows as u64);
         }
         Reading::Refused(fault) => printing::refused(fault),
     }
@@ -40,12 +37,9 @@ fn weigh(title: &[u8], file: &[u8], weights: &[u16]) {
             states,
             progress,
         } => {
-            printing::say(b"passed with F ");
-            printing::number(base);
-            printing::say(b", n ");
-            printing::number(states);
-            printing::say(b", G ");
-            printing::number(progress);
+            printing::say_number(b"passed with F ", base);
+            printing::say_number(b", n ", states);
+            printing::say_number(b", G ", progress);
         }
         Weighed::Cycle { rows } => {
             printing::say(b"not passed, shown are the rows");
@@ -56,15 +50,30 @@ fn weigh(title: &[u8], file: &[u8], weights: &[u16]) {
     printing::say(b"\n");
 }
 
+// Weighs with two weights, which its title names.
+fn weigh_two(name: &[u8], file: &[u8], first: u16, second: u16) {
+    printing::say(name);
+    printing::say_number(b", weights ", first as u64);
+    printing::say_number(b", ", second as u64);
+    weigh(b": ", file, &[first, second]);
+}
+
+fn weigh_a(first: u16, second: u16) {
+    weigh_two(b"A", &plants::PLANT_A, first, second);
+}
+
+// Weighs a plant without types.
+fn weigh_untyped(title: &[u8], file: &[u8]) {
+    weigh(title, file, &[]);
+}
+
 fn quote(title: &[u8], file: &[u8], weights: &[u16], contents: &[u32], g: u32) {
     let answer = quoting::quote(file, weights, contents, g);
     printing::say(title);
     match answer {
         Quoted::Ceiling { ceiling, class } => {
-            printing::say(b"ceiling ");
-            printing::number(ceiling);
-            printing::say(b", class ");
-            printing::number(class as u64);
+            printing::say_number(b"ceiling ", ceiling);
+            printing::say_number(b", class ", class as u64);
         }
         Quoted::Refused(fault) => printing::refused(fault),
     }
@@ -102,8 +111,7 @@ fn confirm(title: &[u8], file: &[u8], set: &[u32]) {
     match answer {
         Confirmation::Confirmed => printing::say(b"confirmed"),
         Confirmation::Negative { message, sum } => {
-            printing::say(b"type ");
-            printing::number(message as u64);
+            printing::say_number(b"type ", message as u64);
             printing::say(b" has the sum ");
             say_sum(sum);
         }
@@ -112,22 +120,29 @@ fn confirm(title: &[u8], file: &[u8], set: &[u32]) {
     printing::say(b"\n");
 }
 
-fn reading_and_weighing() {
+// The examples stand in small functions, since the time of a check grows faster than the number of arrays that a function lends.
+fn reading() {
     read(b"A: ", &plants::PLANT_A);
     read(b"One machine of 64 states: ", &plants::STATES_64);
     read(b"One machine of 65 states: ", &plants::STATES_65);
-    weigh(b"A, weights 2, 1: ", &plants::PLANT_A, &[2, 1]);
-    weigh(b"A, weights 1, 0: ", &plants::PLANT_A, &[1, 0]);
-    weigh(b"A, weights 1, 1: ", &plants::PLANT_A, &[1, 1]);
-    weigh(b"A, weights 1, 2: ", &plants::PLANT_A, &[1, 2]);
-    weigh(b"A, weights 1000, 1: ", &plants::PLANT_A, &[1000, 1]);
-    weigh(b"A, weights 1001, 1: ", &plants::PLANT_A, &[1001, 1]);
-    weigh(b"One state, no rows: ", &plants::ONE_STATE, &[]);
-    weigh(b"One state, row 00: ", &plants::QUIET_ROW, &[]);
-    weigh(b"One state, row 10: ", &plants::PROGRESS_ROW, &[]);
 }
 
-fn quoting_listing_and_sets() {
+fn weighing_a() {
+    weigh_a(2, 1);
+    weigh_a(1, 0);
+    weigh_a(1, 1);
+    weigh_a(1, 2);
+    weigh_a(1000, 1);
+    weigh_a(1001, 1);
+}
+
+fn weighing_one_state() {
+    weigh_untyped(b"One state, no rows: ", &plants::ONE_STATE);
+    weigh_untyped(b"One state, row 00: ", &plants::QUIET_ROW);
+    weigh_untyped(b"One state, row 10: ", &plants::PROGRESS_ROW);
+}
+
+fn quoting_and_listing() {
     let mut three = [7; 3];
     let mut two = [7; 2];
     quote(
@@ -149,13 +164,16 @@ fn quoting_listing_and_sets() {
         1,
         &mut two,
     );
+}
+
+fn sets_of_b() {
     confirm(
         b"B, both cycles once: ",
         &plants::PLANT_B,
         &[0, 1, 2, 0, 1, 1, 1, 2, 2, 3],
     );
-    weigh(b"B, weights 2, 1: ", &plants::PLANT_B, &[2, 1]);
-    weigh(b"B, weights 1, 2: ", &plants::PLANT_B, &[1, 2]);
+    weigh_two(b"B", &plants::PLANT_B, 2, 1);
+    weigh_two(b"B", &plants::PLANT_B, 1, 2);
     confirm(
         b"B, the panel's cycle alone: ",
         &plants::PLANT_B,
@@ -163,25 +181,21 @@ fn quoting_listing_and_sets() {
     );
 }
 
-// Each tempting error gives another answer to one of these.
-fn tempting_errors() {
-    let mut eight = [7; 8];
-    let mut five = [7; 5];
-    weigh(
-        b"Weight zero is not good, A, weights 3, 3: ",
-        &plants::PLANT_A,
-        &[3, 3],
-    );
-    weigh(
+// Each tempting error gives another answer to one of these or of those in the next two functions.
+fn tempting_weights() {
+    printing::say(b"Weight zero is not good, ");
+    weigh_a(3, 3);
+    weigh_untyped(
         b"Cycles that miss state 0 are judged: ",
         &plants::CYCLE_AT_STATE_1,
-        &[],
     );
-    weigh(
-        b"A progress row makes a cycle not quiet, A, weights 5, 1: ",
-        &plants::PLANT_A,
-        &[5, 1],
-    );
+    printing::say(b"A progress row makes a cycle not quiet, ");
+    weigh_a(5, 1);
+}
+
+fn tempting_listings() {
+    let mut eight = [7; 8];
+    let mut five = [7; 5];
     list(
         b"Parallel rows are listed, lent 8 entries: ",
         &plants::PARALLEL_ROWS,
@@ -194,19 +208,22 @@ fn tempting_errors() {
         0,
         &mut five,
     );
+}
+
+fn tempting_set_and_states() {
     confirm(
         b"Progress cycles are in no set, A, both cycles once: ",
         &plants::PLANT_A,
         &[0, 1, 2, 0, 1, 1, 1, 2, 2, 3],
     );
-    weigh(
+    weigh_untyped(
         b"n is the most states of all machines: ",
         &plants::FIRST_SMALLER,
-        &[],
     );
 }
 
-fn published_example() {
+// The published test's running example, and the corrected one.
+fn two_clients() {
     read(
         b"Two clients, a server that chooses: ",
         &plants::TWO_CLIENTS,
@@ -221,6 +238,9 @@ fn published_example() {
         &plants::TWO_CLIENTS,
         &[2, 0, 0, 0, 1, 0],
     );
+}
+
+fn two_clients_in_turn() {
     read(
         b"Two clients served in turn: ",
         &plants::TWO_CLIENTS_IN_TURN,
@@ -238,8 +258,14 @@ fn published_example() {
 }
 
 fn main() {
-    reading_and_weighing();
-    quoting_listing_and_sets();
-    tempting_errors();
-    published_example();
+    reading();
+    weighing_a();
+    weighing_one_state();
+    quoting_and_listing();
+    sets_of_b();
+    tempting_weights();
+    tempting_listings();
+    tempting_set_and_states();
+    two_clients();
+    two_clients_in_turn();
 }

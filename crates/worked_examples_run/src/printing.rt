@@ -10,10 +10,15 @@ pub fn number(n: u64) {
     io::print_decimal(STDOUT_FILENO, n);
 }
 
+// A number and the words before it.
+pub fn say_number(text: &[u8], n: u64) {
+    say(text);
+    number(n);
+}
+
 // An entry of a list, behind a space.
 fn entry(x: u16) {
-    say(b" ");
-    number(x as u64);
+    say_number(b" ", x as u64);
 }
 
 // The first entries of a list.
@@ -28,8 +33,6 @@ pub fn entries(list: &[u16], count: usize) {
 }
 
 pub fn refused(fault: Fault) {
-    say(b"refused with ");
-    number(fault.number as u64);
-    say(b" at ");
-    number(fault.place as u64);
+    say_number(b"refused with ", fault.number as u64);
+    say_number(b" at ", fault.place as u64);
 }

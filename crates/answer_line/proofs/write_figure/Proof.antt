@@ -4,7 +4,7 @@ use lib.ListN.{length}
 use mathlib.Core.Path.{ap}
 use native.Mathlib.Omega.{arith}
 use Rattle.answer_line.proofs.WritingLaws.{wrote-length}
-use Rattle.answer_line.proofs.DecimalLaws.{figure-is, figure-any, figure-wrote}
+use Rattle.answer_line.proofs.DecimalLaws.{figure-is, figure-wrote}
 use Rattle.answer_line.proofs.write_figure.Statement.{statement}
 use Rattle.answer_line.proofs.write_figure.Tie as tie
 
@@ -15,7 +15,7 @@ slice-aggregate-copy : tie.Need-slice-aggregate-copy
 slice-aggregate-copy c = search needs
 
 copy-requires : tie.Need-copy-requires
-copy-requires c κs = search needs
+copy-requires c κs = let d = c .before .before .decimal in omega (arith, c .before .before .before .before .before .pre, ap length (figure-is (c .before .before .before .before .before .args .n) (d .result) _ (d .ensures .1 .1) (d .ensures .1 .0)))
 
 array-share-prefix-digits : tie.Need-array-share-prefix-digits
 array-share-prefix-digits c = search needs
@@ -25,20 +25,15 @@ slice-aggregate-copy-2 c = search needs
 
 copy-requires-2 : tie.Need-copy-requires-2
 copy-requires-2 c κs =
-    let n = c .before .before .before .before .before .before .before .before .before .before .args .n in
     let d = c .before .before .before .before .before .before .before .decimal in
     let w = c .before .before .before .before .copy in
-    omega (arith, c .before .before .before .before .before .before .before .before .before .before .pre, w .ensures .next-is, wrote-length (w .ensures), ap length (figure-is n (d .result) _ (d .ensures .1 .1) (d .ensures .1 .0)), figure-any n (omega arith))
+    omega (arith, c .before .before .before .before .before .before .before .before .before .before .pre, w .ensures .next-is, wrote-length (w .ensures), ap length (figure-is (c .before .before .before .before .before .before .before .before .before .before .args .n) (d .result) _ (d .ensures .1 .1) (d .ensures .1 .0)))
 
 same-length : tie.Need-same-length
 same-length c = search needs
 
 returns : tie.Need-returns
-returns c =
-    let n = c .before .before .before .before .before .before .before .before .before .before .before .before .before .args .n in
-    let d = c .before .before .before .before .before .before .before .before .before .before .decimal in
-    let w = figure-wrote n (d .result) _ (d .ensures .1 .1) (d .ensures .1 .0) (c .before .before .before .before .before .before .before .copy .ensures) (c .before .before .copy2 .ensures) in
-    (w, omega (arith, w .next-is, figure-any n (omega arith)))
+returns c = let d = c .before .before .before .before .before .before .before .before .before .before .decimal in figure-wrote (c .before .before .before .before .before .before .before .before .before .before .before .before .before .args .n) (d .result) _ (d .ensures .1 .1) (d .ensures .1 .0) (c .before .before .before .before .before .before .before .copy .ensures) (c .before .before .copy2 .ensures)
 
 pub write-figure-spec : {M : Type 1} → statement M
 write-figure-spec =

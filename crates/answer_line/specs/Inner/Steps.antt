@@ -7,12 +7,17 @@ use lib.ListN.{length, take, replicate}
 use lib.Seq.{sets}
 use lib.Dec.{eqb}
 use Rattle.weighing.specs.Answers.{Answer, cycle}
+use Rattle.answer_line.specs.Lines.{lineWith}
 use Rattle.answer_line.specs.Files.{weightsOf}
 
 -- The bytes are written from a place on, and the next place is the one after them.
 pub record Wrote (before after : List ℕ) (at next : ℕ) (bytes : List ℕ) : Type 0 where
   pub next-is : next ≡ at + length bytes
   pub after-is : after ≡ sets before at bytes
+
+-- A word and figures whose line has at most 512 bytes.
+pub record ShortLine (word numbers : List ℕ) : Type 0 where
+  pub few : length (lineWith word numbers) ≤ 512
 
 -- A line from the start, of at most 512 bytes.
 pub record WroteLine (before after : List ℕ) (end : ℕ) (bytes : List ℕ) : Type 0 where

@@ -1,14 +1,14 @@
 -- `add_rows` meets its contract: after each row, the rows so far are added.
-use mathlib.Core.Path.{_≡_, refl}
-use Prim.Native.Nat.{_-_, _≤_, _<_}
+use mathlib.Core.Path.{_≡_, refl, ap}
+use Prim.Native.Nat.{_-_, _^_, _≤_, _<_}
 use native.Mathlib.Nat.{le-refl}
 use native.Mathlib.Omega.{arith}
 use lib.ListN.{length, getD}
-use lib.IntN.{pos}
+use lib.IntN.{pos, natAbs}
 use Rattle.cycle_sets.specs.Inner.Steps.{part, Added}
 use Rattle.cycle_sets.proofs.NumberLaws.{part-next, part-empty, part-length}
-use Rattle.cycle_sets.proofs.SizeLaws.{size-fits}
-use Rattle.cycle_sets.proofs.AddingLaws.{place-small, none-added, up-fits, down-fits, row-stored}
+use Rattle.cycle_sets.proofs.SizeLaws.{size-fits, size-neg, times-is, less-fits, less-is}
+use Rattle.cycle_sets.proofs.AddingLaws.{none-added, sent-small, row-stored}
 use borrow.Author.Needs.{needs}
 use Rattle.cycle_sets.proofs.add_rows.Statement.{statement}
 use Rattle.cycle_sets.proofs.add_rows.Tie as tie
@@ -45,53 +45,27 @@ shared-slice-read-k c = omega (arith, c .before .before .before .before .pre .1 
 cast-k : tie.Need-cast-k Inv-loop μ-loop
 cast-k c = record { fits = omega (arith, row-small c) }
 
-element-copy-out-place-of : tie.Need-element-copy-out-place-of Inv-loop μ-loop
-element-copy-out-place-of c = row-small c
+element-copy-out-add-to : tie.Need-element-copy-out-add-to Inv-loop μ-loop
+element-copy-out-add-to c = row-small (c .before)
 
-place-of-requires : tie.Need-place-of-requires Inv-loop μ-loop
-place-of-requires c κs = search needs
+add-to-requires : tie.Need-add-to-requires Inv-loop μ-loop
+add-to-requires c κs =
+    let a = c .before .before .before .before .before .before .args in
+    let l = c .before .before .before .before .loop in
+    (λ i. omega (arith, l .inv .3 .within (2 ^ 61) (c .before .before .before .before .before .before .pre .4) i, few-rows (c .before .before .before)), omega (arith, ap natAbs (times-is (a .repeats) (c .before .before .before .before .before .before .pre .3)), c .before .before .before .before .before .before .pre .3))
 
-mul-sums : tie.Need-mul-sums Inv-loop μ-loop
-mul-sums c = record { fits = omega (arith, place-small _ _ (c .place-of .ensures)) }
+element-copy-out-add-to-2 : tie.Need-element-copy-out-add-to-2 Inv-loop μ-loop
+element-copy-out-add-to-2 c = row-small (c .before .before .before .before)
 
-element-copy-out-sums : tie.Need-element-copy-out-sums Inv-loop μ-loop
-element-copy-out-sums c = place-small _ _ (c .place-of .ensures)
+sub-add-to : tie.Need-sub-add-to Inv-loop μ-loop
+sub-add-to c = less-fits _ (c .before .before .before .before .before .before .before .before .before .pre .3)
 
-add-sums : tie.Need-add-sums Inv-loop μ-loop
-add-sums c =
-    let a = c .before .before .before .before .before .before .before .args in
-    let l = c .before .before .before .before .before .loop in
-    up-fits (a .sent .now) (a .taken .now) (a .repeats) (c .before .before .before .before .before .before .before .pre .3) _ (a .sums .now) (l .sums) (l .inv .3) (c .before .before .before .before .before .before .before .pre .4) (few-rows (c .before .before .before .before)) _
-
-mul-sums-2 : tie.Need-mul-sums-2 Inv-loop μ-loop
-mul-sums-2 c = record { fits = omega (arith, place-small _ _ (c .before .place-of .ensures)) }
-
-element-set-from-sums : tie.Need-element-set-from-sums Inv-loop μ-loop
-element-set-from-sums c = place-small _ _ (c .before .place-of .ensures)
-
-element-copy-out-place-of-2 : tie.Need-element-copy-out-place-of-2 Inv-loop μ-loop
-element-copy-out-place-of-2 c = row-small (c .before .before .before)
-
-place-of-requires-2 : tie.Need-place-of-requires-2 Inv-loop μ-loop
-place-of-requires-2 c κs = search needs
-
-mul-sums-3 : tie.Need-mul-sums-3 Inv-loop μ-loop
-mul-sums-3 c = record { fits = omega (arith, place-small _ _ (c .place-of2 .ensures)) }
-
-element-copy-out-sums-2 : tie.Need-element-copy-out-sums-2 Inv-loop μ-loop
-element-copy-out-sums-2 c = place-small _ _ (c .place-of2 .ensures)
-
-sub-sums : tie.Need-sub-sums Inv-loop μ-loop
-sub-sums c =
-    let a = c .before .before .before .before .before .before .before .before .before .before .args in
-    let l = c .before .before .before .before .before .before .before .before .loop in
-    down-fits (a .sent .now) (a .taken .now) (a .repeats) (c .before .before .before .before .before .before .before .before .before .before .pre .3) _ (a .sums .now) (l .sums) (l .inv .3) (c .before .before .before .before .before .before .before .before .before .before .pre .4) (few-rows (c .before .before .before .before .before .before .before)) _ (place-small _ _ (c .before .before .before .before .place-of .ensures)) _
-
-mul-t14 : tie.Need-mul-t14 Inv-loop μ-loop
-mul-t14 c = record { fits = omega (arith, place-small _ _ (c .before .place-of2 .ensures)) }
-
-element-set-from-sums-2 : tie.Need-element-set-from-sums-2 Inv-loop μ-loop
-element-set-from-sums-2 c = place-small _ _ (c .before .place-of2 .ensures)
+add-to-requires-2 : tie.Need-add-to-requires-2 Inv-loop μ-loop
+add-to-requires-2 c κs =
+    let a = c .before .before .before .before .before .before .before .before .before .args in
+    let l = c .before .before .before .before .before .before .before .loop in
+    let small = sent-small (a .sent .now) (a .taken .now) (a .repeats) (c .before .before .before .before .before .before .before .before .before .pre .3) _ (a .sums .now) (l .sums) (l .inv .3) (c .before .before .before .before .before .before .before .before .before .pre .4) (few-rows (c .before .before .before .before .before .before)) _ _ (c .before .before .add-to .ensures) in
+    (small, omega (arith, ap natAbs (less-is (a .repeats) (c .before .before .before .before .before .before .before .before .before .pre .3)), size-neg (a .repeats), c .before .before .before .before .before .before .before .before .before .pre .3))
 
 add-i : tie.Need-add-i Inv-loop μ-loop
 add-i c = search needs
@@ -103,13 +77,8 @@ loop-again : tie.Need-loop-again Inv-loop μ-loop
 loop-again c =
     let a = c .before .before .before .before .before .before .before .before .before .before .args in
     let l = c .before .before .before .before .before .before .before .before .loop in
-    let there = c .before .before .before .before .before .before .before .before .before .before .pre .1 .there in (
-      refl,
-      omega (arith, l .inv .1),
-      omega (arith, c .before .before .before .before .before .before .before .loop-test .taken),
-      rw (part-next (a .set .now) (a .at) (l .i) (l .inv .1) (omega (arith, there, c .before .before .before .before .before .before .before .loop-test .taken)))
-          (row-stored (a .sent .now) (a .taken .now) (a .repeats) (c .before .before .before .before .before .before .before .before .before .before .pre .3) _ (a .sums .now) (l .sums) (l .inv .3) (getD (a .set .now) (l .i) 0) (c .before .before .before .before .before .before .before .before .before .before .pre .4) (few-rows (c .before .before .before .before .before .before .before)) _ (c .before .before .before .before .place-of .ensures) _ (c .before .place-of2 .ensures)),
-    )
+    let t = c .before .before .before .before .before .before .before .loop-test .taken in
+    (refl, omega (arith, l .inv .1), omega (arith, t), rw (part-next (a .set .now) (a .at) (l .i) (l .inv .1) (omega (arith, c .before .before .before .before .before .before .before .before .before .before .pre .1 .there, t))) (row-stored (a .sent .now) (a .taken .now) (a .repeats) (c .before .before .before .before .before .before .before .before .before .before .pre .3) _ (a .sums .now) (l .sums) (l .inv .3) (getD (a .set .now) (l .i) 0) _ _ (c .before .before .before .add-to .ensures) (c .add-to2 .ensures)))
 
 returns : tie.Need-returns Inv-loop μ-loop
 returns c =
@@ -129,20 +98,11 @@ add-rows-spec =
     mul-k
     shared-slice-read-k
     cast-k
-    element-copy-out-place-of
-    place-of-requires
-    mul-sums
-    element-copy-out-sums
-    add-sums
-    mul-sums-2
-    element-set-from-sums
-    element-copy-out-place-of-2
-    place-of-requires-2
-    mul-sums-3
-    element-copy-out-sums-2
-    sub-sums
-    mul-t14
-    element-set-from-sums-2
+    element-copy-out-add-to
+    add-to-requires
+    element-copy-out-add-to-2
+    sub-add-to
+    add-to-requires-2
     add-i
     loop-less
     loop-again

@@ -31,7 +31,7 @@ enum-told-2 : tie.Need-enum-told-2
 enum-told-2 c = search needs
 
 lowest-negative-requires : tie.Need-lowest-negative-requires
-lowest-negative-requires c κs = c .before .before .before .before .before .before .before .before .before .decode .ensures .1 .sound .few-types
+lowest-negative-requires c κs = omega (arith, c .before .before .before .before .before .before .before .before .before .decode .ensures .1 .sound .few-types)
 
 returns : tie.Need-returns
 returns c =
@@ -48,7 +48,7 @@ returns-3 c =
     let a = c .before .before .before .before .before .before .before .before .before .before .before .before .before .args in
     answered (a .file .now) (a .set .now) _
     (c .lowest-negative .ensures
-    ∙ sums-answer (a .file .now) (a .set .now) _ _ (told (λ e. endFound e (plantOf (c .before .before .before .before .before .before .before .before .before .before .decode .result .table))) (c .before .before .before .before .before .before .before .before .before .before .decode .ensures .0) (c .before .before .before .before .before .before .enum-told .given .1)) (c .before .before .before .before .before .judge-set .result .sums) _ (c .before .before .before .before .before .judge-set .ensures) _ (c .before .before .enum-told2 .given .1) (c .before .before .before .before .before .before .before .before .before .before .decode .ensures .1 .sound .few-types))
+    ∙ sums-answer (a .file .now) (a .set .now) _ _ (told (λ e. endFound e (plantOf (c .before .before .before .before .before .before .before .before .before .before .decode .result .table))) (c .before .before .before .before .before .before .before .before .before .before .decode .ensures .0) (c .before .before .before .before .before .before .enum-told .given .1)) (c .before .before .before .before .before .judge-set .result .sums) _ (c .before .before .before .before .before .judge-set .ensures) _ (c .before .before .enum-told2 .given .1))
 
 pub confirm-spec : {M : Type 1} → statement M
 confirm-spec =

@@ -21,7 +21,7 @@ machine-read c =
 repeats-read : (c : tie.After-enum-told2) → numberIn 1 1000001 (c .before .before .before .before .before .before .before .args .set .now) (c .before .before .before .before .before .before .before .args .first + 1) ≡ found (getD (c .before .before .before .before .before .before .before .args .set .now) (c .before .before .before .before .before .before .before .args .first + 1) 0) (c .before .before .before .before .before .before .before .args .first + 2)
 repeats-read c =
     let a = c .before .before .before .before .before .before .before .args in
-    settled (a .set .now) 1 1000001 (a .first + 1) (a .first + 1) _ _ (a .first + 2) (told (valueFound (getD (a .set .now) (a .first + 1) 0)) (c .before .before .number-in2 .ensures) (c .enum-told2 .given .1)) refl (omega arith) .0
+    settled (a .set .now) 1 1000001 (a .first + 1) (a .first + 1) _ _ (a .first + 2) (told (valueFound (getD (a .set .now) (a .first + 1) 0)) (c .before .before .repeats-in .ensures) (c .enum-told2 .given .1)) refl (omega arith) .0
 
 number-in-requires : tie.Need-number-in-requires
 number-in-requires c κs = search needs
@@ -37,11 +37,11 @@ returns c =
 enum-told : tie.Need-enum-told
 enum-told c = search needs
 
-add-number-in : tie.Need-add-number-in
-add-number-in c = search needs
+add-repeats-in : tie.Need-add-repeats-in
+add-repeats-in c = search needs
 
-number-in-requires-2 : tie.Need-number-in-requires-2
-number-in-requires-2 c κs = search needs
+repeats-in-requires : tie.Need-repeats-in-requires
+repeats-in-requires c κs = search needs
 
 enum-known-repeats-read : tie.Need-enum-known-repeats-read
 enum-known-repeats-read c = search needs
@@ -49,21 +49,21 @@ enum-known-repeats-read c = search needs
 returns-2 : tie.Need-returns-2
 returns-2 c =
     let a = c .before .before .before .before .before .before .before .before .args in
-    no-repeats (a .machines) (a .set .now) (a .first) (machine-read (c .before .before .before .before)) _ _ (told (valueFound (getD (a .set .now) (a .first + 1) 0)) (c .before .before .before .number-in2 .ensures) (c .before .repeats-read .given .1))
+    no-repeats (a .machines) (a .set .now) (a .first) (machine-read (c .before .before .before .before)) _ _ (told (valueFound (getD (a .set .now) (a .first + 1) 0)) (c .before .before .before .repeats-in .ensures) (c .before .repeats-read .given .1))
 
 enum-told-2 : tie.Need-enum-told-2
 enum-told-2 c = search needs
 
-add-number-in-2 : tie.Need-add-number-in-2
-add-number-in-2 c = search needs
+add-number-in : tie.Need-add-number-in
+add-number-in c = search needs
 
-number-in-requires-3 : tie.Need-number-in-requires-3
-number-in-requires-3 c κs = search needs
+number-in-requires-2 : tie.Need-number-in-requires-2
+number-in-requires-2 c κs = search needs
 
 returns-3 : tie.Need-returns-3
 returns-3 c =
     let a = c .before .before .before .before .before .before .before .before .args in
-    c .number-in3 .ensures ∙ count-next (a .machines) (a .set .now) (a .first) (machine-read (c .before .before .before .before)) (repeats-read (c .before))
+    c .number-in2 .ensures ∙ count-next (a .machines) (a .set .now) (a .first) (machine-read (c .before .before .before .before)) (repeats-read (c .before))
 
 pub first-numbers-spec : {M : Type 1} → statement M
 first-numbers-spec =
@@ -73,11 +73,11 @@ first-numbers-spec =
     enum-known-machine-read
     returns
     enum-told
-    add-number-in
-    number-in-requires-2
+    add-repeats-in
+    repeats-in-requires
     enum-known-repeats-read
     returns-2
     enum-told-2
-    add-number-in-2
-    number-in-requires-3
+    add-number-in
+    number-in-requires-2
     returns-3)

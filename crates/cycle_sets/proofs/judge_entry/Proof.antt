@@ -1,5 +1,5 @@
 -- `judge_entry` meets its contract: each return is one case of the definition.
-use mathlib.Core.Path.{_≡_, refl}
+use mathlib.Core.Path.{_≡_}
 use Prim.Native.Nat.{_+_, _-_, _<_}
 use native.Mathlib.Omega.{arith}
 use lib.ListN.{length, getD}
@@ -8,7 +8,7 @@ use Rattle.plant.proofs.Told.{told}
 use Rattle.cycle_sets.specs.Sets.{rowsAt}
 use Rattle.cycle_sets.specs.Inner.Steps.{valueFound, part}
 use Rattle.cycle_sets.proofs.NumberLaws.{number-read}
-use Rattle.cycle_sets.proofs.EntryLaws.{ThreeRead, three-read, numbers-stop, rows-stop, some-row, rows-below, cycle-stops, entry-good}
+use Rattle.cycle_sets.proofs.EntryLaws.{ThreeRead, three-read, numbers-stop, rows-stop, some-row, rows-below, entry-ended}
 use borrow.Author.Needs.{needs}
 use Rattle.cycle_sets.proofs.judge_entry.Statement.{statement}
 use Rattle.cycle_sets.proofs.judge_entry.Tie as tie
@@ -26,12 +26,7 @@ rows c =
     let a = c .before .before .before .before .before .before .before .before .args in
     told (valueFound (part (a .set .now) (a .first + 3) (a .first + 3 + getD (a .set .now) (a .first + 2) 0))) (c .before .before .rows-in .ensures) (c .enum-told2 .given .1)
 
--- The list has the machine and the row count, and they are within their limits.
-machine-there : (c : tie.After-enum-told) → (c .before .before .before .before .args .first < length (c .before .before .before .before .args .set .now)) × (getD (c .before .before .before .before .args .set .now) (c .before .before .before .before .args .first) 0 < c .before .before .before .before .args .machines)
-machine-there c =
-    let r = number-read 0 (c .before .before .before .before .args .machines) (c .before .before .before .before .args .set .now) (c .before .before .before .before .args .first) _ _ (numbers c .first) in
-    (r .there, r .below-end)
-
+-- The list has the row count, and it is within its limits.
 count-there : (c : tie.After-enum-told) → (c .before .before .before .before .args .first + 2 < length (c .before .before .before .before .args .set .now)) × (getD (c .before .before .before .before .args .set .now) (c .before .before .before .before .args .first + 2) 0 < 65)
 count-there c =
     let r = number-read 1 65 (c .before .before .before .before .args .set .now) (c .before .before .before .before .args .first + 2) _ _ (numbers c .third) in
@@ -73,7 +68,7 @@ add-rows-in : tie.Need-add-rows-in
 add-rows-in c = search needs
 
 rows-in-requires : tie.Need-rows-in-requires
-rows-in-requires c κs = omega arith
+rows-in-requires c κs = search needs
 
 enum-known-rows-read : tie.Need-enum-known-rows-read
 enum-known-rows-read c = search needs
@@ -81,39 +76,23 @@ enum-known-rows-read c = search needs
 returns-2 : tie.Need-returns-2
 returns-2 c =
     let a = c .before .before .before .before .before .before .before .before .before .args in
-    rows-stop (record { machine = c .before .before .before .before .before .before .before .before .before .args .machine .now; left = c .before .before .before .before .before .before .before .before .before .args .left .now; entered = c .before .before .before .before .before .before .before .before .before .args .entered .now; progress = c .before .before .before .before .before .before .before .before .before .args .progress .now }) (a .rows) (a .machines) (a .set .now) (a .first) (numbers (c .before .before .before .before .before)) _ refl _ _ (told (valueFound (part (a .set .now) (a .first + 3) (a .first + 3 + getD (a .set .now) (a .first + 2) 0))) (c .before .before .before .rows-in .ensures) (c .before .rows-read .given .1))
+    rows-stop (record { machine = c .before .before .before .before .before .before .before .before .before .args .machine .now; left = c .before .before .before .before .before .before .before .before .before .args .left .now; entered = c .before .before .before .before .before .before .before .before .before .args .entered .now; progress = c .before .before .before .before .before .before .before .before .before .args .progress .now }) (a .rows) (a .machines) (a .set .now) (a .first) (numbers (c .before .before .before .before .before)) _ _ (told (valueFound (part (a .set .now) (a .first + 3) (a .first + 3 + getD (a .set .now) (a .first + 2) 0))) (c .before .before .before .rows-in .ensures) (c .before .rows-read .given .1))
 
 enum-told-2 : tie.Need-enum-told-2
 enum-told-2 c = search needs
 
-add-is-quiet-cycle : tie.Need-add-is-quiet-cycle
-add-is-quiet-cycle c = search needs
-
-mul-is-quiet-cycle : tie.Need-mul-is-quiet-cycle
-mul-is-quiet-cycle c = search needs
-
-shared-slice-read-is-quiet-cycle : tie.Need-shared-slice-read-is-quiet-cycle
-shared-slice-read-is-quiet-cycle c = machine-there (c .before .before .before .before .before) .0
-
-cast-is-quiet-cycle : tie.Need-cast-is-quiet-cycle
-cast-is-quiet-cycle c = record { fits = omega (arith, machine-there (c .before .before .before .before .before) .1, c .before .before .before .before .before .before .before .before .before .pre .1) }
-
-is-quiet-cycle-requires : tie.Need-is-quiet-cycle-requires
-is-quiet-cycle-requires c κs =
-    let a = c .before .before .before .before .before .before .before .before .before .args in
-    let few = c .before .before .before .before .before .before .before .before .before .pre .2 in
-    let h = rows-below (record { machine = c .before .before .before .before .before .before .before .before .before .args .machine .now; left = c .before .before .before .before .before .before .before .before .before .args .left .now; entered = c .before .before .before .before .before .before .before .before .before .args .entered .now; progress = c .before .before .before .before .before .before .before .before .before .args .progress .now }) (a .rows) (a .machines) (a .set .now) (a .first) (numbers (c .before .before .before .before .before)) _ refl _ (rows (c .before)) in
-    (some-row (record { machine = c .before .before .before .before .before .before .before .before .before .args .machine .now; left = c .before .before .before .before .before .before .before .before .before .args .left .now; entered = c .before .before .before .before .before .before .before .before .before .args .entered .now; progress = c .before .before .before .before .before .before .before .before .before .args .progress .now }) (a .rows) (a .machines) (a .set .now) (a .first) (numbers (c .before .before .before .before .before)) _ refl, record { there = h .there; small = λ i p q. omega (arith, h .small i p q, few) })
+entry-ends-requires : tie.Need-entry-ends-requires
+entry-ends-requires c κs =
+    let a = c .before .before .before .before .before .before .before .before .args in
+    let p = c .before .before .before .before .before .before .before .before .pre in
+    let n = numbers (c .before .before .before .before) in
+    let h = rows-below (record { machine = c .before .before .before .before .before .before .before .before .args .machine .now; left = c .before .before .before .before .before .before .before .before .args .left .now; entered = c .before .before .before .before .before .before .before .before .args .entered .now; progress = c .before .before .before .before .before .before .before .before .args .progress .now }) (a .rows) (a .machines) (a .set .now) (a .first) n _ (rows c) in
+    (some-row (record { machine = c .before .before .before .before .before .before .before .before .args .machine .now; left = c .before .before .before .before .before .before .before .before .args .left .now; entered = c .before .before .before .before .before .before .before .before .args .entered .now; progress = c .before .before .before .before .before .before .before .before .args .progress .now }) (a .rows) (a .machines) (a .set .now) (a .first) n, record { there = h .there; small = λ i l u. omega (arith, h .small i l u, p .2) }, omega (arith, number-read 0 (a .machines) (a .set .now) (a .first) _ _ (n .first) .below-end, p .1))
 
 returns-3 : tie.Need-returns-3
 returns-3 c =
-    let a = c .before .before .before .before .before .before .before .before .before .before .before .args in
-    entry-good (record { machine = c .before .before .before .before .before .before .before .before .before .before .before .args .machine .now; left = c .before .before .before .before .before .before .before .before .before .before .before .args .left .now; entered = c .before .before .before .before .before .before .before .before .before .before .before .args .entered .now; progress = c .before .before .before .before .before .before .before .before .before .before .before .args .progress .now }) (a .rows) (a .machines) (a .set .now) (a .first) (numbers (c .before .before .before .before .before .before .before)) _ refl _ (rows (c .before .before .before)) _ (c .before .is-quiet-cycle .ensures) (c .if1 .taken)
-
-returns-4 : tie.Need-returns-4
-returns-4 c =
-    let a = c .before .before .before .before .before .before .before .before .before .before .before .args in
-    cycle-stops (record { machine = c .before .before .before .before .before .before .before .before .before .before .before .args .machine .now; left = c .before .before .before .before .before .before .before .before .before .before .before .args .left .now; entered = c .before .before .before .before .before .before .before .before .before .before .before .args .entered .now; progress = c .before .before .before .before .before .before .before .before .before .before .before .args .progress .now }) (a .rows) (a .machines) (a .set .now) (a .first) (numbers (c .before .before .before .before .before .before .before)) _ refl _ (rows (c .before .before .before)) _ (c .before .is-quiet-cycle .ensures) (c .if1 .left)
+    let a = c .before .before .before .before .before .before .before .before .before .args in
+    entry-ended (record { machine = c .before .before .before .before .before .before .before .before .before .args .machine .now; left = c .before .before .before .before .before .before .before .before .before .args .left .now; entered = c .before .before .before .before .before .before .before .before .before .args .entered .now; progress = c .before .before .before .before .before .before .before .before .before .args .progress .now }) (a .rows) (a .machines) (a .set .now) (a .first) (numbers (c .before .before .before .before .before)) _ (rows (c .before)) (c .entry-ends .result) (c .entry-ends .ensures)
 
 pub judge-entry-spec : {M : Type 1} → statement M
 judge-entry-spec =
@@ -134,10 +113,5 @@ judge-entry-spec =
     enum-known-rows-read
     returns-2
     enum-told-2
-    add-is-quiet-cycle
-    mul-is-quiet-cycle
-    shared-slice-read-is-quiet-cycle
-    cast-is-quiet-cycle
-    is-quiet-cycle-requires
-    returns-3
-    returns-4)
+    entry-ends-requires
+    returns-3)

@@ -23,11 +23,16 @@ abbrev μ-entries : tie.MeasureT-entries
 begins : (c : tie.After-enum-told Inv-entries μ-entries) → entryBegins (256 - c .before .before .before .entries .before) (c .before .before .before .before .before .args .set .now) (c .before .before .before .entries .at) ≡ found tt (c .enum-told .given .0 .0)
 begins c = told (valueFound tt) (c .before .before .entry-begins .ensures) (c .enum-told .given .1)
 
--- and is read.
+-- the end of its judging is what it reads as,
+judged : (c : tie.After-judge-entry Inv-entries μ-entries) → valueFound (entryIn (c .before .before .before .before .before .before .before .before .before .before .before .args .set .now) (c .before .before .before .before .before .before .before .before .before .entries .at)) (c .judge-entry .result) ≡ entryAt (plantOf (c .before .before .before .before .before .before .before .before .before .before .before .args .t1)) (c .before .before .before .before .before .before .before .before .before .before .before .args .set .now) (c .before .before .before .before .before .before .before .before .before .entries .at)
+judged c =
+    let t = c .before .before .before .before .before .before .before .before .before .before .before .args .t1 in
+    let p = c .before .before .before .before .before .before .before .before .before .before .before .pre in
+    c .judge-entry .ensures (plantOf t) (columns-of t (p .0) (p .1)) (machines-are t (p .0) (p .1))
+
+-- and so it is read.
 entry-found : (c : tie.After-known-told3 Inv-entries μ-entries) → found (entryIn (c .before .before .before .before .before .before .before .before .before .before .before .before .before .before .args .set .now) (c .before .before .before .before .before .before .before .before .before .before .before .before .entries .at)) (c .before .entry2 .given .0 .0) ≡ entryAt (plantOf (c .before .before .before .before .before .before .before .before .before .before .before .before .before .before .args .t1)) (c .before .before .before .before .before .before .before .before .before .before .before .before .before .before .args .set .now) (c .before .before .before .before .before .before .before .before .before .before .before .before .entries .at)
-entry-found c =
-    let t = c .before .before .before .before .before .before .before .before .before .before .before .before .before .before .args .t1 in
-    sym (told (valueFound (entryIn (c .before .before .before .before .before .before .before .before .before .before .before .before .before .before .args .set .now) (c .before .before .before .before .before .before .before .before .before .before .before .before .entries .at))) (c .before .before .before .judge-entry .ensures (plantOf t) (columns-of t (c .before .before .before .before .before .before .before .before .before .before .before .before .before .before .pre .0) (c .before .before .before .before .before .before .before .before .before .before .before .before .before .before .pre .1)) (machines-are t (c .before .before .before .before .before .before .before .before .before .before .before .before .before .before .pre .0) (c .before .before .before .before .before .before .before .before .before .before .before .before .before .before .pre .1))) (c .before .entry2 .given .1))
+entry-found c = sym (told (valueFound (entryIn (c .before .before .before .before .before .before .before .before .before .before .before .before .before .before .args .set .now) (c .before .before .before .before .before .before .before .before .before .before .before .before .entries .at))) (judged (c .before .before .before)) (c .before .entry2 .given .1))
 
 cast-machines : tie.Need-cast-machines Inv-entries μ-entries
 cast-machines c = record { fits = omega (arith, c .before .pre .0 .sound .few-machines) }
@@ -48,7 +53,7 @@ enum-told : tie.Need-enum-told Inv-entries μ-entries
 enum-told c = search needs
 
 judge-entry-requires : tie.Need-judge-entry-requires Inv-entries μ-entries
-judge-entry-requires c κs = let s = c .before .before .before .before .before .before .before .before .before .before .pre .0 .sound in (omega (arith, c .before .before .before .before .before .before .before .before .entries .inv .near, c .before .before .before .before .before .before .before .before .entries .inv .few), s .few-machines, s .few-rows)
+judge-entry-requires c κs = let s = c .before .before .before .before .before .before .before .before .before .before .pre .0 .sound in let g = c .before .before .before .before .before .before .before .before .entries .inv in (omega (arith, g .near, g .few), s .few-machines, s .few-rows)
 
 enum-known-entry : tie.Need-enum-known-entry Inv-entries μ-entries
 enum-known-entry c = search needs
@@ -56,26 +61,14 @@ enum-known-entry c = search needs
 enum-known-entry-2 : tie.Need-enum-known-entry-2 Inv-entries μ-entries
 enum-known-entry-2 c = search needs
 
-add-add-rows : tie.Need-add-add-rows Inv-entries μ-entries
-add-add-rows c = let g = c .before .before .before .before .before .before .before .before .before .before .before .before .before .before .before .entries .inv in record { fits = omega (arith, g .near, g .few) }
-
-add-add-rows-2 : tie.Need-add-add-rows-2 Inv-entries μ-entries
-add-add-rows-2 c = let g = c .before .before .before .before .before .before .before .before .before .before .before .before .before .before .before .entries .inv in record { fits = omega (arith, g .near, g .few) }
-
-mul-add-rows : tie.Need-mul-add-rows Inv-entries μ-entries
-mul-add-rows c = let g = c .before .before .before .before .before .before .before .before .before .before .before .before .before .before .before .entries .inv in record { fits = omega (arith, g .near, g .few) }
-
-shared-slice-read-add-rows : tie.Need-shared-slice-read-add-rows Inv-entries μ-entries
-shared-slice-read-add-rows c =
-    let r = read (c .before .before .before .before .before .before .before .before .before .before .before .before .before .before .before .before .before .before .args .t1) (c .before .before .before .before .before .before .before .before .before .before .before .before .before .before .before .before .before .before .args .set .now) (c .before .before .before .before .before .before .before .before .before .before .before .before .before .before .before .before .entries .before) (c .before .before .before .before .before .before .before .before .before .before .before .before .before .before .before .before .entries .at) (c .before .before .before .before .before .before .before .before .before .before .before .before .before .before .before .before .entries .sums) (c .before .before .before .before .before .before .before .before .before .before .before .before .before .before .before .before .entries .inv) _ (begins (c .before .before .before .before .before .before .before .before .before .before .before .before .before)) (c .before .before .before .before .before .before .before .before .before .before .before .before .before .before .before .before .before .before .pre .0) _ (entry-found (c .before .before .before .before)) in
-    omega (arith, r .rows-below .there, r .next-is)
-
-add-rows-requires : tie.Need-add-rows-requires Inv-entries μ-entries
-add-rows-requires c κs =
-    let g = c .before .before .before .before .before .before .before .before .before .before .before .before .before .before .before .before .before .entries .inv in
-    let r = read (c .before .before .before .before .before .before .before .before .before .before .before .before .before .before .before .before .before .before .before .args .t1) (c .before .before .before .before .before .before .before .before .before .before .before .before .before .before .before .before .before .before .before .args .set .now) (c .before .before .before .before .before .before .before .before .before .before .before .before .before .before .before .before .before .entries .before) (c .before .before .before .before .before .before .before .before .before .before .before .before .before .before .before .before .before .entries .at) (c .before .before .before .before .before .before .before .before .before .before .before .before .before .before .before .before .before .entries .sums) (c .before .before .before .before .before .before .before .before .before .before .before .before .before .before .before .before .before .entries .inv) _ (begins (c .before .before .before .before .before .before .before .before .before .before .before .before .before .before)) (c .before .before .before .before .before .before .before .before .before .before .before .before .before .before .before .before .before .before .before .pre .0) _ (entry-found (c .before .before .before .before .before)) in (
+add-entry-requires : tie.Need-add-entry-requires Inv-entries μ-entries
+add-entry-requires c κs =
+    let a = c .before .before .before .before .before .before .before .before .before .before .before .before .before .before .before .before .before .before .args in
+    let l = c .before .before .before .before .before .before .before .before .before .before .before .before .before .before .before .before .entries in
+    let g = l .inv in
+    let r = read (a .t1) (a .set .now) (l .before) (l .at) (l .sums) (l .inv) _ (begins (c .before .before .before .before .before .before .before .before .before .before .before .before .before)) (c .before .before .before .before .before .before .before .before .before .before .before .before .before .before .before .before .before .before .pre .0) _ (entry-found (c .before .before .before .before)) in (
       omega (arith, r .next-is),
-      rows-small (c .before .before .before .before .before .before .before .before .before .before .before .before .before .before .before .before .before .before .before .args .t1) (c .before .before .before .before .before .before .before .before .before .before .before .before .before .before .before .before .before .before .before .args .set .now) (c .before .before .before .before .before .before .before .before .before .before .before .before .before .before .before .before .before .entries .before) (c .before .before .before .before .before .before .before .before .before .before .before .before .before .before .before .before .before .entries .at) (c .before .before .before .before .before .before .before .before .before .before .before .before .before .before .before .before .before .entries .sums) (c .before .before .before .before .before .before .before .before .before .before .before .before .before .before .before .before .before .entries .inv) _ (begins (c .before .before .before .before .before .before .before .before .before .before .before .before .before .before)) (c .before .before .before .before .before .before .before .before .before .before .before .before .before .before .before .before .before .before .before .pre .0) _ (entry-found (c .before .before .before .before .before)),
+      rows-small (a .t1) (a .set .now) (l .before) (l .at) (l .sums) (l .inv) _ (begins (c .before .before .before .before .before .before .before .before .before .before .before .before .before)) (c .before .before .before .before .before .before .before .before .before .before .before .before .before .before .before .before .before .before .pre .0) _ (entry-found (c .before .before .before .before)),
       omega (arith, r .next-is, r .few-rows),
       r .few-repeats,
       λ i. omega (arith, g .within i, g .few),
@@ -83,24 +76,37 @@ add-rows-requires c κs =
     )
 
 add-before : tie.Need-add-before Inv-entries μ-entries
-add-before c = let g = c .before .before .before .before .before .before .before .before .before .before .before .before .before .before .before .before .before .before .before .entries .inv in record { fits = omega (arith, g .few) }
+add-before c = let g = c .before .before .before .before .before .before .before .before .before .before .before .before .before .before .before .before .before .before .entries .inv in record { fits = omega (arith, g .few) }
 
 entries-less : tie.Need-entries-less Inv-entries μ-entries
-entries-less c = omega (arith, more (c .before .before .before .before .before .before .before .before .before .before .before .before .before .before .before .before .before .before .before .before .before .args .t1) (c .before .before .before .before .before .before .before .before .before .before .before .before .before .before .before .before .before .before .before .before .before .args .set .now) (c .before .before .before .before .before .before .before .before .before .before .before .before .before .before .before .before .before .before .before .entries .before) (c .before .before .before .before .before .before .before .before .before .before .before .before .before .before .before .before .before .before .before .entries .at) (c .before .before .before .before .before .before .before .before .before .before .before .before .before .before .before .before .before .before .before .entries .sums) (c .before .before .before .before .before .before .before .before .before .before .before .before .before .before .before .before .before .before .before .entries .inv) _ (begins (c .before .before .before .before .before .before .before .before .before .before .before .before .before .before .before .before)))
+entries-less c =
+    let a = c .before .before .before .before .before .before .before .before .before .before .before .before .before .before .before .before .before .before .before .before .args in
+    let l = c .before .before .before .before .before .before .before .before .before .before .before .before .before .before .before .before .before .before .entries in
+    omega (arith, more (a .t1) (a .set .now) (l .before) (l .at) (l .sums) (l .inv) _ (begins (c .before .before .before .before .before .before .before .before .before .before .before .before .before .before .before)))
 
 entries-again : tie.Need-entries-again Inv-entries μ-entries
-entries-again c = turn (c .before .before .before .before .before .before .before .before .before .before .before .before .before .before .before .before .before .before .before .before .before .args .t1) (c .before .before .before .before .before .before .before .before .before .before .before .before .before .before .before .before .before .before .before .before .before .args .set .now) (c .before .before .before .before .before .before .before .before .before .before .before .before .before .before .before .before .before .before .before .entries .before) (c .before .before .before .before .before .before .before .before .before .before .before .before .before .before .before .before .before .before .before .entries .at) (c .before .before .before .before .before .before .before .before .before .before .before .before .before .before .before .before .before .before .before .entries .sums) (c .before .before .before .before .before .before .before .before .before .before .before .before .before .before .before .before .before .before .before .entries .inv) _ (begins (c .before .before .before .before .before .before .before .before .before .before .before .before .before .before .before .before)) (c .before .before .before .before .before .before .before .before .before .before .before .before .before .before .before .before .before .before .before .before .before .pre .0) _ (entry-found (c .before .before .before .before .before .before .before)) _ (c .before .add-rows .ensures) (c .if1 .left)
+entries-again c =
+    let a = c .before .before .before .before .before .before .before .before .before .before .before .before .before .before .before .before .before .before .before .before .args in
+    let l = c .before .before .before .before .before .before .before .before .before .before .before .before .before .before .before .before .before .before .entries in
+    turn (a .t1) (a .set .now) (l .before) (l .at) (l .sums) (l .inv) _ (begins (c .before .before .before .before .before .before .before .before .before .before .before .before .before .before .before)) (c .before .before .before .before .before .before .before .before .before .before .before .before .before .before .before .before .before .before .before .before .pre .0) _ (entry-found (c .before .before .before .before .before .before)) _ (c .before .add-entry .ensures) (c .if1 .left)
 
 returns : tie.Need-returns Inv-entries μ-entries
-returns c = no-entry (c .before .before .before .before .before .before .args .t1) (c .before .before .before .before .before .before .args .set .now) (c .before .before .before .before .entries .before) (c .before .before .before .before .entries .at) (c .before .before .before .before .entries .sums) (c .before .before .before .before .entries .inv) _ (told (valueFound tt) (c .before .before .before .entry-begins .ensures) (c .before .begin .given .1))
+returns c =
+    let a = c .before .before .before .before .before .before .args in
+    let l = c .before .before .before .before .entries in
+    no-entry (a .t1) (a .set .now) (l .before) (l .at) (l .sums) (l .inv) _ (told (valueFound tt) (c .before .before .before .entry-begins .ensures) (c .before .begin .given .1))
 
 returns-2 : tie.Need-returns-2 Inv-entries μ-entries
 returns-2 c =
-    let t = c .before .before .before .before .before .before .before .before .before .before .before .before .before .before .args .t1 in
-    entry-stops (c .before .before .before .before .before .before .before .before .before .before .before .before .before .before .args .t1) (c .before .before .before .before .before .before .before .before .before .before .before .before .before .before .args .set .now) (c .before .before .before .before .before .before .before .before .before .before .before .before .entries .before) (c .before .before .before .before .before .before .before .before .before .before .before .before .entries .at) (c .before .before .before .before .before .before .before .before .before .before .before .before .entries .sums) (c .before .before .before .before .before .before .before .before .before .before .before .before .entries .inv) _ (begins (c .before .before .before .before .before .before .before .before .before)) _ (sym (told (valueFound (entryIn (c .before .before .before .before .before .before .before .before .before .before .before .before .before .before .args .set .now) (c .before .before .before .before .before .before .before .before .before .before .before .before .entries .at))) (c .before .before .before .judge-entry .ensures (plantOf t) (columns-of t (c .before .before .before .before .before .before .before .before .before .before .before .before .before .before .pre .0) (c .before .before .before .before .before .before .before .before .before .before .before .before .before .before .pre .1)) (machines-are t (c .before .before .before .before .before .before .before .before .before .before .before .before .before .before .pre .0) (c .before .before .before .before .before .before .before .before .before .before .before .before .before .before .pre .1))) (c .before .entry .given .1)))
+    let a = c .before .before .before .before .before .before .before .before .before .before .before .before .before .before .args in
+    let l = c .before .before .before .before .before .before .before .before .before .before .before .before .entries in
+    entry-stops (a .t1) (a .set .now) (l .before) (l .at) (l .sums) (l .inv) _ (begins (c .before .before .before .before .before .before .before .before .before)) _ (sym (told (valueFound (entryIn (a .set .now) (l .at))) (judged (c .before .before .before)) (c .before .entry .given .1)))
 
 returns-3 : tie.Need-returns-3 Inv-entries μ-entries
-returns-3 c = finished (c .before .before .before .before .before .before .before .before .before .before .before .before .before .before .before .before .before .before .before .before .before .args .t1) (c .before .before .before .before .before .before .before .before .before .before .before .before .before .before .before .before .before .before .before .before .before .args .set .now) (c .before .before .before .before .before .before .before .before .before .before .before .before .before .before .before .before .before .before .before .entries .before) (c .before .before .before .before .before .before .before .before .before .before .before .before .before .before .before .before .before .before .before .entries .at) (c .before .before .before .before .before .before .before .before .before .before .before .before .before .before .before .before .before .before .before .entries .sums) (c .before .before .before .before .before .before .before .before .before .before .before .before .before .before .before .before .before .before .before .entries .inv) _ (begins (c .before .before .before .before .before .before .before .before .before .before .before .before .before .before .before .before)) (c .before .before .before .before .before .before .before .before .before .before .before .before .before .before .before .before .before .before .before .before .before .pre .0) _ (entry-found (c .before .before .before .before .before .before .before)) _ (c .before .add-rows .ensures) (c .if1 .taken)
+returns-3 c =
+    let a = c .before .before .before .before .before .before .before .before .before .before .before .before .before .before .before .before .before .before .before .before .args in
+    let l = c .before .before .before .before .before .before .before .before .before .before .before .before .before .before .before .before .before .before .entries in
+    finished (a .t1) (a .set .now) (l .before) (l .at) (l .sums) (l .inv) _ (begins (c .before .before .before .before .before .before .before .before .before .before .before .before .before .before .before)) (c .before .before .before .before .before .before .before .before .before .before .before .before .before .before .before .before .before .before .before .before .pre .0) _ (entry-found (c .before .before .before .before .before .before)) _ (c .before .add-entry .ensures) (c .if1 .taken)
 
 pub judge-set-spec : {M : Type 1} → statement M
 judge-set-spec =
@@ -117,11 +123,7 @@ judge-set-spec =
     judge-entry-requires
     enum-known-entry
     enum-known-entry-2
-    add-add-rows
-    add-add-rows-2
-    mul-add-rows
-    shared-slice-read-add-rows
-    add-rows-requires
+    add-entry-requires
     add-before
     entries-less
     entries-again

@@ -6,7 +6,7 @@ use Prim.Native.Nat.{ℕ, _+_, _-_, _*_, _≤_, _<_}
 use lib.Dec.{eqb, ltb}
 use lib.ListN as Cells
 use lib.ListN.{length, getD, take, drop}
-use lib.IntN.{ℤ, pos, natAbs}
+use lib.IntN.{ℤ, pos, natAbs, _+ℤ_}
 use Rattle.livelock.specs.Lists.{count}
 use Rattle.livelock.specs.Plants.{Plant, rowAt, rowCount, machineCount}
 use Rattle.livelock.specs.Cycles.{isOfType}
@@ -17,7 +17,7 @@ use Rattle.plant.specs.Answers.{faultFound}
 use Rattle.plant.specs.Tables.{typeOf}
 use Rattle.plant.specs.declared.End.{End}
 use Rattle.plant.specs.declared.End.the-variants as Ends
-use Rattle.cycle_sets.specs.Sets.{numberIn, entryAt}
+use Rattle.cycle_sets.specs.Sets.{numberIn, entryEnds, entryAt}
 
 -- ---- numbers
 
@@ -68,10 +68,18 @@ leads c m end s seen (k ∷ ks) =
 unfoldable pub firstNumbers : ℕ → List ℕ → ℕ → Found ℕ
 firstNumbers machines set at = andThen (numberIn 0 machines set at) (λ m a. andThen (numberIn 1 1000001 set a) (λ repeats b. numberIn 1 65 set b))
 
+-- The entry that the numbers from an index on, up to another, make up.
+abbrev pub entryUpTo : List ℕ → (at end : ℕ) → Entry
+entryUpTo set at end = record { machine = getD set at 0; repeats = getD set (at + 1) 0; cycle = part set (at + 3) end }
+
+-- The end r is what is judged where that entry ends, in every plant with these columns that has its rows.
+abbrev pub JudgedEnd : Columns → List ℕ → (at end : ℕ) → End → Type 0
+JudgedEnd c set at end r =
+    (P : Plant) (rows : ℕ) → ColumnsOf P rows c → NumbersBelow rows set (at + 3) end → valueFound (entryUpTo set at end) r ≡ entryEnds P at (entryUpTo set at end) end
+
 -- The entry that the numbers from an index on make up.
 abbrev pub entryIn : List ℕ → ℕ → Entry
-entryIn set at =
-    record { machine = getD set at 0; repeats = getD set (at + 1) 0; cycle = part set (at + 3) (at + 3 + getD set (at + 2) 0) }
+entryIn set at = entryUpTo set at (at + 3 + getD set (at + 2) 0)
 
 -- The end r is what the entry at an index reads as, in every plant with these columns and so many machines.
 abbrev pub JudgedEntry : Columns → (rows machines : ℕ) → List ℕ → ℕ → End → Type 0
@@ -80,9 +88,9 @@ JudgedEntry c rows machines set at r =
 
 -- ---- sums
 
--- The place of a type in the sums; 64 stands for no type.
-unfoldable pub placeOf : ℕ → ℕ
-placeOf x = cond (ltb x 64) x 64
+-- The sums with z added to that of a type; 64 and above stand for no type, and then no sum changes.
+unfoldable pub raised : List ℤ → ℕ → ℤ → List ℤ
+raised sums x z = cond (ltb x 64) (Cells.set sums x (getD sums x (pos 0) +ℤ z)) sums
 
 -- Each sum is at most x either way.
 abbrev pub Within : ℕ → List ℤ → Type 0
@@ -94,14 +102,14 @@ having column t rows = count (λ k. isOfType (typeOf (getD column k 0)) t) rows
 
 -- To the sum of each type the rows add what they send and take from it what they take, so many times; a row changes no sum by more than 2,000,000.
 pub record Added (sent taken : List ℕ) (repeats : ℕ) (rows : List ℕ) (before after : List ℤ) : Type 0 where
-  pub room : length after ≡ 65
-  pub sums : (t a b : ℕ) → t < 64 → Difference (getD before t (pos 0)) a b
+  pub room : length after ≡ 64
+  pub sums : (t a b : ℕ) → Difference (getD before t (pos 0)) a b
       → Difference (getD after t (pos 0)) (a + repeats * having sent t rows) (b + repeats * having taken t rows)
   pub within : (x : ℕ) → Within x before → Within (x + length rows * 2000000) after
 
 -- The sums are those of the entries.
 abbrev pub SumsOf : Plant → List Entry → List ℤ → Type 0
-SumsOf P es sums = (t : ℕ) → t < 64 → getD sums t (pos 0) ≡ setEffect P es t
+SumsOf P es sums = (t : ℕ) → getD sums t (pos 0) ≡ setEffect P es t
 
 -- Where a list reads as entries, the sums are those of the entries; else the end is the fault.
 pub data JudgedAs (P : Plant) (sums : List ℤ) : End → Found (List Entry) → Type 0 where

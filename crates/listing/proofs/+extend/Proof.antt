@@ -1,15 +1,15 @@
 -- `extend` meets its contract: the entries from row k on are left to be added, and each turn adds those of one row. The measure of the
 -- calls is the number of states not yet left.
 use borrow.Author.Needs.{needs}
-use mathlib.Core.Path.{_≡_, refl, sym, subst}
+use mathlib.Core.Path.{_≡_, refl, sym, ap, subst}
 use mathlib.Core.Logic.{⊎-elim}
 use Prim.Native.Nat.{ℕ, suc, _-_, _<_, _≤_}
 use native.Mathlib.Omega.{arith}
 use lib.ListN.{length, getD, set, take, length-set}
 use Rattle.listing.specs.Cycles.{unleft}
 use Rattle.listing.specs.Inner.Ranges.{column}
-use Rattle.listing.specs.Inner.Filling.{PathKept}
-use Rattle.listing.proofs.MarkLaws.{unleft-falls}
+use Rattle.listing.specs.Inner.Filling.{marksOf, PathKept}
+use Rattle.listing.proofs.MarkLaws.{marks-length, unleft-falls}
 use Rattle.listing.proofs.ExtensionLaws.{enter-unleft, Extending, extending-begins, extending-named, extending-stops, extending-ends, extending-skip, extending-close, extending-enter, path-kept}
 use borrow.Fn.Kinds.{In}
 use borrow.Fn.PlainCycle.{Measures, is, falls, and}
@@ -19,11 +19,12 @@ use Rattle.listing.proofs.+extend.Lts-extend as extend-lts
 use Rattle.listing.proofs.add_cycle.Reads as add-cycle-reads
 use Rattle.listing.proofs.step_of.Reads as step-of-reads
 use Rattle.listing.proofs.wide.Reads as wide-reads
+use Rattle.listing.proofs.with_left.Reads as with-left-reads
 use Rattle.listing.proofs.+extend.{statement}
 use Rattle.listing.proofs.+extend.Tie.{close}
 
 abbrev μ-extend : Measures 3 extend-kinds.ps ℕ
-μ-extend κs a = unleft (a .1 .1 .1 .1 .1 .0)
+μ-extend κs a = unleft (marksOf 24 (a .1 .1 .1 .1 .1 .0))
 
 abbrev extend-at : ℕ → In 3 extend-kinds.ps
 extend-at t = and 3 extend-kinds.ps (is 3 extend-kinds.ps μ-extend t) extend.Pre
@@ -34,19 +35,15 @@ extend-below t = and 3 extend-kinds.ps (falls 3 extend-kinds.ps _<_ μ-extend t)
 -- What the functions that are called, this one among them, ask and give.
 abbrev claims : ℕ → extend-lts.Claims
 claims t =
-    (step-of-reads.Asked, step-of-reads.Learnt, add-cycle-reads.Asked, add-cycle-reads.Learnt, wide-reads.Asked, wide-reads.Learnt, extend-below t, extend.Post)
+    (step-of-reads.Asked, step-of-reads.Learnt, add-cycle-reads.Asked, add-cycle-reads.Learnt, wide-reads.Asked, wide-reads.Learnt, with-left-reads.Asked, with-left-reads.Learnt, extend-below t, extend.Post)
 
 abbrev extend-Inv-loop : extend-lts.InvT-loop
 extend-Inv-loop entered next head last start marks path₀ depth low high out₀ pos limit used₀ k₀ path out used k =
-    (low ≤ k) × PathKept depth path₀ path × Extending entered next head last start marks (take depth path₀) low high limit out₀ pos k used out
+    (low ≤ k) × PathKept depth path₀ path × Extending entered next head last start (marksOf 24 marks) (take depth path₀) low high limit out₀ pos k used out
 
 abbrev extend-μ-loop : extend-lts.MeasureT-loop
 extend-μ-loop entered next head last start marks path₀ depth low high out₀ pos limit used₀ k₀ path out used k =
     high - k
-
--- The marks are those of 24 states.
-marks-room : (t : ℕ) (c : extend-lts.Start (claims t) (extend-at t) extend.Post extend-Inv-loop extend-μ-loop) → length (c .args .marks) ≡ 24
-marks-room t c = search needs
 
 -- Row k is one of the linked rows,
 row-in : (t : ℕ) (c : extend-lts.In-loop (claims t) (extend-at t) extend.Post extend-Inv-loop extend-μ-loop) → (c .before .before .before .pre .1 .first ≤ c .before .loop .k) × (c .before .loop .k < c .before .before .before .args .last)
@@ -100,16 +97,16 @@ extend-enum-known-step : (t : ℕ) → extend-lts.Need-enum-known-step (claims t
 extend-enum-known-step t c = search needs
 
 -- A state that is entered is the row's, and not yet left;
-enters : (t : ℕ) (c : extend-lts.After-known-told (claims t) (extend-at t) extend.Post extend-Inv-loop extend-μ-loop) → (c .before .step .given .0 .0 ≡ column (c .before .before .before .before .before .before .before .before .args .entered .now) (c .before .before .before .before .before .before .loop .k)) × (getD (c .before .before .before .before .before .before .before .before .args .marks) (c .before .step .given .0 .0) 0 ≡ 0)
-enters t c = let a = c .before .before .before .before .before .before .before .before .args in enter-unleft (a .entered .now) (a .start) (a .marks) _ _ (c .before .before .before .step-of .ensures) _ (c .before .step .given .1)
+enters : (t : ℕ) (c : extend-lts.After-known-told (claims t) (extend-at t) extend.Post extend-Inv-loop extend-μ-loop) → (c .before .step .given .0 .0 ≡ column (c .before .before .before .before .before .before .before .before .args .entered .now) (c .before .before .before .before .before .before .loop .k)) × (getD (marksOf 24 (c .before .before .before .before .before .before .before .before .args .marks)) (c .before .step .given .0 .0) 0 ≡ 0)
+enters t c = let a = c .before .before .before .before .before .before .before .before .args in enter-unleft (a .entered .now) (a .start) (marksOf 24 (a .marks)) _ _ (c .before .before .before .step-of .ensures) _ (c .before .step .given .1)
 
 -- so it is below 24, and once it is left, one state less is not.
 entering : (t : ℕ) (c : extend-lts.After-known-told (claims t) (extend-at t) extend.Post extend-Inv-loop extend-μ-loop)
-    → (c .before .step .given .0 .0 < 24) × (unleft (c .before .before .before .before .before .before .before .before .args .marks) ≡ suc (unleft (set (c .before .before .before .before .before .before .before .before .args .marks) (c .before .step .given .0 .0) 1)))
+    → (c .before .step .given .0 .0 < 24) × (unleft (marksOf 24 (c .before .before .before .before .before .before .before .before .args .marks)) ≡ suc (unleft (set (marksOf 24 (c .before .before .before .before .before .before .before .before .args .marks)) (c .before .step .given .0 .0) 1)))
 entering t c =
     let e = enters t c in
     let l : c .before .step .given .0 .0 < 24 = omega (arith, e .0, state-in t (c .before .before .before .before .before)) in
-    (l, unleft-falls _ _ (omega (arith, l, marks-room t (c .before .before .before .before .before .before .before .before))) (e .1))
+    (l, unleft-falls _ _ (omega (arith, l, marks-length 24 (c .before .before .before .before .before .before .before .before .args .marks))) (e .1))
 
 extend-cast-wide : (t : ℕ) → extend-lts.Need-cast-wide (claims t) (extend-at t) extend.Post extend-Inv-loop extend-μ-loop
 extend-cast-wide t c = omega (arith, entering t c .0)
@@ -123,33 +120,31 @@ extend-element-copy-out-wide t c = entering t c .0
 extend-wide-requires : (t : ℕ) → extend-lts.Need-wide-requires (claims t) (extend-at t) extend.Post extend-Inv-loop extend-μ-loop
 extend-wide-requires t c κs = search needs
 
-extend-cast-marked : (t : ℕ) → extend-lts.Need-cast-marked (claims t) (extend-at t) extend.Post extend-Inv-loop extend-μ-loop
-extend-cast-marked t c = omega (arith, entering t (c .before .before) .0)
-
-extend-array-write-marked : (t : ℕ) → extend-lts.Need-array-write-marked (claims t) (extend-at t) extend.Post extend-Inv-loop extend-μ-loop
-extend-array-write-marked t c = entering t (c .before .before) .0
+extend-with-left-requires : (t : ℕ) → extend-lts.Need-with-left-requires (claims t) (extend-at t) extend.Post extend-Inv-loop extend-μ-loop
+extend-with-left-requires t c κs = entering t (c .before .before) .0
 
 extend-cast-path : (t : ℕ) → extend-lts.Need-cast-path (claims t) (extend-at t) extend.Post extend-Inv-loop extend-μ-loop
-extend-cast-path t c = omega (arith, row-in t (c .before .before .before .before .before .before .before) .1, c .before .before .before .before .before .before .before .before .before .before .pre .1 .enter .few)
+extend-cast-path t c = omega (arith, row-in t (c .before .before .before .before .before .before .before .before) .1, c .before .before .before .before .before .before .before .before .before .before .before .pre .1 .enter .few)
 
 extend-mul-path : (t : ℕ) → extend-lts.Need-mul-path (claims t) (extend-at t) extend.Post extend-Inv-loop extend-μ-loop
-extend-mul-path t c = omega (arith, entering t (c .before .before) .1, c .before .before .before .before .before .before .before .before .before .before .pre .1 .fits)
+extend-mul-path t c = omega (arith, entering t (c .before .before .before) .1, c .before .before .before .before .before .before .before .before .before .before .before .pre .1 .fits)
 
 extend-element-write-path : (t : ℕ) → extend-lts.Need-element-write-path (claims t) (extend-at t) extend.Post extend-Inv-loop extend-μ-loop
-extend-element-write-path t c = omega (arith, entering t (c .before .before) .1, c .before .before .before .before .before .before .before .before .before .before .pre .1 .fits)
+extend-element-write-path t c = omega (arith, entering t (c .before .before .before) .1, c .before .before .before .before .before .before .before .before .before .before .before .pre .1 .fits)
 
 extend-add-extend : (t : ℕ) → extend-lts.Need-add-extend (claims t) (extend-at t) extend.Post extend-Inv-loop extend-μ-loop
-extend-add-extend t c = omega (arith, c .before .before .before .before .before .before .before .before .before .before .before .pre .1 .fits)
+extend-add-extend t c = omega (arith, c .before .before .before .before .before .before .before .before .before .before .before .before .pre .1 .fits)
 
 extend-extend-requires : (t : ℕ) → extend-lts.Need-extend-requires (claims t) (extend-at t) extend.Post extend-Inv-loop extend-μ-loop
 extend-extend-requires t c κs =
-    let b = c .before .before .before .before .before .before .before .before .before .before .before .before in
+    let b = c .before .before .before .before .before .before .before .before .before .before .before .before .before in
     let p = b .pre .1 in
-    let g = so-far t (c .before .before .before .before .before .before .before .before .before .before) in
-    let f = entering t (c .before .before .before .before) .1 in
-    let h = p .links .head-in (c .before .before .before .before .before .step .given .0 .0) (entering t (c .before .before .before .before) .0) in
-    let e = c .before .before .wide .ensures in (
-      omega (arith, b .pre .0),
+    let g = so-far t (c .before .before .before .before .before .before .before .before .before .before .before) in
+    let f = entering t (c .before .before .before .before .before) .1 in
+    let h = p .links .head-in (c .before .before .before .before .before .before .step .given .0 .0) (entering t (c .before .before .before .before .before) .0) in
+    let e = c .before .before .before .wide .ensures in
+    let marked = ap unleft (c .before .before .with-left .ensures) in (
+      omega (arith, b .pre .0, f, marked),
       record {
         left = p .left;
         first = p .first;
@@ -158,8 +153,8 @@ extend-extend-requires t c κs =
         low-in = omega (arith, e, h .0);
         ordered = omega (arith, e, h .1);
         high-in = omega arith;
-        path-room = rw length-set (c .before .before .before .before .before .before .before .before .before .before .loop .inv .1 .path-room);
-        fits = omega (arith, p .fits);
+        path-room = rw length-set (c .before .before .before .before .before .before .before .before .before .before .before .loop .inv .1 .path-room);
+        fits = omega (arith, p .fits, f, marked);
         room-in = omega (arith, g .0, p .room-in);
         pos-in = g .1;
         limit-in = p .limit-in;
@@ -208,8 +203,8 @@ extend-loop-again t c =
     let g = entering t (record { before = record { before = record { before = c .before .before .before; match = w .0 }; step = w .1 }; known-told = w .2 }) in
     let deep : a .depth < 24 = omega (arith, p .fits, g .1) in (
       low,
-      subst (PathKept (a .depth) (a .path .now)) (sym (w .10)) (path-kept (a .depth) (l .k) (a .path .now) (l .path) _ kept (w .7 .ensures .0)),
-      extending-named _ _ (w .12) (w .11) (extending-enter (l .inv .2) (l .inv .0) h (p .high-in) step next (w .8 .given) (w .1 .given .0 .0) (w .1 .given .1) (g .0) (g .1) (l .path) (a .depth) (kept .same-rows) (omega (arith, deep, kept .path-room)) (w .4 .result) (w .4 .ensures) (w .7 .ensures .1)),
+      subst (PathKept (a .depth) (a .path .now)) (sym (w .11)) (path-kept (a .depth) (l .k) (a .path .now) (l .path) _ kept (w .8 .ensures .0)),
+      extending-named _ _ (w .13) (w .12) (extending-enter (l .inv .2) (l .inv .0) h (p .high-in) step next (w .9 .given) (w .1 .given .0 .0) (w .1 .given .1) (g .0) (g .1) (l .path) (a .depth) (kept .same-rows) (omega (arith, deep, kept .path-room)) (w .4 .result) (w .4 .ensures) (marksOf 24 (w .5 .result)) (w .5 .ensures) (w .8 .ensures .1)),
     )))
     (c .before .before .match .came)
 
@@ -238,8 +233,7 @@ pub +extend-spec : {M : Type 1} → statement M
     (extend-mul-wide t)
     (extend-element-copy-out-wide t)
     (extend-wide-requires t)
-    (extend-cast-marked t)
-    (extend-array-write-marked t)
+    (extend-with-left-requires t)
     (extend-cast-path t)
     (extend-mul-path t)
     (extend-element-write-path t)

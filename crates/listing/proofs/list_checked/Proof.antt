@@ -3,7 +3,7 @@ use borrow.Author.Needs.{needs}
 use native.Mathlib.Omega.{arith}
 use lib.ListN.{length}
 use Rattle.plant.specs.Tables.{plantOf}
-use Rattle.plant.proofs.TableLaws.{machines-so-far}
+use Rattle.plant.proofs.TableLaws.{machines-counted}
 use Rattle.listing.proofs.TableCycles.{rows-range}
 use Rattle.listing.proofs.AnswerLaws.{states-are, refuse-12, refuse-states, refuse-rows, refuse-none, refusal, answers-same}
 use Rattle.listing.proofs.list_checked.Statement.{statement}
@@ -17,7 +17,7 @@ returns c =
     let b = c .before .before .before in
     let t = b .args .t1 in
     let before = b .args .out .now in
-    λ end. refusal 12 0 _ (refuse-12 (b .args .machine) (length before) (plantOf t) end (omega (arith, c .before .if1 .taken, machines-so-far t 16 (b .pre .0 .sound) (omega arith)))) before (c .refused .result) (c .refused .ensures)
+    λ end. refusal 12 0 _ (refuse-12 (b .args .machine) (length before) (plantOf t) end (omega (arith, c .before .if1 .taken, machines-counted t (b .pre .0 .sound)))) before (c .refused .result) (c .refused .ensures)
 
 element-copy-out-if2 : tie.Need-element-copy-out-if2
 element-copy-out-if2 c = omega (arith, c .if1 .left, c .before .before .pre .0 .sound .few-machines)
@@ -32,7 +32,7 @@ returns-2 c =
     let m = b .args .machine in
     let before = b .args .out .now in
     let within = c .before .before .before .if1 .left in
-    λ end. refusal 13 0 _ (refuse-states m (length before) (plantOf t) end (omega (arith, within, machines-so-far t 16 (b .pre .0 .sound) (omega arith))) (omega (arith, c .before .if2 .taken, states-are t m (omega (arith, within))))) before (c .refused2 .result) (c .refused2 .ensures)
+    λ end. refusal 13 0 _ (refuse-states m (length before) (plantOf t) end (omega (arith, within, machines-counted t (b .pre .0 .sound))) (omega (arith, c .before .if2 .taken, states-are t m (omega (arith, within))))) before (c .refused2 .result) (c .refused2 .ensures)
 
 mul-wide : tie.Need-mul-wide
 mul-wide c = record { fits = omega (arith, c .before .before .if1 .left, c .before .before .before .before .pre .0 .sound .few-machines) }
@@ -72,7 +72,7 @@ returns-3 c =
     let before = b .args .out .now in
     let within = c .before .before .before .before .before .before .before .before .if1 .left in
     let range = rows-range t (b .pre .0) (b .pre .1) m (omega (arith, within)) in
-    λ end. refusal 13 0 _ (refuse-rows m (length before) (plantOf t) end (omega (arith, within, machines-so-far t 16 (b .pre .0 .sound) (omega arith))) (omega (arith, c .before .if3 .taken, range .2, c .before .before .before .before .wide .ensures, c .before .before .wide2 .ensures))) before (c .refused3 .result) (c .refused3 .ensures)
+    λ end. refusal 13 0 _ (refuse-rows m (length before) (plantOf t) end (omega (arith, within, machines-counted t (b .pre .0 .sound))) (omega (arith, c .before .if3 .taken, range .2, c .before .before .before .before .wide .ensures, c .before .before .wide2 .ensures))) before (c .refused3 .result) (c .refused3 .ensures)
 
 list-machine-requires : tie.Need-list-machine-requires
 list-machine-requires c κs =
@@ -94,7 +94,7 @@ returns-4 c =
     let within = c .before .before .before .before .before .before .before .before .before .before .before .if1 .left in
     let range = rows-range t (b .pre .0) (b .pre .1) m (omega (arith, within)) in
     λ end.
-    answers-same (refuse-none m (length before) (plantOf t) end (omega (arith, within, machines-so-far t 16 (b .pre .0 .sound) (omega arith))) (omega (arith, c .before .before .before .before .before .before .before .before .before .if2 .left, states-are t m (omega (arith, within)))) (omega (arith, c .before .before .before .before .if3 .left, range .2, c .before .before .before .before .before .before .before .wide .ensures, c .before .before .before .before .before .wide2 .ensures))) (c .before .before .list-machine .ensures end)
+    answers-same (refuse-none m (length before) (plantOf t) end (omega (arith, within, machines-counted t (b .pre .0 .sound))) (omega (arith, c .before .before .before .before .before .before .before .before .before .if2 .left, states-are t m (omega (arith, within)))) (omega (arith, c .before .before .before .before .if3 .left, range .2, c .before .before .before .before .before .before .before .wide .ensures, c .before .before .before .before .before .wide2 .ensures))) (c .before .before .list-machine .ensures end)
 
 pub list-checked-spec : {M : Type 1} → statement M
 list-checked-spec =

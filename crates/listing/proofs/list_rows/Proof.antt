@@ -1,11 +1,13 @@
 -- `list_rows` meets its contract: the cycles that begin with one of the rows from `row` on are left to be added.
 use borrow.Author.Needs.{needs}
 use mathlib.Core.Path.{_≡_, refl}
-use Prim.Native.Nat.{ℕ, _-_, _≤_, _<_}
+use Prim.Native.Nat.{_-_, _≤_, _<_}
 use native.Mathlib.Omega.{arith}
-use lib.ListN.{length, replicate, length-set}
-use Rattle.listing.specs.Cycles.{leftOnly, cyclesThrough}
+use lib.ListN.{length}
+use Rattle.listing.specs.Cycles.{cyclesThrough}
 use Rattle.listing.specs.Inner.Ranges.{column}
+use Rattle.listing.specs.Inner.Filling.{marksOf}
+use Rattle.listing.proofs.MarkLaws.{marks-length, one-left}
 use Rattle.listing.proofs.FillingLaws.{Adding, adding-begins, adding-part, adding-ends}
 use Rattle.listing.proofs.ExtensionLaws.{unleft-few, entriesFrom, entries-first, entries-end}
 use Rattle.listing.proofs.list_rows.Statement.{statement}
@@ -22,10 +24,6 @@ abbrev μ-loop : tie.MeasureT-loop
 state-in : (c : tie.In-loop Inv-loop μ-loop) → column (c .before .before .before .args .left .now) (c .before .loop .row) < 24
 state-in c = c .before .before .before .pre .0 .below-24 (c .before .loop .row) (c .before .loop .inv .0) (c .loop-test .taken)
 
--- The marks are those of 24 states.
-marks-room : (s : ℕ) → length (leftOnly 24 s) ≡ 24
-marks-room s = length-set (replicate 24 0) s 1
-
 loop-holds : tie.Need-loop-holds Inv-loop μ-loop
 loop-holds c =
     let p = c .before .pre in
@@ -34,22 +32,19 @@ loop-holds c =
 element-copy-out-start : tie.Need-element-copy-out-start Inv-loop μ-loop
 element-copy-out-start c = omega (arith, c .loop-test .taken, c .before .before .before .pre .0 .few)
 
-cast-marks : tie.Need-cast-marks Inv-loop μ-loop
-cast-marks c = omega (arith, state-in (c .before))
-
-array-write-marks : tie.Need-array-write-marks Inv-loop μ-loop
-array-write-marks c = state-in (c .before)
+with-left-requires : tie.Need-with-left-requires Inv-loop μ-loop
+with-left-requires c κs = state-in (c .before)
 
 add-extend : tie.Need-add-extend Inv-loop μ-loop
 add-extend c = search needs
 
 extend-requires : tie.Need-extend-requires Inv-loop μ-loop
 extend-requires c κs =
-    let b = c .before .before .before .before .before .before in
+    let b = c .before .before .before .before .before .before .before in
     let p = b .pre in
-    let i = c .before .before .before .before .loop .inv in
-    let h = c .before .before .before .loop-test .taken in
-    let s = column (b .args .left .now) (c .before .before .before .before .loop .row) in
+    let i = c .before .before .before .before .before .loop .inv in
+    let h = c .before .before .before .before .loop-test .taken in
+    let marks = c .before .before .with-left .result in
     record {
       left = b .args .left .now;
       first = b .args .first;
@@ -59,7 +54,7 @@ extend-requires c κs =
       ordered = omega arith;
       high-in = omega arith;
       path-room = i .2;
-      fits = omega (arith, unleft-few (leftOnly 24 s), marks-room s);
+      fits = omega (arith, unleft-few (marksOf 24 marks), marks-length 24 marks);
       room-in = omega (arith, i .3 .same-length, p .3);
       pos-in = i .3 .in-limit;
       limit-in = p .4;
@@ -73,15 +68,16 @@ loop-less c = search needs
 
 loop-again : tie.Need-loop-again Inv-loop μ-loop
 loop-again c =
-    let b = c .before .before .before .before .before .before .before .before .before in
+    let b = c .before .before .before .before .before .before .before .before .before .before in
     let a = b .args in
-    let l = c .before .before .before .before .before .before .before .loop in
-    let h = c .before .before .before .before .before .before .loop-test .taken in
-    let e = c .before .before .extend .ensures in (
+    let l = c .before .before .before .before .before .before .before .before .loop in
+    let h = c .before .before .before .before .before .before .before .loop-test .taken in
+    let e = c .before .before .extend .ensures in
+    let marks = c .before .before .before .before .before .with-left in (
       omega (arith, l .inv .0),
       omega arith,
       e .0 .path-room,
-      adding-part (l .inv .3) _ _ (entries-first (a .left .now) (a .entered .now) (a .first) (a .last) (l .row) (l .path) h) _ _ (c .before .out .given)
+      adding-part (l .inv .3) _ _ (entries-first (a .left .now) (a .entered .now) (a .first) (a .last) (l .row) (l .path) _ (one-left 24 _ _ (marks .ensures)) h) _ _ (c .before .out .given)
           (e .1 (a .left .now) (a .first) (b .pre .2) (l .inv .0)),
     )
 
@@ -103,8 +99,7 @@ list-rows-spec =
     μ-loop
     loop-holds
     element-copy-out-start
-    cast-marks
-    array-write-marks
+    with-left-requires
     add-extend
     extend-requires
     add-row

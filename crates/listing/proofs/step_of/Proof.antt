@@ -1,9 +1,8 @@
 -- `step_of` meets its contract: each answer is that of the tests passed before it.
 use borrow.Author.Needs.{needs}
-use mathlib.Core.Path.{_≡_}
+use mathlib.Core.Path.{sym, _∙_}
 use borrow.Author.Tests.{eq-eqb, ne-eqb, lt-ltb, le-ltb}
 use native.Mathlib.Omega.{arith}
-use lib.ListN.{getD}
 use Rattle.listing.specs.Inner.Ranges.{column}
 use Rattle.listing.proofs.step_of.Statement.{statement}
 use Rattle.listing.proofs.step_of.Tie as tie
@@ -23,26 +22,22 @@ returns-2 c =
     let state = column (a .entered .now) (a .k) in
     rw (ne-eqb state (a .start) (c .before .if1 .left), lt-ltb state (a .start) (omega (arith, c .if2 .taken)))
 
-cast-if3 : tie.Need-cast-if3
-cast-if3 c = search needs
-
-array-read-if3 : tie.Need-array-read-if3
-array-read-if3 c = search needs
+not-yet-left-requires : tie.Need-not-yet-left-requires
+not-yet-left-requires c κs = search needs
 
 returns-3 : tie.Need-returns-3
 returns-3 c =
-    let a = c .before .before .before .before .args in
+    let a = c .before .before .before .before .before .args in
     let state = column (a .entered .now) (a .k) in
-    let left : getD (a .t3) state 0 ≡ 0 → ⊥ = λ e. omega (arith, c .if3 .taken) in
-    rw (ne-eqb state (a .start) (c .before .before .if1 .left), le-ltb state (a .start) (omega (arith, c .before .if2 .left)), ne-eqb (getD (a .t3) state 0) 0 left)
+    rw (ne-eqb state (a .start) (c .before .before .before .if1 .left), le-ltb state (a .start) (omega (arith, c .before .before .if2 .left)), sym (c .before .not-yet-left .ensures) ∙ c .if3 .taken)
 
 returns-4 : tie.Need-returns-4
 returns-4 c =
-    let a = c .before .before .before .before .args in
+    let a = c .before .before .before .before .before .args in
     let state = column (a .entered .now) (a .k) in
-    rw (ne-eqb state (a .start) (c .before .before .if1 .left), le-ltb state (a .start) (omega (arith, c .before .if2 .left)), eq-eqb (getD (a .t3) state 0) 0 (omega (arith, c .if3 .left)))
+    rw (ne-eqb state (a .start) (c .before .before .before .if1 .left), le-ltb state (a .start) (omega (arith, c .before .before .if2 .left)), sym (c .before .not-yet-left .ensures) ∙ c .if3 .left)
 
 pub step-of-spec : {M : Type 1} → statement M
 step-of-spec =
     tie.close
-    (tie.spec element-copy-out-state returns returns-2 cast-if3 array-read-if3 returns-3 returns-4)
+    (tie.spec element-copy-out-state returns returns-2 not-yet-left-requires returns-3 returns-4)

@@ -2,7 +2,7 @@
 use mathlib.Core.Path.{_≡_}
 use mathlib.Core.Bool.{cond}
 use mathlib.Core.List.{List, [], _∷_, _++_, map}
-use Prim.Native.Nat.{ℕ, suc, _+_, _-_, _≤_, _<_, _^_, min}
+use Prim.Native.Nat.{ℕ, zero, suc, _+_, _-_, _/_, _%_, _≤_, _<_, _^_, min}
 use lib.ListN.{length, getD, take}
 use lib.Seq.{sets}
 use lib.Dec.{eqb, ltb}
@@ -40,6 +40,11 @@ pub record Linked (left next head : List ℕ) (first last : ℕ) : Type 0 where
   pub head-first : (s j : ℕ) → s < 24 → first ≤ j → j < column head s → column left j ≡ s → ⊥
 
 -- ---- rows
+
+-- Marks as bits: the mark of each of n states is the bit of its number.
+unfoldable pub marksOf : ℕ → ℕ → List ℕ
+marksOf zero bits = []
+marksOf (suc n) bits = (bits % 2) ∷ marksOf n (bits / 2)
 
 -- What row k does for a path from `start` that stands at the state which the row leaves: it closes the cycle, or it enters a state above
 -- `start` that is not yet left.

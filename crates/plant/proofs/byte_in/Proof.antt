@@ -1,10 +1,10 @@
 -- `byte_in` meets its contract: what `byte_at` found, and what `in_range` says of it.
 use borrow.Author.Needs.{needs}
-use mathlib.Core.Path.{_∙_}
+use mathlib.Core.Path.{sym, _∙_}
 use Rattle.plant.specs.Reading.{byteIn}
 use Rattle.plant.specs.Inner.Steps.{fieldFound}
 use Rattle.plant.proofs.Told.{told}
-use Rattle.plant.proofs.ByteLaws.{byte-missing, byte-judged}
+use Rattle.plant.proofs.ByteLaws.{byte-missing, byte-passes, byte-fails}
 use Rattle.plant.proofs.byte_in.Statement.{statement}
 use Rattle.plant.proofs.byte_in.Tie as tie
 
@@ -17,21 +17,20 @@ enum-known-step c = search needs
 enum-known-step-2 : tie.Need-enum-known-step-2
 enum-known-step-2 c = search needs
 
+returns : tie.Need-returns
+unfolding byteIn
+returns c = byte-missing _ _ _ _ _ _ (told fieldFound (c .before .before .before .byte-at .ensures) (c .before .step2 .given .1))
+
 in-range-requires : tie.Need-in-range-requires
 in-range-requires c κs = search needs
 
-judged-requires : tie.Need-judged-requires
-judged-requires c κs = search needs
-
-returns : tie.Need-returns
-unfolding byteIn
-returns c = byte-missing _ _ _ _ _ _ (told fieldFound (c .before .before .before .byte-at .ensures) (c .before .step .given .1))
-
 returns-2 : tie.Need-returns-2
 unfolding byteIn
-returns-2 c =
-    let read = c .before .before .before in
-    c .judged .ensures ∙ byte-judged _ _ _ _ _ _ _ (told fieldFound (read .before .before .byte-at .ensures) (read .step2 .given .1)) (c .before .in-range .ensures)
+returns-2 c = byte-passes _ _ _ _ _ _ (told fieldFound (c .before .before .before .before .before .byte-at .ensures) (c .before .before .before .step .given .1)) (sym (c .before .in-range .ensures) ∙ c .if1 .taken)
+
+returns-3 : tie.Need-returns-3
+unfolding byteIn
+returns-3 c = byte-fails _ _ _ _ _ _ (told fieldFound (c .before .before .before .before .before .byte-at .ensures) (c .before .before .before .step .given .1)) (sym (c .before .in-range .ensures) ∙ c .if1 .left)
 
 pub byte-in-spec : {M : Type 1} → statement M
 byte-in-spec =
@@ -40,7 +39,7 @@ byte-in-spec =
     byte-at-requires
     enum-known-step
     enum-known-step-2
-    in-range-requires
-    judged-requires
     returns
-    returns-2)
+    in-range-requires
+    returns-2
+    returns-3)

@@ -5,8 +5,6 @@ use native.Mathlib.Omega.{arith}
 use Rattle.plant.specs.Inner.Steps.{fieldFound}
 use Rattle.plant.proofs.Told.{told}
 use Rattle.plant.proofs.Bounds.{each-found, byteIn-each}
-use Rattle.plant.proofs.TableLaws.{recount}
-use Rattle.plant.proofs.FirstRowLaws.{ready}
 use Rattle.plant.proofs.PlantLaws.{no-machine-count, no-type-count, file-read}
 use Rattle.plant.proofs.decode.Statement.{statement}
 use Rattle.plant.proofs.decode.Tie as tie
@@ -44,28 +42,19 @@ returns-2 c = (
   c .refused2 .ensures .1,
 )
 
-blank-requires : tie.Need-blank-requires
-blank-requires c κs = let r = each-found _ _ (byteIn-each _ _ 0 65 2 (omega arith)) (told fieldFound (c .before .before .before .types-byte .ensures) (c .before .second .given .1)) in omega (arith, r .1 .1)
+cast-read-table : tie.Need-cast-read-table
+cast-read-table c = search needs
 
-cast-read-machines : tie.Need-cast-read-machines
-cast-read-machines c = search needs
-
-read-machines-requires : tie.Need-read-machines-requires
-read-machines-requires c κs =
-    let r = each-found _ _ (byteIn-each _ _ 1 17 2 (omega arith)) (told fieldFound (c .before .before .before .before .before .before .before .before .before .machines-byte .ensures) (c .before .before .before .before .before .before .before .first .given .1)) in
-    let b = c .before .blank .ensures in
-    (recount _ _ 0 (b .1 .sound) (omega (arith, b .0 .1)), omega (arith, r .1 .1))
-
-at-file-end-requires : tie.Need-at-file-end-requires
-at-file-end-requires c κs = search needs
-
-first-rows-requires : tie.Need-first-rows-requires
-first-rows-requires c κs = c .before .before .before .before .read-machines .ensures .1 .few-rows
+read-table-requires : tie.Need-read-table-requires
+read-table-requires c κs =
+    let m = each-found _ _ (byteIn-each _ _ 1 17 2 (omega arith)) (told fieldFound (c .before .before .before .before .before .before .before .before .machines-byte .ensures) (c .before .before .before .before .before .before .first .given .1)) in
+    let t = each-found _ _ (byteIn-each _ _ 0 65 2 (omega arith)) (told fieldFound (c .before .before .before .before .types-byte .ensures) (c .before .before .second .given .1)) in
+    (omega (arith, m .1 .1), omega (arith, t .1 .1))
 
 returns-3 : tie.Need-returns-3
 returns-3 c = (
-  c .before .before .before .at-file-end .ensures _ ∙ file-read _ _ _ (told fieldFound (c .before .before .before .before .before .before .before .before .before .before .before .before .before .before .before .machines-byte .ensures) (c .before .before .before .before .before .before .before .before .before .before .before .before .before .first .given .1)) _ _ _ _ (told fieldFound (c .before .before .before .before .before .before .before .before .before .before .before .types-byte .ensures) (c .before .before .before .before .before .before .before .before .before .second .given .1)) (c .before .before .before .before .before .before .before .blank .ensures .0 .0) (c .before .before .before .before .before .read-machines .ensures .0),
-  ready (c .before .before .before .before .before .read-machines .result .table) _ (c .before .before .before .before .before .read-machines .ensures .1) (c .first-rows .ensures),
+  c .read-table .ensures .0 ∙ file-read _ _ _ (told fieldFound (c .before .before .before .before .before .before .before .before .before .machines-byte .ensures) (c .before .before .before .before .before .before .before .first .given .1)) _ _ (told fieldFound (c .before .before .before .before .before .types-byte .ensures) (c .before .before .before .second .given .1)),
+  c .read-table .ensures .1,
 )
 
 pub decode-spec : {M : Type 1} → statement M
@@ -82,9 +71,6 @@ decode-spec =
     enum-known-second-2
     refused-requires-2
     returns-2
-    blank-requires
-    cast-read-machines
-    read-machines-requires
-    at-file-end-requires
-    first-rows-requires
+    cast-read-table
+    read-table-requires
     returns-3)

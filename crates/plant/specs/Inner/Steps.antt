@@ -1,23 +1,24 @@
 -- What the answers of the reader's private functions mean.
 use mathlib.Core.Path.{_≡_}
-use mathlib.Core.Bool.{cond}
+use mathlib.Core.Bool.{Bool}
 use mathlib.Core.Option.{Option}
 use mathlib.Core.List.{List}
-use Prim.Native.Nat.{ℕ, _<_}
-use lib.ListN.{length, getD}
-use lib.Dec.{ltb}
-use Rattle.livelock.specs.Lists.{below, count}
-use Rattle.livelock.specs.Plants.{Row, Plant}
+use Prim.Native.Nat.{ℕ, _+_, _≤_, _<_}
+use lib.ListN.{length, getD, take}
+use Rattle.livelock.specs.Lists.{All}
+use Rattle.livelock.specs.Plants.{Row, Plant, rowCount, machineCount}
 use Rattle.plant.specs.Found.{Found, found}
+use Rattle.plant.specs.Reading.{noMachines, readRows, readMachine, readMachines}
 use Rattle.plant.specs.Answers.{faultFound}
-use Rattle.plant.specs.Tables.{typeOf, plantOf, Sound}
+use Rattle.plant.specs.Tables.{typeOf, Columns, plantIn, endFound, rowsBefore}
+use Rattle.plant.specs.declared.Fault.{Fault}
 use Rattle.plant.specs.declared.FieldStep.{FieldStep}
 use Rattle.plant.specs.declared.FieldStep.the-variants as FieldSteps
 use Rattle.plant.specs.declared.RowStep.{RowStep}
 use Rattle.plant.specs.declared.RowStep.the-variants as RowSteps
 use Rattle.plant.specs.declared.End.{End}
 use Rattle.plant.specs.declared.End.the-variants as Ends
-use Rattle.plant.specs.declared.PlantTable.{PlantTable}
+use Rattle.plant.specs.declared.Stored.{Stored}
 
 -- ---- reading
 
@@ -41,23 +42,60 @@ abbrev pub offsetOf : End → ℕ
 offsetOf (Ends.At next) = next
 offsetOf (Ends.Fault f) = f .place
 
--- A table of so many machines and rows that holds this plant.
-pub record Grown (t : PlantTable) (machines rows : ℕ) (p : Plant) : Type 0 where
-  pub sound : Sound t machines
-  pub counted : t .rows ≡ rows
-  pub holds : plantOf t ≡ p
+-- ---- columns that are lent
+
+-- The lent columns, as one value.
+abbrev pub columns : (machine left entered sent taken : List ℕ) → List Bool → Columns
+columns machine left entered sent taken progress =
+    record { machine = machine; left = left; entered = entered; sent = sent; taken = taken; progress = progress }
+
+-- Room for 1,024 rows.
+pub record Room (cs : Columns) : Type 0 where
+  pub machine : length (cs .machine) ≡ 1024
+  pub left : length (cs .left) ≡ 1024
+  pub entered : length (cs .entered) ≡ 1024
+  pub sent : length (cs .sent) ≡ 1024
+  pub taken : length (cs .taken) ≡ 1024
+  pub progress : length (cs .progress) ≡ 1024
+
+-- n rows of machine m were read behind the `used` rows that the columns had, whatever the machines of the plant.
+pub record RowsRead (n m states types used : ℕ) (s : List ℕ) (before after : Columns) (e : End) : Type 0 where
+  pub room : Room after
+  pub holds : (all : List ℕ) → endFound e (plantIn types all (used + n) after) ≡ readRows n m states 0 s 0 (plantIn types all used before)
+
+-- Machine m was read behind the machines before it and the `used` rows that the columns had.
+pub record MachineRead (file : List ℕ) (at m types used : ℕ) (states : List ℕ) (before : Columns) (rows : ℕ) (states′ : List ℕ) (after : Columns) (e : End) : Type 0 where
+  pub room : Room after
+  pub states-room : length states′ ≡ 16
+  pub few-rows : rows ≤ 1024
+  pub holds : endFound e (plantIn types (take (m + 1) states′) rows after) ≡ readMachine file at (plantIn types (take m states) used before)
+
+-- ---- reading without a table
+
+-- A plant with these counts.
+pub record Counts (p : Plant) (m t n : ℕ) : Type 0 where
+  pub machines : machineCount p ≡ m
+  pub types : p .types ≡ t
+  pub rows : rowCount p ≡ n
+
+-- What is kept of reading: the offset after a plant with these counts, or the fault.
+pub data Counted (machines types rows : ℕ) : Found Plant → End → Type 0 where
+  at-end : {p : Plant} {next : ℕ} → Counts p machines types rows → Counted machines types rows (found p next) (Ends.At next)
+  at-fault : {f : Fault} → Counted machines types rows (faultFound f) (Ends.Fault f)
 
 -- ---- the machines' first rows
 
--- 1 where a machine is before another.
-abbrev pub oneIfBelow : ℕ → ℕ → ℕ
-oneIfBelow a b = cond (ltb a b) 1 0
-
--- How many of the first k entries of the machine column are before m.
-unfoldable pub countBefore : List ℕ → ℕ → ℕ → ℕ
-countBefore machine m k = count (λ i. ltb (getD machine i 0) m) (below k)
-
--- The first n entries of `first` have these counts.
-pub record FirstRows (machine : List ℕ) (rows n : ℕ) (first : List ℕ) : Type 0 where
+-- A plant has rows of the machines before n only, and the first n entries of `first` are the first rows of these.
+pub record FirstRows (first : List ℕ) (n : ℕ) (p : Plant) : Type 0 where
   pub room : length first ≡ 17
-  pub at : (m : ℕ) → m < n → getD first m 0 ≡ countBefore machine m rows
+  pub at : (m : ℕ) → m < n → getD first m 0 ≡ rowsBefore p m
+  pub numbered : All (λ r. r .machine < n) (p .rows)
+
+-- n machines were read, the first of them at `from`; with their first rows.
+pub record MachinesRead (n : ℕ) (file : List ℕ) (from types : ℕ) (states first : List ℕ) (cs : Columns) (r : Stored) : Type 0 where
+  pub room : Room cs
+  pub states-room : length states ≡ 16
+  pub few-machines : r .machines ≤ 16
+  pub few-rows : r .rows ≤ 1024
+  pub holds : endFound (r .end) (plantIn types (take (r .machines) states) (r .rows) cs) ≡ readMachines n file from (noMachines types)
+  pub first-rows : FirstRows first (r .machines) (plantIn types (take (r .machines) states) (r .rows) cs)

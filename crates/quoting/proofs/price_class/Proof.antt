@@ -1,62 +1,52 @@
--- `price_class` meets its contract: after k turns it has counted those of the first k edges that are not above the ceiling.
+-- `price_class` meets its contract: the edges before the present one are not above the ceiling, so the first one above it is found.
 use borrow.Author.Needs.{needs}
-use mathlib.Core.Path.{_≡_, sym, ap, _∙_}
-use Prim.Native.Nat.{ℕ, _+_, _-_, _^_, _≤_, zero-le}
+use Prim.Native.Nat.{ℕ, _-_, _^_, _≤_, _<_}
 use native.Mathlib.Omega.{arith}
-use Rattle.weighing.proofs.FigureLaws.{sum-none, sum-turn}
-use Rattle.quoting.specs.Inner.Checks.{oneIfNotAbove}
-use Rattle.quoting.proofs.EdgeLaws.{edgesNotAbove, edges-limit, class-is}
+use Rattle.quoting.proofs.EdgeLaws.{table, edge-is, none-before, first-is-class}
 use Rattle.quoting.proofs.price_class.Statement.{statement}
 use Rattle.quoting.proofs.price_class.Tie as tie
 
 abbrev Inv-loop : tie.InvT-loop
-Inv-loop ceiling class₀ k₀ class k = (k ≤ 43) × (class ≡ edgesNotAbove k ceiling)
+Inv-loop ceiling edges class₀ class = (class ≤ 43) × ((i : ℕ) → i < class → 2 ^ i ≤ ceiling)
 
 abbrev μ-loop : tie.MeasureT-loop
-μ-loop ceiling class₀ k₀ class k = 43 - k
+μ-loop ceiling edges class₀ class = 43 - class
 
 loop-holds : tie.Need-loop-holds Inv-loop μ-loop
-loop-holds c = (zero-le, sym (sum-none _))
+loop-holds c = (search needs, λ i l. omega arith)
 
--- Counting edge k as well.
-counted : (c : tie.After-one-if-not-above Inv-loop μ-loop) →
-    c .before .before .before .loop .class + c .one-if-not-above .result ≡ edgesNotAbove (c .before .before .before .loop .k + 1) (c .before .before .before .before .args .ceiling)
-counted c =
-    let l = c .before .before .before .loop in
-    let ceiling = c .before .before .before .before .args .ceiling in
-    omega (
-      arith,
-      l .inv .1,
-      c .one-if-not-above .ensures,
-      ap (λ (e : ℕ). oneIfNotAbove e ceiling) (c .before .edge .ensures),
-      sum-turn (λ i. oneIfNotAbove (2 ^ i) ceiling) (l .k),
-    )
+cast-if1 : tie.Need-cast-if1 Inv-loop μ-loop
+cast-if1 c = search needs
 
-edge-requires : tie.Need-edge-requires Inv-loop μ-loop
-edge-requires c κs = search needs
+mul-if1 : tie.Need-mul-if1 Inv-loop μ-loop
+mul-if1 c = search needs
 
-one-if-not-above-requires : tie.Need-one-if-not-above-requires Inv-loop μ-loop
-one-if-not-above-requires c κs = search needs
+array-read-if1 : tie.Need-array-read-if1 Inv-loop μ-loop
+array-read-if1 c = search needs
+
+returns : tie.Need-returns Inv-loop μ-loop
+unfolding table
+returns c =
+    let l = c .before .before .loop in
+    first-is-class (l .class) (c .before .before .before .args .ceiling) (l .inv .1) (l .inv .0) (λ more. omega (arith, c .if1 .taken, edge-is (l .class) more))
 
 add-class : tie.Need-add-class Inv-loop μ-loop
-add-class c =
-    let l = c .before .before .before .loop in
-    record { fits = omega (arith, l .inv .0, l .inv .1, counted c, edges-limit (l .k + 1) (c .before .before .before .before .args .ceiling)) }
-
-add-k : tie.Need-add-k Inv-loop μ-loop
-add-k c = search needs
+add-class c = search needs
 
 loop-less : tie.Need-loop-less Inv-loop μ-loop
 loop-less c = search needs
 
 loop-again : tie.Need-loop-again Inv-loop μ-loop
-loop-again c = (omega arith, counted c)
+unfolding table
+loop-again c =
+    let l = c .before .before .loop in
+    let more : l .class < 43 = omega (arith, c .before .loop-test .taken) in
+    (search needs, none-before (l .class) (c .before .before .before .args .ceiling) (omega (arith, c .if1 .left, edge-is (l .class) more)))
 
-returns : tie.Need-returns Inv-loop μ-loop
-returns c =
-    let ceiling = c .before .before .args .ceiling in
-    let all : c .before .loop .k ≡ 43 = omega arith in
-    c .before .loop .inv .1 ∙ ap (λ (k : ℕ). edgesNotAbove k ceiling) all ∙ sym (class-is ceiling)
+returns-2 : tie.Need-returns-2 Inv-loop μ-loop
+returns-2 c =
+    let l = c .before .loop in
+    first-is-class (l .class) (c .before .before .args .ceiling) (l .inv .1) (l .inv .0) (λ more. omega arith)
 
 pub price-class-spec : {M : Type 1} → statement M
 price-class-spec =
@@ -65,10 +55,11 @@ price-class-spec =
     Inv-loop
     μ-loop
     loop-holds
-    edge-requires
-    one-if-not-above-requires
+    cast-if1
+    mul-if1
+    array-read-if1
+    returns
     add-class
-    add-k
     loop-less
     loop-again
-    returns)
+    returns-2)

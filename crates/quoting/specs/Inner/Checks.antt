@@ -4,7 +4,6 @@ use mathlib.Core.Bool.{Bool, cond}
 use mathlib.Core.List.{List}
 use Prim.Native.Nat.{ℕ, _+_, _*_, _≤_}
 use lib.ListN.{length, getD}
-use lib.Dec.{leb}
 use Rattle.livelock.specs.Lists.{below, sum}
 use Rattle.livelock.specs.Plants.{Plant}
 use Rattle.livelock.specs.Weights.{weight}
@@ -15,10 +14,6 @@ use Rattle.quoting.specs.Classes.{classOf}
 use Rattle.quoting.specs.Quoting.{content, checkedContents}
 use Rattle.quoting.specs.declared.Check.{Check}
 use Rattle.quoting.specs.declared.Check.the-variants as Variants
-
--- 1 for an edge not above the ceiling.
-abbrev pub oneIfNotAbove : ℕ → ℕ → ℕ
-oneIfNotAbove edge ceiling = cond (leb edge ceiling) 1 0
 
 -- No number of a list is above the limit.
 abbrev pub AllAtMost : ℕ → List ℕ → Type 0

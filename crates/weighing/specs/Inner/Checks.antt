@@ -1,20 +1,66 @@
 -- What the private functions between reading and weighing ask and give.
 use mathlib.Core.Path.{_≡_}
 use mathlib.Core.List.{List}
-use Prim.Native.Nat.{ℕ, _≤_, _<_}
-use lib.ListN.{length}
+use Prim.Native.Nat.{ℕ, _+_, _≤_, _<_}
+use lib.ListN.{length, getD, take}
 use Rattle.livelock.specs.Plants.{Plant}
-use Rattle.livelock.specs.Figures.{base, mostStates, perProgress}
 use Rattle.livelock.proofs.Graphs.{Graph}
-use Rattle.plant.specs.Tables.{plantOf, Ready}
+use Rattle.plant.specs.Tables.{plantOf, endFound, Ready}
 use Rattle.plant.specs.Limits.{WithinLimits}
-use Rattle.plant.specs.Found.{found}
+use Rattle.plant.specs.Found.{found, andThen}
+use Rattle.plant.specs.declared.End.{End}
 use Rattle.plant.specs.declared.PlantTable.{PlantTable}
-use Rattle.weighing.specs.Answers.{passed, answerOf}
-use Rattle.weighing.specs.Weighing.{checked, Owed}
-use Rattle.weighing.specs.Inner.Rounds.{AllBelowZero}
+use Rattle.weighing.specs.Answers.{answerOf, judgementOf}
+use Rattle.weighing.specs.Weighing.{checkedWeights, checkedRoom, Owed, OwedVerdict}
+use Rattle.weighing.specs.Inner.Edges.{Columns, columnsOf, Edges, Listed}
+use Rattle.weighing.specs.Inner.Rounds.{edgeGraph, AllBelowZero, SomeZeroOrMore}
 use Rattle.weighing.specs.Inner.Searches.{Written}
 use Rattle.weighing.specs.declared.Weighed.{Weighed}
+use Rattle.weighing.specs.declared.Verdict.{Verdict}
+
+-- For every plant with so many types: where reading ended, the checks 9 and 10 follow.
+abbrev pub WeightsChecked : ℕ → List ℕ → End → End → Type 0
+WeightsChecked types ws end r = (P : Plant) → P .types ≡ types → endFound r P ≡ andThen (endFound end P) (checkedWeights ws)
+
+-- For every plant: where no fault was found, check 11 follows.
+abbrev pub RoomChecked : ℕ → End → End → Type 0
+RoomChecked room end r = (P : Plant) → endFound r P ≡ andThen (endFound end P) (checkedRoom room)
+
+-- A machine's rows from `low` up to, and not including, `high`: at most 255, between so many states.
+pub record RowsBetween (c : Columns) (low high states : ℕ) : Type 0 where
+  pub in-table : high ≤ 1024
+  pub ordered : low ≤ high
+  pub few : high ≤ low + 255
+  pub left-in : (j : ℕ) → low ≤ j → j < high → getD (c .left) j 0 < states
+  pub entered-in : (j : ℕ) → low ≤ j → j < high → getD (c .entered) j 0 < states
+
+-- At most 16 machines, each with 1 to 64 states; machine m has the rows from first[m] up to, and not including, first[m + 1].
+pub record Machines (c : Columns) (first states : List ℕ) : Type 0 where
+  pub few : length states ≤ 16
+  pub some-state : (m : ℕ) → m < length states → 1 ≤ getD states m 0
+  pub few-states : (m : ℕ) → m < length states → getD states m 0 ≤ 64
+  pub rows : (m : ℕ) → m < length states → RowsBetween c (getD first m 0) (getD first (m + 1) 0) (getD states m 0)
+
+-- The edges as a graph.
+abbrev pub graphOf : Edges → Graph
+graphOf e = edgeGraph (e .count) (e .from) (e .to) (e .weight)
+
+-- The quiet rows from `low` up to, and not including, `high`, as edges: every cycle is below zero.
+pub record PassingRows (c : Columns) (ws : List ℕ) (low high : ℕ) : Type 0 where
+  pub edges : Edges
+  pub listed : Listed c ws low high edges
+  pub below-zero : AllBelowZero (graphOf edges)
+
+-- The edges e are the quiet rows from `low` up to, and not including, `high`, and some cycle is zero or more.
+pub record FailingRows (c : Columns) (ws : List ℕ) (low high : ℕ) (e : Edges) : Type 0 where
+  pub listed : Listed c ws low high e
+  pub zero-or-more : SomeZeroOrMore (graphOf e)
+
+-- The machines before machine m pass; machine m, if there is one, fails, and e are its edges.
+pub record FirstFailing (c : Columns) (first states ws : List ℕ) (m : ℕ) (e : Edges) : Type 0 where
+  pub within : m ≤ length states
+  pub before : (j : ℕ) → j < m → PassingRows c ws (getD first j 0) (getD first (j + 1) 0)
+  pub fails : m < length states → FailingRows c ws (getD first m 0) (getD first (m + 1) 0) e
 
 -- A table that `decode` made of a file without a fault, and one weight for each of its types.
 pub record Weighable (t : PlantTable) (ws : List ℕ) : Type 0 where
@@ -28,19 +74,16 @@ pub record ShownRows (g : Graph) (states : ℕ) (row : List ℕ) (k : ℕ) (befo
   pub few : k ≤ states
   pub written : Written g row k before after
 
--- What weighing the edges of one machine says: with 0 every cycle is below zero and the list is kept, else so many rows are shown.
-pub record EdgesWeighed (g : Graph) (states : ℕ) (row before after : List ℕ) (k : ℕ) : Type 0 where
-  pub passing : k ≡ 0 → AllBelowZero g × (after ≡ before)
-  pub failing : 0 < k → ShownRows g states row k before after
+-- These are the columns of a table, its machines' first rows and their counts of states.
+pub record Lent (t : PlantTable) (c : Columns) (first states : List ℕ) : Type 0 where
+  pub columns : columnsOf t ≡ c
+  pub first-rows : t .first ≡ first
+  pub counts : take (t .machines) (t .states) ≡ states
 
--- What is owed for the plant of a table, wherever its file ended.
-abbrev pub OwedFor : PlantTable → List ℕ → List ℕ → List ℕ → Weighed → Type 0
-OwedFor t ws before after r = (end : ℕ) → Owed ws before after (answerOf r) (found (plantOf t) end)
+-- What is owed for the plant of every table of which these are lent, wherever its file ended,
+abbrev pub OwedFor : Columns → List ℕ → List ℕ → List ℕ → List ℕ → List ℕ → Weighed → Type 0
+OwedFor c first states ws before after r = (t : PlantTable) → Weighable t ws → Lent t c first states → (end : ℕ) → Owed ws before after (answerOf r) (found (plantOf t) end)
 
--- The same, after the checks 9, 10 and 11.
-abbrev pub OwedChecked : PlantTable → List ℕ → List ℕ → List ℕ → Weighed → Type 0
-OwedChecked t ws before after r = (end : ℕ) → Owed ws before after (answerOf r) (checked ws (length before) (plantOf t) end)
-
--- The answer has the figures of every plant with these counts of states and a weight for each of its types.
-abbrev pub PassedFor : List ℕ → List ℕ → Weighed → Type 0
-PassedFor states ws r = (P : Plant) → P .states ≡ states → P .types ≡ length ws → answerOf r ≡ passed (base P ws) (mostStates P) (perProgress P ws)
+-- and what a verdict owes.
+abbrev pub OwedVerdictFor : Columns → List ℕ → List ℕ → List ℕ → Verdict → Type 0
+OwedVerdictFor c first states ws r = (t : PlantTable) → Weighable t ws → Lent t c first states → (end : ℕ) → OwedVerdict ws (judgementOf r) (found (plantOf t) end)

@@ -8,7 +8,6 @@ use lib.IntN.{ℤ, pos, _-ℤ_}
 use Rattle.livelock.proofs.CycleWeights.{messageWeight}
 use Rattle.plant.specs.Tables.{typeOf}
 use Rattle.plant.specs.declared.PlantTable.{PlantTable}
-use Rattle.weighing.specs.declared.edges.Edges.{Edges}
 
 -- "weight sent less weight taken", of a row with these entries in the columns of types.
 abbrev pub rowWeight : List ℕ → ℕ → ℕ → ℤ
@@ -38,18 +37,30 @@ pub record EdgeOf (t : Columns) (ws : List ℕ) (low high j a b : ℕ) (w : ℤ)
   pub entered : b ≡ getD (t .entered) j 0
   pub weighs : w ≡ rowWeight ws (getD (t .sent) j 0) (getD (t .taken) j 0)
 
+-- So many edges, and the lists that they stand in: edge i leads from state from[i] to state to[i], weighs weight[i] and is row row[i].
+pub record Edges : Type 0 where
+  pub count : ℕ
+  pub from : List ℕ
+  pub to : List ℕ
+  pub weight : List ℤ
+  pub row : List ℕ
+
 -- Row j is one of the edges.
 pub record Has (e : Edges) (j : ℕ) : Type 0 where
   pub place : ℕ
   pub within : place < e .count
   pub is : getD (e .row) place 0 ≡ j
 
+-- The four lists have room for 256 edges.
+pub record Room (from to : List ℕ) (weight : List ℤ) (row : List ℕ) : Type 0 where
+  pub from-room : length from ≡ 256
+  pub to-room : length to ≡ 256
+  pub weight-room : length weight ≡ 256
+  pub row-room : length row ≡ 256
+
 -- The edges are the quiet rows from `low` up to, and not including, `high`.
 pub record Listed (t : Columns) (ws : List ℕ) (low high : ℕ) (e : Edges) : Type 0 where
   pub few : e .count + low ≤ high
-  pub from-room : length (e .from) ≡ 256
-  pub to-room : length (e .to) ≡ 256
-  pub weight-room : length (e .weight) ≡ 256
-  pub row-room : length (e .row) ≡ 256
+  pub room : Room (e .from) (e .to) (e .weight) (e .row)
   pub each : (i : ℕ) → i < e .count → EdgeOf t ws low high (getD (e .row) i 0) (getD (e .from) i 0) (getD (e .to) i 0) (getD (e .weight) i (pos 0))
   pub every : (j : ℕ) → low ≤ j → j < high → getD (t .progress) j false ≡ false → Has e j

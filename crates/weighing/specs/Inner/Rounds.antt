@@ -1,12 +1,13 @@
--- Rounds of relaxation over an edge list, and what deciding says.
+-- Relaxation over an edge list, from table to table and in place, and what deciding says.
 use mathlib.Core.Path.{_≡_}
 use mathlib.Core.Bool.{Bool, true, false}
 use mathlib.Core.List.{List}
-use Prim.Native.Nat.{ℕ, _≤_, _<_}
-use lib.ListN.{getD}
-use lib.IntN.{ℤ, pos, _+ℤ_, _*ℤ_}
+use Prim.Native.Nat.{ℕ, _+_, _*_, _≤_, _<_}
+use lib.ListN.{length, getD}
+use lib.IntN.{ℤ, pos}
 use Rattle.livelock.specs.Lists.{below, sum, greatest}
 use Rattle.livelock.proofs.Graphs.{Graph, Cycle, via}
+use Rattle.livelock.proofs.Rounds.{WalkLength}
 use Rattle.weighing.specs.Inner.Signs.{rise, fall}
 
 -- The first `count` entries of the lists as a graph: edge e leads from `from` e to `to` e and is `length` e long.
@@ -39,13 +40,23 @@ Low table = (s : ℕ) → s < 64 → getD table s 0 ≤ 2199023255552
 abbrev pub Relaxed : Graph → List ℕ → List ℕ → Type 0
 Relaxed g old new = (s : ℕ) → s < 64 → getD new s 0 ≡ greatest (via g (λ x. getD old x 0) s) (below (g .size))
 
--- None of the first `count` weights is above 65,535 either way, as no difference of two 16-bit numbers is.
-abbrev pub Light : ℕ → List ℤ → Type 0
-Light count weight = (e : ℕ) → e < count → (rise (getD weight e (pos 0)) ≤ 65535) × (fall (getD weight e (pos 0)) ≤ 65535)
+-- No number of the table is above `most`.
+abbrev pub AtMost : ℕ → List ℕ → Type 0
+AtMost most table = (s : ℕ) → getD table s 0 ≤ most
 
--- "length 1 + n × weight", for the first `count` edges.
-abbrev pub Lengths : ℕ → ℕ → List ℤ → List ℤ → Type 0
-Lengths n count weight length = (e : ℕ) → e < count → getD length e (pos 0) ≡ pos 1 +ℤ pos n *ℤ getD weight e (pos 0)
+-- Each height is the length of some walk from its state.
+abbrev pub WalkLengths : Graph → List ℕ → Type 0
+WalkLengths g heights = (s : ℕ) → WalkLength g s (getD heights s 0)
+
+-- The first `count` edges, none longer than 2 ^ 22, were relaxed in place, one after the other; `changed` says whether a height was raised.
+pub record Pass (g : Graph) (count : ℕ) (before after : List ℕ) (changed : Bool) : Type 0 where
+  pub same-length : length after ≡ length before
+  pub never-lower : (s : ℕ) → getD before s 0 ≤ getD after s 0
+  pub along : (e : ℕ) → e < count → g .plus e + getD before (g .dst e) 0 ≤ getD after (g .src e) 0 + g .minus e
+  pub attained : WalkLengths g before → WalkLengths g after
+  pub rises : (most : ℕ) → AtMost most before → AtMost (most + count * 4194304) after
+  pub kept : changed ≡ false → after ≡ before
+  pub raised : changed ≡ true → (s : ℕ) × (getD before s 0 < getD after s 0)
 
 -- Every simple cycle of the edges is below zero.
 abbrev pub AllBelowZero : Graph → Type 0

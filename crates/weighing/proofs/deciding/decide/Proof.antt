@@ -1,56 +1,39 @@
--- `decide` meets its contract: after k rounds the heights are the greatest lengths of walks with at most k edges.
-use mathlib.Core.Path.{_≡_, refl, sym, _∙_}
-use mathlib.Core.Logic.{inl}
-use Prim.Native.Nat.{ℕ, _-_, _≤_, _<_}
+-- `decide` meets its contract: after k passes the heights are lengths of walks, and at least the greatest lengths with at most k edges.
+use Prim.Native.Nat.{_-_, _≤_}
 use native.Mathlib.Omega.{arith}
 use lib.ListN.{getD}
-use Rattle.livelock.proofs.Graphs.{longest}
-use Rattle.weighing.specs.Inner.Rounds.{edgeGraph, EdgesIn}
-use Rattle.weighing.proofs.DecisionLaws.{length-edges, all-below, some-cycle, Changed, heights-low, heights-first, heights-next, heights-settled, heights-changed, never-settled}
+use Rattle.livelock.proofs.Lengths.{lengthened}
+use Rattle.weighing.specs.Inner.Rounds.{edgeGraph}
+use Rattle.weighing.proofs.RoundLaws.{edges-within}
+use Rattle.weighing.proofs.DecisionLaws.{Heights, heights-first, heights-low, heights-next, heights-settled, heights-positive, all-below, some-cycle}
+use borrow.Author.Tests.{not-true, not-false}
 use borrow.Author.Needs.{needs}
 use Rattle.weighing.proofs.deciding.decide.Statement.{statement}
 use Rattle.weighing.proofs.deciding.decide.Tie as tie
 
 abbrev Inv-loop : tie.InvT-loop
-Inv-loop from to weight count states n lengths heights₀ k₀ heights k =
-    (k ≤ states) × ((s : ℕ) → s < 64 → getD heights s 0 ≡ longest (edgeGraph count from to lengths) k s) × Changed (edgeGraph count from to lengths) states k
+Inv-loop from to weight count states n heights₀ k₀ heights k = (k ≤ states) × Heights (lengthened n (edgeGraph count from to weight)) k heights
 
 abbrev μ-loop : tie.MeasureT-loop
-μ-loop from to weight count states n lengths heights₀ k₀ heights k = states - k
-
-row-lengths-requires : tie.Need-row-lengths-requires Inv-loop μ-loop
-row-lengths-requires c κs = let ok = c .pre .0 in (c .pre .2, ok .few, λ e l. (ok .rise-in e l, ok .fall-in e l))
-
--- The edges with their lengths.
-edges : (c : tie.After-row-lengths Inv-loop μ-loop)
-    → EdgesIn (c .before .args .states) (c .before .args .count) 4194304 (c .before .args .from .now) (c .before .args .to .now) (c .row-lengths .result)
-edges c =
-    let a = c .before .args in
-    let p = c .before .pre in
-    length-edges (a .n) (a .count) (a .states) (a .from .now) (a .to .now) (a .weight .now) (c .row-lengths .result) (p .0) (p .1) (p .2) (c .row-lengths .ensures)
+μ-loop from to weight count states n heights₀ k₀ heights k = states - k
 
 loop-holds : tie.Need-loop-holds Inv-loop μ-loop
-loop-holds c =
-    let a = c .before .args in
-    (search needs, heights-first (a .count) (a .states) (a .from .now) (a .to .now) (c .row-lengths .result) (edges c), inl refl)
+loop-holds c = (search needs, heights-first _)
 
-round-requires : tie.Need-round-requires Inv-loop μ-loop
-round-requires c κs =
-    let a = c .before .before .before .before .before .args in
-    let l = c .before .before .before .loop in
-    (edges (c .before .before .before .before), heights-low (a .count) (a .states) (a .from .now) (a .to .now) (c .before .before .before .before .row-lengths .result) (edges (c .before .before .before .before)) (l .heights) (l .k) (l .inv .0) (l .inv .1))
-
-agree-requires : tie.Need-agree-requires Inv-loop μ-loop
-agree-requires c κs = c .before .before .before .before .before .before .before .before .pre .0 .states-in
+relax-requires : tie.Need-relax-requires Inv-loop μ-loop
+relax-requires c κs =
+    let p = c .before .before .before .pre in
+    let l = c .before .before .loop in
+    (p .0, p .2, l .inv .1 .room, heights-low _ (l .k) (l .heights) (l .inv .1) (omega (arith, l .inv .0, p .0 .states-in)))
 
 returns : tie.Need-returns Inv-loop μ-loop
 returns c =
-    let a = c .before .before .before .before .before .before .before .before .before .before .args in
-    let p = c .before .before .before .before .before .before .before .before .before .before .pre in
-    let l = c .before .before .before .before .before .before .before .before .loop in
-    let lengths = c .before .before .before .before .before .before .before .before .before .row-lengths .result in
-    let settled = heights-settled (a .count) (a .states) (a .from .now) (a .to .now) lengths (edges (c .before .before .before .before .before .before .before .before .before)) (l .heights) (c .before .before .before .before .round .result) (l .k) (l .inv .1) (c .before .before .before .before .round .ensures) (sym (c .before .agree .ensures) ∙ c .if1 .taken) in
-    all-below (a .n) (a .count) (a .states) (a .from .now) (a .to .now) (a .weight .now) lengths (p .0) (p .1) (p .2) (c .before .before .before .before .before .before .before .before .before .row-lengths .ensures) (longest (edgeGraph (a .count) (a .from .now) (a .to .now) lengths) (l .k)) settled
+    let a = c .before .before .before .before .before .args in
+    let p = c .before .before .before .before .before .pre in
+    let g = edgeGraph (a .count) (a .from .now) (a .to .now) (a .weight .now) in
+    let inside = edges-within (a .count) (a .states) 65535 (a .from .now) (a .to .now) (a .weight .now) (p .0) in
+    let l = c .before .before .before .before .loop in
+    all-below (a .n) g (a .states) inside (p .1) (λ s. getD (l .heights) s 0) (heights-settled (lengthened (a .n) g) (l .k) (l .heights) (l .inv .1) _ _ (not-true _ (c .if1 .taken)) (c .before .relax .ensures))
 
 add-k : tie.Need-add-k Inv-loop μ-loop
 add-k c = search needs
@@ -60,22 +43,16 @@ loop-less c = search needs
 
 loop-again : tie.Need-loop-again Inv-loop μ-loop
 loop-again c =
-    let a = c .before .before .before .before .before .before .before .before .before .before .args in
-    let l = c .before .before .before .before .before .before .before .before .loop in
-    let lengths = c .before .before .before .before .before .before .before .before .before .row-lengths .result in (
-      search needs,
-      heights-next (a .count) (a .states) (a .from .now) (a .to .now) lengths (edges (c .before .before .before .before .before .before .before .before .before)) (l .heights) (c .before .before .before .before .round .result) (l .k) (l .inv .1) (c .before .before .before .before .round .ensures),
-      heights-changed (a .count) (a .states) (a .from .now) (a .to .now) lengths (edges (c .before .before .before .before .before .before .before .before .before)) (l .heights) (c .before .before .before .before .round .result) (l .k) (l .inv .1) (c .before .before .before .before .round .ensures) (sym (c .before .agree .ensures) ∙ c .if1 .left),
-    )
+    let l = c .before .before .before .before .loop in
+    (search needs, heights-next _ (l .k) (l .heights) (l .inv .1) _ _ (c .before .before .before .before .before .pre .0 .few) (not-false _ (c .if1 .left)) (c .before .relax .ensures))
 
 returns-2 : tie.Need-returns-2 Inv-loop μ-loop
 returns-2 c =
-    let a = c .before .before .before .args in
-    let p = c .before .before .before .pre in
+    let a = c .before .before .args in
+    let p = c .before .before .pre in
     let l = c .before .loop in
-    let lengths = c .before .before .row-lengths .result in
-    let longer = never-settled (a .count) (a .states) (a .from .now) (a .to .now) lengths (edges (c .before .before)) (l .k) (omega arith) (l .inv .2) in
-    some-cycle (a .n) (a .count) (a .states) (a .from .now) (a .to .now) (a .weight .now) lengths (p .0) (p .1) (p .2) (c .before .before .row-lengths .ensures) longer
+    let inside = edges-within (a .count) (a .states) 65535 (a .from .now) (a .to .now) (a .weight .now) (p .0) in
+    some-cycle (a .n) _ (a .states) inside (p .1) (heights-positive _ (l .k) (l .heights) (l .inv .1) (a .states) inside (p .0 .some-state) (omega (arith, l .inv .0, c .loop-test .left)))
 
 pub decide-spec : {M : Type 1} → statement M
 decide-spec =
@@ -83,10 +60,8 @@ decide-spec =
     (tie.spec
     Inv-loop
     μ-loop
-    row-lengths-requires
     loop-holds
-    round-requires
-    agree-requires
+    relax-requires
     returns
     add-k
     loop-less

@@ -1,25 +1,16 @@
 -- `raised` meets its contract: the sum fits 64 bits, and the greater number is taken.
 use mathlib.Core.Path.{_≡_, _∙_}
 use mathlib.Core.Bool.{true, false}
-use Prim.Native.Nat.{ℕ, _+_, _≤_}
+use Prim.Native.Nat.{_+_}
 use native.Mathlib.Omega.{arith}
 use lib.IntN.{ℤ, pos, _+ℤ_}
 use lib.Signed.{leZ}
 use mir.Syntax.{w64}
-use mir.Val.{SFits, toZ, ofZ}
 use mir.Facts.{toZ-pos, toZ-ofZ}
 use Rattle.weighing.specs.Inner.Signs.{rise, fall}
-use Rattle.weighing.proofs.SignLaws.{difference-fits, difference-at-most, difference-above, difference-natural, difference-sum-of}
+use Rattle.weighing.proofs.SignLaws.{difference-at-most, difference-above, difference-natural, difference-sum-of, along-fits, along-is}
 use Rattle.weighing.proofs.relaxing.raised.Statement.{statement}
 use Rattle.weighing.proofs.relaxing.raised.Tie as tie
-
--- The sum along an edge fits 64 bits, so the code's number is the sum itself.
-module _ (next : ℕ) (length : ℤ) (low : next ≤ 2199023255552) (up : rise length ≤ 4194304) (down : fall length ≤ 4194304) where
-  along-fits : SFits w64 (pos next +ℤ length)
-  along-fits = difference-fits (pos next +ℤ length) (rise length + next) (fall length) (difference-sum-of next length) (omega arith)
-
-  along-is : SFits w64 length → toZ w64 (ofZ w64 (toZ w64 next +ℤ toZ w64 (ofZ w64 length))) ≡ pos next +ℤ length
-  along-is fits = rw (toZ-pos w64 {n = next} (omega arith), toZ-ofZ fits) (toZ-ofZ along-fits)
 
 cast-along : tie.Need-cast-along
 cast-along c = record { sfits = omega (arith, c .pre .1) }
