@@ -5,7 +5,7 @@
 SHOWING = (
     'The search takes as many rounds as the peer\'s, but the rows of the cycle that it finds are written by computing the walks of fewer rows anew for each row: '
     'for the ten machines 28 rounds after the 49 of the search, for plant A 3 after 3. The peer keeps the tables of all rounds, 65 × 64 numbers. '
-    'Tables that are cleared and copied up to the machine\'s states only were tried, and were no faster; a table of the first row of each walk was not. What deciding takes comes on top.')
+    'Tables that are cleared and copied up to the machine\'s states only were tried, and were no faster; a table of the first row of each walk would save these rounds, and is not made yet. What deciding takes comes on top.')
 CAUSES = [
     ('read', 'Reading',
      'Nothing is stored, and on the largest file the call executes as many instructions as the peer, within a hundredth (callgrind).'),
