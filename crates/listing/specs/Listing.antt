@@ -53,5 +53,6 @@ pub record ListsCycles (file : List ℕ) (m used : ℕ) (after : List ℕ) : Typ
   pub used-are : used ≡ length (flattened cycles)
   pub front : take used after ≡ flattened cycles
 
+-- Where entries are handed back, this holds; `filled` says what a refusal leaves.
 abbrev pub Means : List ℕ → ℕ → Answer → List ℕ → Type 0
 Means file m a after = (used : ℕ) → a ≡ entries used → ListsCycles file m used after

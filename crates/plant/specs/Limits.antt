@@ -14,6 +14,7 @@ Ascending (r ∷ rs) = All (λ q. r .machine ≤ q .machine) rs × Ascending rs
 abbrev pub rowsOf : Plant → ℕ → ℕ
 rowsOf p m = count (λ r. eqb (r .machine) m) (p .rows)
 
+-- A well-formed plant that keeps to the limits of the plant file.
 pub record WithinLimits (p : Plant) : Type 0 where
   pub formed : WellFormed p
   -- "the count of machines, 1 to 16"

@@ -57,6 +57,7 @@ quotedFor base states progress ws contents g (fault number place) = refused numb
 quotedFor base states progress ws contents g (found P end) =
     quoted (base + states * weightOfContents ws contents + progress * g) (classOf (base + states * weightOfContents ws contents + progress * g))
 
+-- The answer is what is said, after the checks 20, 21 and 22, of every plant with a type for each weight.
 abbrev pub OwedChecked : Bool → ℕ → ℕ → ℕ → List ℕ → List ℕ → ℕ → Answer → Type 0
 OwedChecked passes base states progress ws contents g a =
     (P : Plant) (end : ℕ) → P .types ≡ length ws → a ≡ quotedFor base states progress ws contents g (checkedPassing contents g passes P end)

@@ -25,6 +25,7 @@ pub record Columns : Type 0 where
   pub taken : List ℕ
   pub progress : List Bool
 
+-- Those columns of a table.
 abbrev pub columnsOf : PlantTable → Columns
 columnsOf t = record { left = t .left; entered = t .entered; sent = t .sent; taken = t .taken; progress = t .progress }
 
