@@ -116,7 +116,7 @@ module _ (g : Graph) (i : ℕ) (before now : List ℕ) (changed : Bool) (so-far 
         }
 
 -- The same for an edge list, with the length 1 + n × weight.
-module _ (n count states : ℕ) (from to : List ℕ) (weight : List ℤ) (ok : EdgesIn states count 65535 from to weight) (most : n ≤ 64) (i : ℕ) (there : i < count)
+module _ (n count states : ℕ) (from to : List ℕ) (weight : List ℤ) (ok : EdgesIn states count from to weight) (most : n ≤ 64) (i : ℕ) (there : i < count)
     (before now : List ℕ) (changed : Bool) (so-far : Pass (lengthened n (edgeGraph count from to weight)) i before now changed) where
   abbrev g : Graph
   g = lengthened n (edgeGraph count from to weight)

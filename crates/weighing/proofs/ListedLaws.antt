@@ -183,7 +183,7 @@ module _ (t : Columns) (ws : List ℕ) (light : (i : ℕ) → getD ws i 0 ≤ 65
       rw (h .each i l .weighs) (omega (arith, fall-at-most (pos a -ℤ pos b) a b (difference-minus a b), message-light ws light (typeOf (getD (t .taken) (getD (e .row) i 0) 0))))
 
   -- The edges lead between the states that the rows do, and none weighs more than 65,535 either way.
-  pub edges-in : (states : ℕ) → 1 ≤ states → states ≤ 64 → RowsBetween t low high states → EdgesIn states (e .count) 65535 (e .from) (e .to) (e .weight)
+  pub edges-in : (states : ℕ) → 1 ≤ states → states ≤ 64 → RowsBetween t low high states → EdgesIn states (e .count) (e .from) (e .to) (e .weight)
   edges-in states least few rows =
       record {
         some-state = least;

@@ -1,64 +1,186 @@
--- Laws of the rounds of relaxation over an edge list.
-use mathlib.Core.Path.{_≡_, refl, sym, subst}
+-- Laws of one round of the search: from the walks of k edges to those of k + 1, edge after edge.
+use mathlib.Core.Path.{_≡_, refl, sym, ap, _∙_}
+use mathlib.Core.Logic.{_≢_, inl, inr}
+use mathlib.Core.Bool.{true, false}
 use mathlib.Core.List.{List}
-use Prim.Native.Nat.{ℕ, _+_, _-_, _≤_, _<_, max}
+use Prim.Native.Nat.{ℕ, _+_, _-_, _*_, _≤_, _<_, max}
 use native.Mathlib.Decide.{ℕ-discrete}
 use native.Mathlib.Numerals.{add-one}
 use native.Mathlib.Omega.{arith}
-use lib.ListN.{length, getD, set, replicate, getD-replicate}
+use lib.Dec.{ltb}
+use lib.ListN.{length, length-set, getD, set}
 use lib.Seq.{getD-set-same, getD-set-other}
 use lib.IntN.{ℤ, pos}
-use borrow.Author.Tests.{eq-eqb, ne-eqb}
+use borrow.Author.Tests.{eq-eqb, ne-eqb, ltb-true, ltb-false}
 use Rattle.livelock.specs.Lists.{below, greatest}
 use Rattle.livelock.proofs.ListLaws.{all-below}
 use Rattle.livelock.proofs.SumLaws.{greatest-next, greatest-bound}
-use Rattle.livelock.proofs.Graphs.{Graph, Within, via, via-bound}
+use Rattle.livelock.proofs.Graphs.{Graph, Within, via, via-edge, via-bound}
 use Rattle.weighing.specs.Inner.Signs.{rise, fall}
 use Rattle.weighing.specs.Inner.Rounds.{edgeGraph, EdgesIn}
+use Rattle.weighing.specs.Inner.Searches.{Halves, entry, Low, Zeros, Cleared, Round}
+
+-- Every edge of the list leads from one of the states to one of them.
+pub edges-within : (count states : ℕ) (from to : List ℕ) (weight : List ℤ) → EdgesIn states count from to weight → Within (edgeGraph count from to weight) states
+edges-within count states from to weight ok e u = (ok .from-in e (u .0), ok .to-in e (u .0))
+
+-- ---- the two tables
+
+-- The two tables have no place in common,
+pub halves-apart : {old new : ℕ} → Halves old new → (s t : ℕ) → s < 64 → t < 64 → old + s ≢ new + t
+halves-apart (inl h) s t x y e = omega (arith, h .0, h .1)
+halves-apart (inr h) s t x y e = omega (arith, h .0, h .1)
+
+-- each ends within the list,
+pub halves-in : {old new : ℕ} → Halves old new → (old ≤ 64) × (new ≤ 64)
+halves-in (inl h) = (omega (arith, h .0), omega (arith, h .1))
+halves-in (inr h) = (omega (arith, h .0), omega (arith, h .1))
+
+-- and after a round they change places.
+pub halves-swap : (old : ℕ) → Halves old (64 - old) → Halves (64 - old) (64 - (64 - old))
+halves-swap old (inl h) = inr (h .1, omega (arith, h .1))
+halves-swap old (inr h) = inl (h .1, omega (arith, h .1))
+
+-- ---- clearing a table
+
+-- The first i numbers of the table that begins at `at` are cleared.
+module _ {i at : ℕ} {before after : List ℕ} (h : Cleared i at before after) (room : length before ≡ 128) (low : at ≤ 64) (few : i < 64) where
+  -- One more.
+  pub cleared-next : Cleared (i + 1) at before (set after (at + i) 0)
+  cleared-next =
+      record {
+        same-length = length-set after (at + i) 0 ∙ h .same-length;
+        zeros = λ s l. go s l (ℕ-discrete s i);
+        kept-below = λ j l. getD-set-other after (at + i) j 0 0 (λ e. omega arith) ∙ h .kept-below j l;
+        kept-above = λ j l. getD-set-other after (at + i) j 0 0 (λ e. omega arith) ∙ h .kept-above j l;
+      }
+    where
+      go : (s : ℕ) → s < i + 1 → Dec (s ≡ i) → entry (set after (at + i) 0) at s ≡ 0
+      go s l (yes e) = rw e (getD-set-same after (at + i) 0 0 (omega (arith, h .same-length)))
+      go s l (no e) = getD-set-other after (at + i) (at + s) 0 0 (λ q. e (omega arith)) ∙ h .zeros s (omega arith)
+
+-- None yet.
+pub cleared-none : (at : ℕ) (before : List ℕ) → Cleared 0 at before before
+cleared-none at before = record { same-length = refl; zeros = λ s l. absurd (omega arith); kept-below = λ j l. refl; kept-above = λ j l. refl }
+
+-- Clearing one table keeps the other.
+pub cleared-other : {states old new : ℕ} {before after : List ℕ} → Halves old new → Cleared states new before after
+    → (s : ℕ) → s < 64 → entry after old s ≡ entry before old s
+cleared-other {states} {old} {new} (inl e) h s l = h .kept-below (old + s) (omega (arith, e .0, e .1))
+cleared-other {states} {old} {new} (inr e) h s l = h .kept-above (old + s) (omega (arith, e .0, e .1))
 
 -- ---- one round
 
-module _ (count states most : ℕ) (from to : List ℕ) (lengths : List ℤ) (ok : EdgesIn states count most from to lengths) where
+module _ (count states : ℕ) (from to : List ℕ) (weight : List ℤ) (ok : EdgesIn states count from to weight)
+    {old new : ℕ} (halves : Halves old new) (k : ℕ) (before edges-before : List ℕ) where
   abbrev g : Graph
-  g = edgeGraph count from to lengths
+  g = edgeGraph count from to weight
 
-  -- Every edge of the list leads from one of the states to one of them.
-  pub edges-within : Within (edgeGraph count from to lengths) states
-  edges-within e u = (ok .from-in e (u .0), ok .to-in e (u .0))
+  -- With no edge gone along yet.
+  pub round-starts : Zeros states new before → Round (edgeGraph count from to weight) 0 states old new k before before edges-before edges-before
+  unfolding greatest below
+  round-starts zeros =
+      record {
+        same-length = refl;
+        same-edges = refl;
+        old-kept = λ s l. refl;
+        relaxed = λ s l. zeros s l;
+        noted-in = λ s l m. absurd (omega (arith, zeros s l));
+        attained = λ s l m. absurd (omega (arith, zeros s l));
+        edges-kept = λ j l. refl;
+      }
 
-  module _ (f : ℕ → ℕ) where
-    -- Before the first edge every entry is 0.
-    pub round-starts : (s : ℕ) → s < 64 → getD (replicate 64 0) s 0 ≡ greatest (via (edgeGraph count from to lengths) f s) (below 0)
-    unfolding greatest below
-    round-starts s h = getD-replicate 64 s 0 0 h
+  module _ {i : ℕ} {after edges : List ℕ} (r : Round (edgeGraph count from to weight) i states old new k before after edges-before edges) (there : i < count) where
+    -- The state that edge i leaves, and the weight along it and on.
+    abbrev a : ℕ
+    a = getD from i 0
 
-    -- No entry is above 2 ^ 42, since none that the round starts from is above 2 ^ 41.
-    pub round-low : most ≤ 4194304 → ((s : ℕ) → s < 64 → f s ≤ 2199023255552) → (new : List ℕ) (i s : ℕ) → i ≤ count
-        → getD new s 0 ≡ greatest (via (edgeGraph count from to lengths) f s) (below i) → getD new s 0 ≤ 4398046511104
-    round-low small low new i s few e =
-        rw e
-        (greatest-bound (via (edgeGraph count from to lengths) f s) 4398046511104 (below i) (all-below _ i (λ k l. via-bound (edgeGraph count from to lengths) f s k 4398046511104 (λ c. let here : k < count = omega (arith, l) in omega (arith, ok .rise-in k here, low (getD to k 0) (omega (arith, ok .to-in k here, ok .states-in)))))))
+    abbrev along : ℕ
+    along = (rise (getD weight i (pos 0)) + entry after old (getD to i 0)) - fall (getD weight i (pos 0))
 
-    -- After the last edge.
-    pub round-ends : (new : List ℕ) (i : ℕ) → i ≡ count → ((s : ℕ) → s < 64 → getD new s 0 ≡ greatest (via (edgeGraph count from to lengths) f s) (below i))
-        → (s : ℕ) → s < 64 → getD new s 0 ≡ greatest (via (edgeGraph count from to lengths) f s) (below count)
-    round-ends new i e h s l = subst (λ (x : ℕ). getD new s 0 ≡ greatest (via (edgeGraph count from to lengths) f s) (below x)) e (h s l)
+    -- No number is above 2 ^ 42, since none of the old table is above 2 ^ 41.
+    pub round-low : Low states old before → (s : ℕ) → s < states → entry after new s ≤ 4398046511104
+    round-low low s l =
+        rw (r .relaxed s l)
+        (greatest-bound (via g (entry before old) s) 4398046511104 (below i) (all-below _ i (λ e x. via-bound g (entry before old) s e 4398046511104 (λ c. let here : e < count = omega (arith, x) in omega (arith, ok .rise-in e here, low (getD to e 0) (ok .to-in e here))))))
 
-    -- One edge more: the entry of the state that it leaves is raised, and the others stay.
-    module _ (new : List ℕ) (i v : ℕ) (room : length new ≡ 64)
-        (so-far : (s : ℕ) → s < 64 → getD new s 0 ≡ greatest (via (edgeGraph count from to lengths) f s) (below i)) (there : i < count)
-        (is-raised : v ≡ max (getD new (getD from i 0) 0) ((rise (getD lengths i (pos 0)) + f (getD to i 0)) - fall (getD lengths i (pos 0)))) where
-      low : getD from i 0 < 64
-      low = omega (arith, ok .from-in i there, ok .states-in)
+    -- Edge i from the state that it leaves,
+    via-here : via g (entry before old) a i ≡ along
+    via-here =
+        via-edge g (entry before old) a i refl refl
+        ∙ ap (λ (x : ℕ). (rise (getD weight i (pos 0)) + x) - fall (getD weight i (pos 0))) (sym (r .old-kept (getD to i 0) (ok .to-in i there)))
 
-      -- So each entry is the greatest length over the edges up to this one.
-      pub round-goes-on : (s : ℕ) → s < 64 → getD (set new (getD from i 0) v) s 0 ≡ greatest (via (edgeGraph count from to lengths) f s) (below (i + 1))
-      unfolding via
-      round-goes-on s h = rw (add-one i, greatest-next (via (edgeGraph count from to lengths) f s) i) (go (ℕ-discrete s (getD from i 0)))
+    -- and from another.
+    via-elsewhere : (s : ℕ) → s ≢ a → via g (entry before old) s i ≡ 0
+    unfolding via
+    via-elsewhere s q = rw (ne-eqb a s (λ p. q (sym p)))
+
+    more : (s : ℕ) → greatest (via g (entry before old) s) (below (i + 1)) ≡ max (greatest (via g (entry before old) s) (below i)) (via g (entry before old) s i)
+    more s = rw (add-one i) (greatest-next (via g (entry before old) s) i)
+
+    -- The edge does not lead to more,
+    pub edge-keeps : ltb (entry after new (getD from i 0)) ((rise (getD weight i (pos 0)) + entry after old (getD to i 0)) - fall (getD weight i (pos 0))) ≡ false
+        → Round (edgeGraph count from to weight) (i + 1) states old new k before after edges-before edges
+    edge-keeps test =
+        record {
+          same-length = r .same-length;
+          same-edges = r .same-edges;
+          old-kept = r .old-kept;
+          relaxed = λ s l. go s l (ℕ-discrete s a);
+          noted-in = λ s l m. omega (arith, r .noted-in s l m);
+          attained = r .attained;
+          edges-kept = r .edges-kept;
+        }
+      where
+        go : (s : ℕ) → s < states → Dec (s ≡ a) → entry after new s ≡ greatest (via g (entry before old) s) (below (i + 1))
+        go s l (yes e) = rw e (omega (arith, r .relaxed a (ok .from-in i there), more a, via-here, ltb-false (entry after new a) along test))
+        go s l (no e) = omega (arith, r .relaxed s l, more s, via-elsewhere s e)
+
+    -- or it does, and is noted.
+    module _ (v : ℕ) (is-raised : v ≡ max (entry after new (getD from i 0)) ((rise (getD weight i (pos 0)) + entry after old (getD to i 0)) - fall (getD weight i (pos 0))))
+        (test : ltb (entry after new (getD from i 0)) ((rise (getD weight i (pos 0)) + entry after old (getD to i 0)) - fall (getD weight i (pos 0))) ≡ true)
+        (room : length before ≡ 128) (edge-room : length edges-before ≡ 4096) (few : k < 64) where
+      abbrev walks : List ℕ
+      walks = set after (new + a) v
+
+      abbrev noted : List ℕ
+      noted = set edges (k * 64 + a) i
+
+      a-in : a < states
+      a-in = ok .from-in i there
+
+      at-a : entry walks new a ≡ along
+      at-a = getD-set-same after (new + a) v 0 (omega (arith, r .same-length, a-in, ok .states-in, halves-in halves .1)) ∙ omega (arith, is-raised, ltb-true (entry after new a) along test)
+
+      edge-at-a : entry noted (k * 64) a ≡ i
+      edge-at-a = getD-set-same edges (k * 64 + a) i 0 (omega (arith, r .same-edges, a-in, ok .states-in))
+
+      elsewhere : (s : ℕ) → s ≢ a → entry walks new s ≡ entry after new s
+      elsewhere s e = getD-set-other after (new + a) (new + s) v 0 (λ q. e (omega arith))
+
+      edge-elsewhere : (s : ℕ) → s ≢ a → entry noted (k * 64) s ≡ entry edges (k * 64) s
+      edge-elsewhere s e = getD-set-other edges (k * 64 + a) (k * 64 + s) i 0 (λ q. e (omega arith))
+
+      pub edge-raises : Round (edgeGraph count from to weight) (i + 1) states old new k before (set after (new + getD from i 0) v) edges-before (set edges (k * 64 + getD from i 0) i)
+      edge-raises =
+          record {
+            same-length = length-set after (new + a) v ∙ r .same-length;
+            same-edges = length-set edges (k * 64 + a) i ∙ r .same-edges;
+            old-kept = λ s l. getD-set-other after (new + a) (old + s) v 0 (halves-apart halves s a (omega (arith, ok .states-in)) (omega (arith, a-in, ok .states-in))) ∙ r .old-kept s l;
+            relaxed = λ s l. relaxed-at s l (ℕ-discrete s a);
+            noted-in = λ s l m. noted-at s l m (ℕ-discrete s a);
+            attained = λ s l m. attained-at s l m (ℕ-discrete s a);
+            edges-kept = λ j l. getD-set-other edges (k * 64 + a) j i 0 (λ q. omega arith) ∙ r .edges-kept j l;
+          }
         where
-          go : Dec (s ≡ getD from i 0) → getD (set new (getD from i 0) v) s 0 ≡ max (greatest (via (edgeGraph count from to lengths) f s) (below i)) (via (edgeGraph count from to lengths) f s i)
-          go (yes q) =
-              rw
-              (q, eq-eqb (getD from i 0) (getD from i 0) refl, getD-set-same new (getD from i 0) v 0 (omega (arith, low)))
-              (omega (arith, is-raised, so-far (getD from i 0) low))
-          go (no q) = rw (ne-eqb (getD from i 0) s (λ p. q (sym p)), getD-set-other new (getD from i 0) s v 0 q) (omega (arith, so-far s h))
+          relaxed-at : (s : ℕ) → s < states → Dec (s ≡ a) → entry walks new s ≡ greatest (via g (entry before old) s) (below (i + 1))
+          relaxed-at s l (yes e) = rw e (omega (arith, at-a, r .relaxed a a-in, more a, via-here, ltb-true (entry after new a) along test))
+          relaxed-at s l (no e) = omega (arith, elsewhere s e, r .relaxed s l, more s, via-elsewhere s e)
+
+          noted-at : (s : ℕ) → s < states → 0 < entry walks new s → Dec (s ≡ a) → entry noted (k * 64) s < i + 1
+          noted-at s l m (yes e) = rw e (omega (arith, edge-at-a))
+          noted-at s l m (no e) = omega (arith, edge-elsewhere s e, r .noted-in s l (omega (arith, elsewhere s e)))
+
+          attained-at : (s : ℕ) → s < states → 0 < entry walks new s → Dec (s ≡ a) → entry walks new s ≡ via g (entry before old) s (entry noted (k * 64) s)
+          attained-at s l m (yes e) = rw (e, edge-at-a) (at-a ∙ sym via-here)
+          attained-at s l m (no e) = rw (edge-elsewhere s e) (elsewhere s e ∙ r .attained s l (omega (arith, elsewhere s e)))

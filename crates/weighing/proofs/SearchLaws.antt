@@ -4,7 +4,7 @@ use mathlib.Core.Logic.{_≢_, _↔_, _⊎_, inl, inr}
 use mathlib.Core.Bool.{Bool, true, false, cond}
 use mathlib.Core.List.{List, [], _∷_, _++_, map, map-append, append-assoc}
 use Prim.Native.Nat.{ℕ, zero, suc, _+_, _-_, _*_, _≤_, _<_}
-use native.Mathlib.Nat.{not-suc-le-zero}
+use native.Mathlib.Nat.{not-suc-le-zero, zero-add}
 use native.Mathlib.Decide.{ℕ-discrete, decLe, decLt}
 use native.Mathlib.Numerals.{add-one}
 use native.Mathlib.Omega.{arith}
@@ -26,9 +26,9 @@ use Rattle.livelock.proofs.Pigeonhole.{left-once}
 use Rattle.livelock.proofs.Walks.{visited, walk-append, HasCycle, distinct-or-cycle}
 use Rattle.livelock.proofs.Graphs.{Graph, IsEdge, Within, Cycle, via, via-edge, Leads, via-leads, via-bound}
 use Rattle.livelock.proofs.Rounds.{via-equal}
-use Rattle.weighing.specs.Inner.Rounds.{edgeGraph, EdgesIn, Low, Relaxed, SomeZeroOrMore}
-use Rattle.weighing.specs.Inner.Searches.{origin, heaviest, Closes, Exactly, LeastFrom, Least, FirstEdge, Written}
-use Rattle.weighing.proofs.RoundLaws.{edges-within}
+use Rattle.weighing.specs.Inner.Rounds.{edgeGraph, EdgesIn, SomeZeroOrMore}
+use Rattle.weighing.specs.Inner.Searches.{origin, heaviest, Closes, Halves, entry, Low, Cleared, Round, Exactly, FirstEdge, FirstEdges, LeastFrom, Noted, Least, Written}
+use Rattle.weighing.proofs.RoundLaws.{edges-within, halves-swap, cleared-other}
 
 -- What the search asks of a graph: at most 64 states, and no edge that weighs more than 65,535.
 pub record Searchable (g : Graph) (states : ℕ) : Type 0 where
@@ -36,25 +36,11 @@ pub record Searchable (g : Graph) (states : ℕ) : Type 0 where
   pub states-in : states ≤ 64
   pub light : (e : ℕ) → IsEdge g e → g .plus e ≤ 65535
 
--- An edge list makes such a graph,
-pub edges-searchable : {count states : ℕ} {from to : List ℕ} {weight : List ℤ} → EdgesIn states count 65535 from to weight
+-- An edge list makes such a graph.
+pub edges-searchable : {count states : ℕ} {from to : List ℕ} {weight : List ℤ} → EdgesIn states count from to weight
     → Searchable (edgeGraph count from to weight) states
 edges-searchable {count} {states} {from} {to} {weight} ok =
-    record { within = edges-within count states 65535 from to weight ok; states-in = ok .states-in; light = λ e u. ok .rise-in e (u .0) }
-
--- and a round takes the edge list: there the edges may be longer.
-pub edges-longer : {count states : ℕ} {from to : List ℕ} {weight : List ℤ} → EdgesIn states count 65535 from to weight
-    → EdgesIn states count 4194304 from to weight
-edges-longer ok =
-    record {
-      some-state = ok .some-state;
-      states-in = ok .states-in;
-      few = ok .few;
-      from-in = ok .from-in;
-      to-in = ok .to-in;
-      rise-in = λ e l. omega (arith, ok .rise-in e l);
-      fall-in = λ e l. omega (arith, ok .fall-in e l);
-    }
+    record { within = edges-within count states from to weight ok; states-in = ok .states-in; light = λ e u. ok .rise-in e (u .0) }
 
 -- A closed walk of edges, from the state a back to it, that weighs zero or more.
 pub record ClosedWalk (g : Graph) (a : ℕ) (es : List ℕ) : Type 0 where
@@ -264,55 +250,131 @@ shortest-is-cycle g a (e ∷ es) l w none = record { non-empty = l; edges = w .e
 -- ---- rounds
 
 -- The walks without edges.
-pub exactly-none : (g : Graph) (start : ℕ) → start < 64 → Exactly g start 0 (set (replicate 64 0) start origin)
+exactly-none : (g : Graph) (states start : ℕ) → states ≤ 64 → start < states → Exactly g states start 0 0 (set (replicate 128 0) start origin)
 unfolding heaviest
-exactly-none g start h s l = go (ℕ-discrete s start)
+exactly-none g states start few h s l = go (ℕ-discrete s start)
   where
     zeros : List ℕ
-    zeros = replicate 64 0
+    zeros = replicate 128 0
 
-    go : Dec (s ≡ start) → getD (set zeros start origin) s 0 ≡ cond (eqb s start) origin 0
-    go (yes q) = rw (eq-eqb s start q, q) (getD-set-same zeros start origin 0 h)
-    go (no q) = rw (ne-eqb s start q) (getD-set-other zeros start s origin 0 q ∙ getD-replicate 64 s 0 0 l)
+    go : Dec (s ≡ start) → getD (set zeros start origin) (0 + s) 0 ≡ cond (eqb s start) origin 0
+    go (yes q) = rw (eq-eqb s start q, q, zero-add start) (getD-set-same zeros start origin 0 (omega arith))
+    go (no q) = rw (ne-eqb s start q, zero-add s) (getD-set-other zeros start s origin 0 q ∙ getD-replicate 128 s 0 0 (omega arith))
 
--- The end of an edge has an entry in a table.
-end-inside : {g : Graph} {states : ℕ} → Searchable g states → (e : ℕ) → IsEdge g e → g .dst e < 64
-end-inside ok e u = omega (arith, ok .within e u .1, ok .states-in)
+-- There is room for one edge more.
+exactly-low : {g : Graph} {states : ℕ} → Searchable g states → (start k at : ℕ) (walks : List ℕ) → Exactly g states start k at walks → k ≤ 64
+    → Low states at walks
+exactly-low {g} ok start k at walks exact few s l = omega (arith, exact s l, heaviest-bound g start (ok .light) k s)
 
-module _ {g : Graph} {states : ℕ} (ok : Searchable g states) (start k : ℕ) (table : List ℕ) (exact : Exactly g start k table) where
+module _ {g : Graph} {states k old new : ℕ} {before after edges-before edges : List ℕ} (ok : Searchable g states) (start : ℕ) (exact : Exactly g states start k old before)
+    (r : Round g (g .size) states old new k before after edges-before edges) where
   -- One edge, and on as far as the table says: only its entries for the states matter.
-  one-edge-more : (s : ℕ) → greatest (via g (λ x. getD table x 0) s) (below (g .size)) ≡ heaviest g start (suc k) s
-  unfolding heaviest
-  one-edge-more s =
-      greatest-equal
-      (via g (λ x. getD table x 0) s)
-      (via g (heaviest g start k) s)
-      (below (g .size))
-      (all-below _ (g .size) (λ e l. via-equal g (λ x. getD table x 0) (heaviest g start k) s e (λ c. exact (g .dst e) (end-inside ok e (l, c)))))
+  along-equal : (s e : ℕ) → e < g .size → via g (entry before old) s e ≡ via g (heaviest g start k) s e
+  along-equal s e l = via-equal g (entry before old) (heaviest g start k) s e (λ c. exact (g .dst e) (ok .within e (l, c) .1))
 
   -- A round leads from the walks of k edges to those of k + 1,
-  pub exactly-next : (next : List ℕ) → Relaxed g table next → Exactly g start (k + 1) next
-  exactly-next next r s l = rw (add-one k) (r s l ∙ one-edge-more s)
+  exactly-suc : Exactly g states start (suc k) new after
+  unfolding heaviest
+  exactly-suc s l =
+      r .relaxed s l ∙ greatest-equal (via g (entry before old) s) (via g (heaviest g start k) s) (below (g .size)) (all-below _ (g .size) (along-equal s))
 
-  -- and there is room for it.
-  pub exactly-low : k ≤ 64 → Low table
-  exactly-low few s l = omega (arith, exact s l, heaviest-bound g start (ok .light) k s)
+  exactly-next : Exactly g states start (k + 1) new after
+  exactly-next = rw (add-one k) exactly-suc
+
+  -- and notes their first edges.
+  noted-here : (s : ℕ) → s < states → 0 < heaviest g start (suc k) s → FirstEdge g start k s (entry edges (k * 64) s)
+  noted-here s l m = go (via-leads g (heaviest g start k) s e)
+    where
+      e : ℕ
+      e = entry edges (k * 64) s
+
+      some : 0 < entry after new s
+      some = omega (arith, exactly-suc s l)
+
+      e-in : e < g .size
+      e-in = r .noted-in s l some
+
+      worth : heaviest g start (suc k) s ≡ via g (heaviest g start k) s e
+      worth = sym (exactly-suc s l) ∙ r .attained s l some ∙ along-equal s e e-in
+
+      go : (via g (heaviest g start k) s e ≡ 0) ⊎ Leads g (heaviest g start k) s e (via g (heaviest g start k) s e) → FirstEdge g start k s e
+      go (inl z) = absurd (omega (arith, worth))
+      go (inr d) = record { there = (e-in, d .counted); leaves = d .from; worth = omega (arith, worth, d .long) }
+
+  first-edges-next : FirstEdges g states start k edges-before → FirstEdges g states start (k + 1) edges
+  first-edges-next h j s x l m = go (ℕ-discrete j k)
+    where
+      go : Dec (j ≡ k) → FirstEdge g start j s (entry edges (j * 64) s)
+      go (yes e) = rw e (noted-here s l (rw e at m))
+      go (no e) = rw (r .edges-kept (j * 64 + s) (omega (arith, ok .states-in))) (h j s (omega arith) l m)
+
+-- After k rounds from `start` the table at `old` has the walks of exactly k edges, and the first edges of the walks of 1 to k edges are noted.
+pub record Searched (g : Graph) (states start k old : ℕ) (walks noted : List ℕ) : Type 0 where
+  pub halves : Halves old (64 - old)
+  pub room : length walks ≡ 128
+  pub edge-room : length noted ≡ 4096
+  pub exact : Exactly g states start k old walks
+  pub first-edges : FirstEdges g states start k noted
+
+-- Before the first round.
+pub searched-first : (g : Graph) (states start : ℕ) (noted : List ℕ) → states ≤ 64 → start < states → length noted ≡ 4096
+    → Searched g states start 0 0 (set (replicate 128 0) start origin) noted
+searched-first g states start noted few h room =
+    record {
+      halves = inl (refl, refl);
+      room = length-set (replicate 128 0) start origin;
+      edge-room = room;
+      exact = exactly-none g states start few h;
+      first-edges = λ j s x l m. absurd (not-suc-le-zero x);
+    }
+
+module _ {g : Graph} {states start k old : ℕ} {walks noted cleared : List ℕ} (ok : Searchable g states) (h : Searched g states start k old walks noted)
+    (c : Cleared states (64 - old) walks cleared) where
+  -- The table for the next round is cleared, and the walks of k edges are kept,
+  exact-kept : Exactly g states start k old cleared
+  exact-kept s l = cleared-other (h .halves) c s (omega (arith, ok .states-in)) ∙ h .exact s l
+
+  -- with room for one edge more.
+  pub searched-low : k ≤ 64 → Low states old cleared
+  searched-low = exactly-low ok start k old cleared exact-kept
+
+  module _ {after edges : List ℕ} (r : Round g (g .size) states old (64 - old) k cleared after noted edges) where
+    -- One round more.
+    pub searched-next : Searched g states start (k + 1) (64 - old) after edges
+    searched-next =
+        record {
+          halves = halves-swap old (h .halves);
+          room = r .same-length ∙ c .same-length ∙ h .room;
+          edge-room = r .same-edges ∙ h .edge-room;
+          exact = exactly-next ok start exact-kept r;
+          first-edges = first-edges-next ok start exact-kept r (h .first-edges);
+        }
+
+-- A walk of the table is worth no more than a round takes.
+pub searched-worth : {g : Graph} {states start k old : ℕ} {walks noted : List ℕ} → Searchable g states → Searched g states start k old walks noted
+    → start < states → k ≤ 64 → entry walks old start ≤ 2199023255552
+searched-worth {start = start} {k = k} {old = old} {walks = walks} ok h l few = exactly-low ok start k old walks (h .exact) few start l
 
 -- ---- the sign of a walk's weight
 
--- The code's signed number z is the weight of a walk worth `value`.
-module _ (z : ℤ) (fits : SFits w64 z) (value : ℕ) (is-weight : z ≡ pos value -ℤ pos origin) where
-  is-difference : Difference (toZ w64 (ofZ w64 z)) value origin
-  is-difference = rw (toZ-ofZ fits, is-weight) (difference-minus value origin)
+-- The code's signed number z is the weight of the heaviest closed walk of k edges from the start.
+module _ {g : Graph} {states start k old : ℕ} {walks noted : List ℕ} (h : Searched g states start k old walks noted) (l : start < states)
+    (z : ℤ) (fits : SFits w64 z) (is-weight : z ≡ pos (entry walks old start) -ℤ pos origin) where
+  is-difference : Difference (toZ w64 (ofZ w64 z)) (entry walks old start) origin
+  is-difference = rw (toZ-ofZ fits, is-weight) (difference-minus (entry walks old start) origin)
 
   -- It is zero or more,
-  pub worth-origin : leZ (pos 0) (toZ w64 (ofZ w64 z)) ≡ true → origin ≤ value
-  worth-origin h = not-negative-iff (toZ w64 (ofZ w64 z)) value origin is-difference .0 (leZ-yes (rw h tt))
+  pub closed-zero-or-more : leZ (pos 0) (toZ w64 (ofZ w64 z)) ≡ true → Closes g start k
+  closed-zero-or-more test =
+      omega (arith, h .exact start l, not-negative-iff (toZ w64 (ofZ w64 z)) (entry walks old start) origin is-difference .0 (leZ-yes (rw test tt)))
 
   -- or below zero.
-  pub worth-less : leZ (pos 0) (toZ w64 (ofZ w64 z)) ≡ false → value < origin
-  worth-less h =
-      elim (decLt value origin) [ yes less ↦ less | no enough ↦ absurd (rw h at (not-negative-iff (toZ w64 (ofZ w64 z)) value origin is-difference .1 (omega arith) .le)) ]
+  pub closed-below-zero : leZ (pos 0) (toZ w64 (ofZ w64 z)) ≡ false → heaviest g start k start < origin
+  closed-below-zero test =
+      elim (decLt (entry walks old start) origin) [
+        | yes less ↦ omega (arith, h .exact start l)
+        | no enough ↦ absurd (rw test at (not-negative-iff (toZ w64 (ofZ w64 z)) (entry walks old start) origin is-difference .1 (omega arith) .le))
+      ]
 
 -- ---- the least number of edges from one start
 
@@ -420,61 +482,25 @@ sought-all {g} {states} {start} {k} ok some e h = go (decLe k states)
         (omega (arith, cycle-few))
         cycle-closes)
 
--- ---- the first edge of a heaviest walk
-
--- Of the edges from i on, one is the first of a walk from s worth `value`.
-abbrev pub Ahead : Graph → List ℕ → ℕ → ℕ → ℕ → Type 0
-Ahead g table s value i = (e : ℕ) × (i ≤ e) × FirstEdge g table s value e
-
-module _ (g : Graph) (table : List ℕ) (s value : ℕ) (some : 0 < value) where
-  -- How far it is from the end of an edge.
-  abbrev on : ℕ → ℕ
-  on x = getD table x 0
-
-  -- The greatest value, if it is not 0, is that of some edge.
-  pub some-ahead : value ≡ greatest (via g (λ x. getD table x 0) s) (below (g .size)) → Ahead g table s value 0
-  some-ahead q = go (greatest-attained (λ e. e < g .size) (via g on s) (below (g .size)) (all-below _ (g .size) (λ e l. l)))
-    where
-      along : (e : ℕ) → e < g .size → greatest (via g on s) (below (g .size)) ≡ via g on s e → (via g on s e ≡ 0) ⊎ Leads g on s e (via g on s e)
-          → Ahead g table s value 0
-      along e l p (inl z) = absurd (omega arith)
-      along e l p (inr d) = (e, omega arith, record { there = (l, d .counted); leaves = d .from; worth = omega (arith, d .long) })
-
-      go : (greatest (via g on s) (below (g .size)) ≡ 0) ⊎ ((e : ℕ) × (e < g .size) × (greatest (via g on s) (below (g .size)) ≡ via g on s e))
-          → Ahead g table s value 0
-      go (inl z) = absurd (omega arith)
-      go (inr x) = along (x .0) (x .1) (x .2) (via-leads g on s (x .0))
-
-  module _ (i : ℕ) where
-    -- Edge i leaves s and is worth the value,
-    pub this-edge : IsEdge g i → g .src i ≡ s → (g .plus i + getD table (g .dst i) 0) - g .minus i ≡ value → FirstEdge g table s value i
-    this-edge u p q = record { there = u; leaves = p; worth = omega arith }
-
-    -- or it does not, or is not, and the edge is farther ahead,
-    pub not-this : (g .src i ≡ s → (g .plus i + getD table (g .dst i) 0) - g .minus i ≡ value → ⊥) → Ahead g table s value i → Ahead g table s value (i + 1)
-    not-this other x = go (ℕ-discrete i (x .0))
-      where
-        go : Dec (i ≡ x .0) → Ahead g table s value (i + 1)
-        go (yes e) =
-            absurd (other (ap (g .src) e ∙ x .2 .leaves) (omega (arith, x .2 .worth, ap (g .plus) e, ap (g .minus) e, ap (λ (y : ℕ). getD table (g .dst y) 0) e)))
-        go (no e) = (x .0, omega (arith, x .1), x .2)
-
-    -- and never behind the last.
-    pub still-ahead : g .size ≤ i → Ahead g table s value i → ⊥
-    still-ahead h x = omega (arith, x .1, x .2 .there .0)
+-- A search from the start that was found, up to the length that was found, finds this length again.
+pub least-again : {g : Graph} {states start k r : ℕ} → Least g states start k → LeastFrom g start k r → r ≡ k
+least-again {g} {states} {start} {k} {r} h f = go (decLt k r)
+  where
+    go : Dec (k < r) → r ≡ k
+    go (yes l) = absurd (f .least k (h .some-edge) l (h .closes))
+    go (no l) = elim (decLt r k) [ yes m ↦ absurd (h .least start r (h .start-in) (f .some-edge) m (f .closes (omega arith))) | no m ↦ omega arith ]
 
 -- ---- the walk that is written
 
--- The first i edges of a walk from the start are written. They lead to s, and with a walk worth `value`, the heaviest of the k − i edges
--- from s back to the start, they weigh zero or more.
-pub record Walking (g : Graph) (row : List ℕ) (start k : ℕ) (before : List ℕ) (s value i : ℕ) (after : List ℕ) : Type 0 where
+-- The first i edges of a walk from the start are written. They lead to s, and with a heaviest walk of the k − i edges from s back to the start
+-- they weigh zero or more.
+pub record Walking (g : Graph) (row : List ℕ) (start k : ℕ) (before : List ℕ) (s i : ℕ) (after : List ℕ) : Type 0 where
   pub within : i ≤ k
   pub walk : List ℕ
   pub long : length walk ≡ i
   pub edges : All (IsEdge g) walk
   pub joined : Walk (g .src) (g .dst) start walk s
-  pub here : value ≡ heaviest g start (k - i) s
-  pub weighs : origin + sum (g .minus) walk ≤ value + sum (g .plus) walk
+  pub weighs : origin + sum (g .minus) walk ≤ heaviest g start (k - i) s + sum (g .plus) walk
   pub written : after ≡ map (λ e. getD row e 0) walk ++ drop i before
   pub kept : length after ≡ length before
 
@@ -484,70 +510,82 @@ unfolding sum All
 sum-light ok [] u = omega arith
 sum-light ok (e ∷ es) u = omega (arith, ok .light e (u .0), sum-light ok es (u .1))
 
+-- A walk from one of the states ends in one of them.
+walk-end-in : {g : Graph} {states : ℕ} → Searchable g states
+    → (a t : ℕ) (es : List ℕ) → a < states → All (IsEdge g) es → Walk (g .src) (g .dst) a es t → t < states
+unfolding All Walk
+walk-end-in {states = states} ok a t [] l u w = subst (λ (x : ℕ). x < states) w l
+walk-end-in ok a t (e ∷ es) l u w = walk-end-in ok _ t es (ok .within e (u .0) .1) (u .1) (w .1)
+
 module _ {g : Graph} {states start k : ℕ} (ok : Searchable g states) (least : Least g states start k) where
   -- Nothing is written yet.
-  pub walk-begins : (row before : List ℕ) (value : ℕ) → value ≡ heaviest g start k start → Walking g row start k before start value 0 before
+  pub walk-begins : (row before : List ℕ) → Walking g row start k before start 0 before
   unfolding All Walk sum
-  walk-begins row before value q =
+  walk-begins row before =
+      let z : k - 0 ≡ k = omega arith in
       record {
         within = omega arith;
         walk = [];
         long = refl;
         edges = tt;
         joined = refl;
-        here = let z : k - 0 ≡ k = omega arith in rw z q;
-        weighs = omega (arith, least .closes);
+        weighs = rw z (omega (arith, least .closes));
         written = refl;
         kept = refl;
       }
 
-  module _ {row before : List ℕ} {s value i : ℕ} {after : List ℕ} (w : Walking g row start k before s value i after) where
-    -- The value is that of a walk,
-    pub walk-alive : 0 < value
+  module _ {row before : List ℕ} {s i : ℕ} {after : List ℕ} (w : Walking g row start k before s i after) where
+    -- There is a walk on from s,
+    walk-alive : 0 < heaviest g start (k - i) s
     walk-alive = omega (arith, w .weighs, sum-light ok (w .walk) (w .edges), w .long, w .within, least .few, ok .states-in)
 
-    module _ (l : i < k) (table : List ℕ) (exact : Exactly g start (k - i - 1) table) where
-      -- so it is that of some edge and on.
-      pub walk-leads : value ≡ greatest (via g (λ x. getD table x 0) s) (below (g .size))
-      walk-leads =
+    -- s is one of the states,
+    pub walk-in : s < states
+    walk-in = walk-end-in ok start s (w .walk) (least .start-in) (w .edges) (w .joined)
+
+    -- and the first edge of the walk on is noted.
+    pub walk-leads : {limit : ℕ} {noted : List ℕ} → i < k → Noted g states start limit k noted → k ≤ limit
+        → FirstEdge g start (k - i - 1) s (entry noted ((k - i - 1) * 64) s)
+    walk-leads l n few =
+        let q : k - i ≡ suc (k - i - 1) = omega arith in
+        n .first-edges few (k - i - 1) s (omega arith) walk-in (rw q at walk-alive)
+
+    module _ (l : i < k) (room : 64 ≤ length before) (e : ℕ) (h : FirstEdge g start (k - i - 1) s e) where
+      abbrev shown : List ℕ → List ℕ
+      shown es = map (λ x. getD row x 0) es
+
+      written-next : set after i (getD row e 0) ≡ shown (w .walk ++ (e ∷ [])) ++ drop (i + 1) before
+      written-next =
+          ap
+          (λ (x : List ℕ). set x i (getD row e 0))
+          (w .written ∙ ap (λ (x : List ℕ). shown (w .walk) ++ x) (drop-cons before i 0 (omega (arith, least .few, ok .states-in))))
+          ∙ set-at
+          (shown (w .walk))
+          (getD before i 0)
+          (drop (suc i) before)
+          (getD row e 0)
+          i
+          (length-map (w .walk) (λ x. getD row x 0) ∙ w .long)
+          ∙ sym (append-assoc (shown (w .walk)) (getD row e 0 ∷ []) (drop (suc i) before))
+          ∙ rw (add-one i, map-append (λ x. getD row x 0) (w .walk) (e ∷ []))
+
+      -- One edge more.
+      pub walk-goes-on : Walking g row start k before (g .dst e) (i + 1) (set after i (getD row e 0))
+      unfolding All Walk sum
+      walk-goes-on =
+          let z : k - (i + 1) ≡ k - i - 1 = omega arith in
           let q : k - i ≡ suc (k - i - 1) = omega arith in
-          (rw q at (w .here)) ∙ sym (one-edge-more ok start (k - i - 1) table exact s)
-
-      module _ (room : 64 ≤ length before) (e : ℕ) (h : FirstEdge g table s value e) where
-        abbrev shown : List ℕ → List ℕ
-        shown es = map (λ x. getD row x 0) es
-
-        written-next : set after i (getD row e 0) ≡ shown (w .walk ++ (e ∷ [])) ++ drop (i + 1) before
-        written-next =
-            ap
-            (λ (x : List ℕ). set x i (getD row e 0))
-            (w .written ∙ ap (λ (x : List ℕ). shown (w .walk) ++ x) (drop-cons before i 0 (omega (arith, least .few, ok .states-in))))
-            ∙ set-at
-            (shown (w .walk))
-            (getD before i 0)
-            (drop (suc i) before)
-            (getD row e 0)
-            i
-            (length-map (w .walk) (λ x. getD row x 0) ∙ w .long)
-            ∙ sym (append-assoc (shown (w .walk)) (getD row e 0 ∷ []) (drop (suc i) before))
-            ∙ rw (add-one i, map-append (λ x. getD row x 0) (w .walk) (e ∷ []))
-
-        -- One edge more.
-        pub walk-goes-on : Walking g row start k before (g .dst e) (getD table (g .dst e) 0) (i + 1) (set after i (getD row e 0))
-        unfolding All Walk sum
-        walk-goes-on =
-            let z : k - (i + 1) ≡ k - i - 1 = omega arith in
-            record {
-              within = omega arith;
-              walk = w .walk ++ (e ∷ []);
-              long = rw length-append (omega (arith, w .long));
-              edges = all-append (IsEdge g) (w .walk) (e ∷ []) (w .edges) (h .there, tt);
-              joined = walk-append (g .src) (g .dst) start s (g .dst e) (w .walk) (e ∷ []) (w .joined) (h .leaves, refl);
-              here = rw z (exact (g .dst e) (end-inside ok e (h .there)));
-              weighs = omega (arith, w .weighs, h .worth, sum-append (g .plus) (w .walk) (e ∷ []), sum-append (g .minus) (w .walk) (e ∷ []));
-              written = written-next;
-              kept = rw length-set (w .kept);
-            }
+          let weighs = rw q at (w .weighs) in
+          record {
+            within = omega arith;
+            walk = w .walk ++ (e ∷ []);
+            long = rw length-append (omega (arith, w .long));
+            edges = all-append (IsEdge g) (w .walk) (e ∷ []) (w .edges) (h .there, tt);
+            joined = walk-append (g .src) (g .dst) start s (g .dst e) (w .walk) (e ∷ []) (w .joined) (h .leaves, refl);
+            weighs = rw z (omega (arith, weighs, h .worth, sum-append (g .plus) (w .walk) (e ∷ []), sum-append (g .minus) (w .walk) (e ∷ [])));
+            written = written-next;
+            kept = rw length-set (w .kept);
+          }
 
     none-shorter : i ≡ k → NoneShorter g (length (w .walk))
     none-shorter all a es x y c =
@@ -567,12 +605,12 @@ module _ {g : Graph} {states start k : ℕ} (ok : Searchable g states) (least : 
 
         go : (b : Bool) → eqb s start ≡ b → Written g row k before after
         go true t =
-            let v : value ≡ origin = rw (z, t) at (w .here) in
+            let weighs = rw (z, t) at (w .weighs) in
             let closed : ClosedWalk g start (w .walk) =
             record {
               edges = w .edges;
               closed = subst (Walk (g .src) (g .dst) start (w .walk)) (eqb-true s start t) (w .joined);
-              weighs = omega (arith, w .weighs);
+              weighs = omega (arith, weighs);
             } in
             record {
               cycle = w .walk;
@@ -581,4 +619,4 @@ module _ {g : Graph} {states start k : ℕ} (ok : Searchable g states) (least : 
               weighs = closed .weighs;
               shown = rw (← all) (w .written);
             }
-        go false t = let v : value ≡ 0 = rw (z, t) at (w .here) in absurd (omega (arith, walk-alive))
+        go false t = absurd (omega (arith, rw (z, t) at walk-alive))

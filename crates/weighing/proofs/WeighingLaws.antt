@@ -101,9 +101,9 @@ module _ (c : Columns) (first states ws : List ℕ) (given : Machines c first st
     turn-listed = subst (λ (x : ℕ). Listed c ws x (getD first (m + 1) 0) e) low-is (subst (λ (y : ℕ). Listed c ws low y e) high-is listed)
 
     -- They are within the limits.
-    pub turn-edges : ((i : ℕ) → getD ws i 0 ≤ 65535) → (n : ℕ) → n ≡ getD states m 0 → EdgesIn n (e .count) 65535 (e .from) (e .to) (e .weight)
+    pub turn-edges : ((i : ℕ) → getD ws i 0 ≤ 65535) → (n : ℕ) → n ≡ getD states m 0 → EdgesIn n (e .count) (e .from) (e .to) (e .weight)
     turn-edges light n n-is =
-        subst (λ (s : ℕ). EdgesIn s (e .count) 65535 (e .from) (e .to) (e .weight)) (sym n-is)
+        subst (λ (s : ℕ). EdgesIn s (e .count) (e .from) (e .to) (e .weight)) (sym n-is)
         (edges-in c ws light (getD first m 0) (getD first (m + 1) 0) e turn-listed (getD states m 0) (given .some-state m within) (given .few-states m within) (given .rows m within))
 
     -- The machine passes if every cycle is below zero,
@@ -124,7 +124,7 @@ turn-states c first states given m within s n s-is n-is = (
 
 -- Where machine m fails, there is a cycle for the search to find.
 pub search-begins : (c : Columns) (first states ws : List ℕ) → Machines c first states → (m : ℕ) (e : Edges) → FirstFailing c first states ws m e → m < length states
-    → ((i : ℕ) → getD ws i 0 ≤ 65535) → (s : ℕ) → s ≡ getD states m 0 → EdgesIn s (e .count) 65535 (e .from) (e .to) (e .weight) × SomeZeroOrMore (graphOf e)
+    → ((i : ℕ) → getD ws i 0 ≤ 65535) → (s : ℕ) → s ≡ getD states m 0 → EdgesIn s (e .count) (e .from) (e .to) (e .weight) × SomeZeroOrMore (graphOf e)
 search-begins c first states ws given m e failing within light s s-is =
     let x = failing .fails within in
     (turn-edges c first states ws given m within _ _ refl refl e (x .listed) light s s-is, x .zero-or-more)

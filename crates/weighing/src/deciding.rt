@@ -1,14 +1,14 @@
 // Whether every simple cycle of an edge list weighs below zero: relaxation in place (Bellman and Ford) with lengths 1 + n × weight.
 ghost use mathlib.Core.Path.{_≡_};
-ghost use Prim.Native.Nat.{_+_, _-_, _≤_, _<_};
+ghost use Prim.Native.Nat.{_≤_};
 ghost use lib.ListN.{length};
-ghost use lib.Dec.{ltb};
 ghost use lib.IntN.{pos, _+ℤ_, _*ℤ_};
 ghost use Rattle.livelock.proofs.Lengths.{lengthened};
 ghost use Rattle.weighing.specs.Inner.Signs.{rise, fall};
 ghost use Rattle.weighing.specs.Inner.Rounds.{edgeGraph, EdgesIn, AtMost, Pass, Decided};
 use crate::casts::wide;
 use crate::relaxing::raised;
+use crate::relaxing::rises;
 
 // The length of a row: of a cycle of at most n rows it is above zero exactly when the cycle weighs zero or more.
 fn row_length(n: u64, weight: i64) -> i64
@@ -16,14 +16,6 @@ fn row_length(n: u64, weight: i64) -> i64
     ensures { λ r. ⌜ r ≡ pos 1 +ℤ pos n *ℤ weight ⌝ }
 {
     1 + n as i64 * weight
-}
-
-// Whether the length along an edge and `next` on from its end is above `at`.
-fn rises(at: u64, next: u64, length: i64) -> bool
-    requires { ⌜ (at ≤ 4398046511104) × (next ≤ 2199023255552) × (rise length ≤ 4194304) × (fall length ≤ 4194304) ⌝ }
-    ensures { λ r. ⌜ r ≡ ltb at ((rise length + next) - fall length) ⌝ }
-{
-    next as i64 + length > at as i64
 }
 
 // One pass over the edges, in place; whether a height was raised. The height of a is read first: read just before the test, the compiler would store it
@@ -37,7 +29,7 @@ fn relax(
     n: u64,
     heights: &mut [u64; 64],
 ) -> bool
-    requires { ⌜ EdgesIn states count 65535 (now from) (now to) (now weight) × (n ≤ 64) × (length (now heights) ≡ 64) × AtMost 68719476736 (now heights) ⌝ }
+    requires { ⌜ EdgesIn states count (now from) (now to) (now weight) × (n ≤ 64) × (length (now heights) ≡ 64) × AtMost 68719476736 (now heights) ⌝ }
     ensures { λ r. ⌜ Pass (lengthened n (edgeGraph count (now (from .entry)) (now (to .entry)) (now (weight .entry)))) count (now (heights .entry)) (now (heights .exit)) r ⌝ }
 {
     let mut changed = false;
@@ -66,7 +58,7 @@ pub fn decide(
     states: usize,
     n: u64,
 ) -> bool
-    requires { ⌜ EdgesIn states count 65535 (now from) (now to) (now weight) × (states ≤ n) × (n ≤ 64) ⌝ }
+    requires { ⌜ EdgesIn states count (now from) (now to) (now weight) × (states ≤ n) × (n ≤ 64) ⌝ }
     ensures { λ r. ⌜ Decided (edgeGraph count (now (from .entry)) (now (to .entry)) (now (weight .entry))) r ⌝ }
 {
     let mut heights = [0; 64];

@@ -1,30 +1,21 @@
 // A quiet cycle to show: the closed walk with the fewest edges that weighs zero or more.
+//
+// `walks` has two tables, from 0 and from 64 on: for each state, the greatest weight of a walk of exactly k edges to the start, and of k + 1 edges.
+// `noted` has, from 64 × k on, the first edge of a heaviest walk of k + 1 edges from each state, so that the walk found can be written without a search.
 ghost use mathlib.Core.Path.{_≡_};
 ghost use Prim.Native.Nat.{_≤_, _<_};
-ghost use lib.ListN.{length, getD, set, replicate};
+ghost use lib.ListN.{length};
 ghost use lib.IntN.{pos, _-ℤ_};
 ghost use lib.Signed.{leZ};
-ghost use Rattle.livelock.specs.Lists.{below, greatest};
-ghost use Rattle.livelock.proofs.Graphs.{via};
-ghost use Rattle.weighing.specs.Inner.Rounds.{edgeGraph, EdgesIn, Low, SomeZeroOrMore};
-ghost use Rattle.weighing.specs.Inner.Searches.{origin, Exactly, LeastFrom, Least, FirstEdge, Written};
+ghost use Rattle.weighing.specs.Inner.Rounds.{edgeGraph, EdgesIn, SomeZeroOrMore};
+ghost use Rattle.weighing.specs.Inner.Searches.{origin, Halves, Low, Zeros, Cleared, Round, Noted, LeastFrom, Least};
 ghost use Rattle.weighing.specs.Inner.Checks.{ShownRows};
 use crate::casts::wide;
 use crate::relaxing::raised;
-use crate::relaxing::round;
+use crate::relaxing::rises;
 
 // The number that stands for the weight 0 in a table of walks; 0 stands for no walk.
 const ORIGIN: u64 = 1099511627776;
-
-// The walks without edges.
-fn at_start(start: usize) -> [u64; 64]
-    requires { ⌜ start < 64 ⌝ }
-    ensures { λ r. ⌜ r ≡ set (replicate 64 0) start origin ⌝ }
-{
-    let mut table = [0; 64];
-    table[start] = ORIGIN;
-    table
-}
 
 // The weight of a walk of the table.
 fn walk_weight(value: u64) -> i64
@@ -41,27 +32,49 @@ fn zero_or_more(weight: i64) -> bool
     weight >= 0
 }
 
-// The walks of exactly k edges to the start.
-fn exact_walks(
+// Stores 0 for each state in the table that begins at `at`.
+fn clear(walks: &mut [u64; 128], at: usize, states: usize)
+    requires { ⌜ (length (now walks) ≡ 128) × (at ≤ 64) × (states ≤ 64) ⌝ }
+    ensures { λ r. ⌜ Cleared states at (now (walks .entry)) (now (walks .exit)) ⌝ }
+{
+    let mut s = 0;
+    while s < states {
+        walks[at + s] = 0;
+        s += 1;
+    }
+}
+
+// One edge, and on as far as the table at `old` says, from each state, into the table at `new`; the edge is noted in the first edges from 64 × k on.
+// The number of a is read first: read just before the test, the compiler would store it at every edge, raised or not.
+fn round(
     from: &[u8; 256],
     to: &[u8; 256],
     weight: &[i64; 256],
     count: usize,
     states: usize,
-    start: usize,
+    walks: &mut [u64; 128],
+    old: usize,
+    new: usize,
+    noted: &mut [u8; 4096],
     k: usize,
-) -> [u64; 64]
-    requires { ⌜ EdgesIn states count 65535 (now from) (now to) (now weight) × (start < states) × (k ≤ 64) ⌝ }
-    ensures { λ r. ⌜ Exactly (edgeGraph count (now (from .entry)) (now (to .entry)) (now (weight .entry))) start k r ⌝ }
+)
+    requires { ⌜ EdgesIn states count (now from) (now to) (now weight) × Halves old new × Low states old (now walks) × Zeros states new (now walks) × (k < 64) × (length (now walks) ≡ 128) × (length (now noted) ≡ 4096) ⌝ }
+    ensures { λ r. ⌜ Round (edgeGraph count (now (from .entry)) (now (to .entry)) (now (weight .entry))) count states old new k (now (walks .entry)) (now (walks .exit)) (now (noted .entry)) (now (noted .exit)) ⌝ }
 {
-    let mut table = at_start(start);
     let mut i = 0;
-    while i < k {
-        let next = round(from, to, weight, count, states, &table);
-        table = next;
+    while i < count {
+        let a = wide(from[i]);
+        let at = new + a;
+        let here = walks[at];
+        let b = wide(to[i]);
+        let next = walks[old + b];
+        let w = weight[i];
+        if rises(here, next, w) {
+            walks[at] = raised(here, next, w);
+            noted[k * 64 + a] = i as u8;
+        }
         i += 1;
     }
-    table
 }
 
 // The least number of edges up to `limit` with which a closed walk from the start weighs zero or more, or one more than the limit.
@@ -73,17 +86,34 @@ fn least_from(
     states: usize,
     start: usize,
     limit: usize,
+    noted: &mut [u8; 4096],
 ) -> usize
-    requires { ⌜ EdgesIn states count 65535 (now from) (now to) (now weight) × (start < states) × (limit ≤ 64) ⌝ }
+    requires { ⌜ EdgesIn states count (now from) (now to) (now weight) × (start < states) × (limit ≤ 64) × (length (now noted) ≡ 4096) ⌝ }
     ensures { λ r. ⌜ LeastFrom (edgeGraph count (now (from .entry)) (now (to .entry)) (now (weight .entry))) start limit r ⌝ }
+    ensures { λ r. ⌜ Noted (edgeGraph count (now (from .entry)) (now (to .entry)) (now (weight .entry))) states start limit r (now (noted .exit)) ⌝ }
 {
-    let mut table = at_start(start);
+    let mut walks = [0; 128];
+    walks[start] = ORIGIN;
+    let mut old = 0;
     let mut k = 0;
     while k < limit {
-        let next = round(from, to, weight, count, states, &table);
-        table = next;
+        let new = 64 - old;
+        clear(&mut walks, new, states);
+        round(
+            from,
+            to,
+            weight,
+            count,
+            states,
+            &mut walks,
+            old,
+            new,
+            noted,
+            k,
+        );
+        old = new;
         k += 1;
-        let closed = walk_weight(table[start]);
+        let closed = walk_weight(walks[old + start]);
         if zero_or_more(closed) {
             return k;
         }
@@ -97,21 +127,23 @@ pub struct Start {
 }
 
 // Where such a walk with the fewest edges begins, and how many it has.
-pub fn least(
+fn least(
     from: &[u8; 256],
     to: &[u8; 256],
     weight: &[i64; 256],
     count: usize,
     states: usize,
+    noted: &mut [u8; 4096],
 ) -> Start
-    requires { ⌜ EdgesIn states count 65535 (now from) (now to) (now weight) × SomeZeroOrMore (edgeGraph count (now from) (now to) (now weight)) ⌝ }
+    requires { ⌜ EdgesIn states count (now from) (now to) (now weight) × SomeZeroOrMore (edgeGraph count (now from) (now to) (now weight)) × (length (now noted) ≡ 4096) ⌝ }
     ensures { λ r. ⌜ Least (edgeGraph count (now (from .entry)) (now (to .entry)) (now (weight .entry))) states (r .start) (r .length) ⌝ }
+    ensures { λ r. ⌜ length (now (noted .exit)) ≡ 4096 ⌝ }
 {
     let mut start = 0;
     let mut length = states + 1;
     let mut s = 0;
     while s < states {
-        let k = least_from(from, to, weight, count, states, s, length - 1);
+        let k = least_from(from, to, weight, count, states, s, length - 1, noted);
         if k < length {
             start = s;
         }
@@ -121,63 +153,8 @@ pub fn least(
     Start { start, length }
 }
 
-// An edge from s that a walk worth `value` begins with, where the table has the walks with one edge less.
-fn first_edge(
-    from: &[u8; 256],
-    to: &[u8; 256],
-    weight: &[i64; 256],
-    count: usize,
-    states: usize,
-    s: usize,
-    value: u64,
-    table: [u64; 64],
-) -> usize
-    requires { ⌜ EdgesIn states count 65535 (now from) (now to) (now weight) × Low table × (0 < value) × (value ≡ greatest (via (edgeGraph count (now from) (now to) (now weight)) (λ x. getD table x 0) s) (below count)) ⌝ }
-    ensures { λ r. ⌜ FirstEdge (edgeGraph count (now (from .entry)) (now (to .entry)) (now (weight .entry))) table s value r ⌝ }
-{
-    let mut e = 0;
-    while e < count {
-        let a = wide(from[e]);
-        let b = wide(to[e]);
-        let along = raised(0, table[b], weight[e]);
-        if a == s && along == value {
-            return e;
-        }
-        e += 1;
-    }
-    count
-}
-
-// Writes the rows of a closed walk of k edges from the start to the front of the list, in running order.
-pub fn write_cycle(
-    from: &[u8; 256],
-    to: &[u8; 256],
-    weight: &[i64; 256],
-    row: &[u16; 256],
-    count: usize,
-    states: usize,
-    start: usize,
-    k: usize,
-    cycle: &mut [u16],
-)
-    requires { ⌜ EdgesIn states count 65535 (now from) (now to) (now weight) × Least (edgeGraph count (now from) (now to) (now weight)) states start k × (64 ≤ length (now cycle)) ⌝ }
-    ensures { λ r. ⌜ Written (edgeGraph count (now (from .entry)) (now (to .entry)) (now (weight .entry))) (now (row .entry)) k (now (cycle .entry)) (now (cycle .exit)) ⌝ }
-{
-    let whole = exact_walks(from, to, weight, count, states, start, k);
-    let mut value = whole[start];
-    let mut s = start;
-    let mut i = 0;
-    while i < k {
-        let table = exact_walks(from, to, weight, count, states, start, k - i - 1);
-        let e = first_edge(from, to, weight, count, states, s, value, table);
-        cycle[i] = row[e];
-        s = wide(to[e]);
-        value = table[s];
-        i += 1;
-    }
-}
-
-// Finds a cycle with the fewest edges and writes its rows; hands back how many they are.
+// Finds a cycle with the fewest edges and writes its rows to the front of the list, in running order; hands back how many they are.
+// The rounds from its start are made once more, for later starts have overwritten the first edges.
 pub fn show(
     from: &[u8; 256],
     to: &[u8; 256],
@@ -187,12 +164,29 @@ pub fn show(
     states: usize,
     cycle: &mut [u16],
 ) -> usize
-    requires { ⌜ EdgesIn states count 65535 (now from) (now to) (now weight) × SomeZeroOrMore (edgeGraph count (now from) (now to) (now weight)) × (64 ≤ length (now cycle)) ⌝ }
+    requires { ⌜ EdgesIn states count (now from) (now to) (now weight) × SomeZeroOrMore (edgeGraph count (now from) (now to) (now weight)) × (64 ≤ length (now cycle)) ⌝ }
     ensures { λ r. ⌜ ShownRows (edgeGraph count (now (from .entry)) (now (to .entry)) (now (weight .entry))) states (now (row .entry)) r (now (cycle .entry)) (now (cycle .exit)) ⌝ }
 {
-    let found = least(from, to, weight, count, states);
+    let mut noted = [0; 4096];
+    let found = least(from, to, weight, count, states, &mut noted);
     let start = found.start;
-    let k = found.length;
-    write_cycle(from, to, weight, row, count, states, start, k, cycle);
+    let k = least_from(
+        from,
+        to,
+        weight,
+        count,
+        states,
+        start,
+        found.length,
+        &mut noted,
+    );
+    let mut s = start;
+    let mut i = 0;
+    while i < k {
+        let e = wide(noted[(k - i - 1) * 64 + s]);
+        cycle[i] = row[e];
+        s = wide(to[e]);
+        i += 1;
+    }
     k
 }

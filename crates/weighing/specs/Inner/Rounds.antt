@@ -22,23 +22,15 @@ edgeGraph count from to length =
       minus = λ e. fall (getD length e (pos 0));
     }
 
--- So many edges between so many states, none longer than `most` either way.
-pub record EdgesIn (states count most : ℕ) (from to : List ℕ) (length : List ℤ) : Type 0 where
+-- So many edges between so many states, none of which weighs more than 65,535 either way.
+pub record EdgesIn (states count : ℕ) (from to : List ℕ) (weight : List ℤ) : Type 0 where
   pub some-state : 1 ≤ states
   pub states-in : states ≤ 64
   pub few : count ≤ 256
   pub from-in : (e : ℕ) → e < count → getD from e 0 < states
   pub to-in : (e : ℕ) → e < count → getD to e 0 < states
-  pub rise-in : (e : ℕ) → e < count → rise (getD length e (pos 0)) ≤ most
-  pub fall-in : (e : ℕ) → e < count → fall (getD length e (pos 0)) ≤ most
-
--- No number is above 2 ^ 41: there is room for one edge more.
-abbrev pub Low : List ℕ → Type 0
-Low table = (s : ℕ) → s < 64 → getD table s 0 ≤ 2199023255552
-
--- `new` has, for each state, the greatest length of one edge and on from its end, where `old` says how far it is from there.
-abbrev pub Relaxed : Graph → List ℕ → List ℕ → Type 0
-Relaxed g old new = (s : ℕ) → s < 64 → getD new s 0 ≡ greatest (via g (λ x. getD old x 0) s) (below (g .size))
+  pub rise-in : (e : ℕ) → e < count → rise (getD weight e (pos 0)) ≤ 65535
+  pub fall-in : (e : ℕ) → e < count → fall (getD weight e (pos 0)) ≤ 65535
 
 -- No number of the table is above `most`.
 abbrev pub AtMost : ℕ → List ℕ → Type 0

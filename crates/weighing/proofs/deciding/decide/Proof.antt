@@ -31,7 +31,7 @@ returns c =
     let a = c .before .before .before .before .before .args in
     let p = c .before .before .before .before .before .pre in
     let g = edgeGraph (a .count) (a .from .now) (a .to .now) (a .weight .now) in
-    let inside = edges-within (a .count) (a .states) 65535 (a .from .now) (a .to .now) (a .weight .now) (p .0) in
+    let inside = edges-within (a .count) (a .states) (a .from .now) (a .to .now) (a .weight .now) (p .0) in
     let l = c .before .before .before .before .loop in
     all-below (a .n) g (a .states) inside (p .1) (λ s. getD (l .heights) s 0) (heights-settled (lengthened (a .n) g) (l .k) (l .heights) (l .inv .1) _ _ (not-true _ (c .if1 .taken)) (c .before .relax .ensures))
 
@@ -51,7 +51,7 @@ returns-2 c =
     let a = c .before .before .args in
     let p = c .before .before .pre in
     let l = c .before .loop in
-    let inside = edges-within (a .count) (a .states) 65535 (a .from .now) (a .to .now) (a .weight .now) (p .0) in
+    let inside = edges-within (a .count) (a .states) (a .from .now) (a .to .now) (a .weight .now) (p .0) in
     some-cycle (a .n) _ (a .states) inside (p .1) (heights-positive _ (l .k) (l .heights) (l .inv .1) (a .states) inside (p .0 .some-state) (omega (arith, l .inv .0, c .loop-test .left)))
 
 pub decide-spec : {M : Type 1} → statement M

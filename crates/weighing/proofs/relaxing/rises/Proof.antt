@@ -6,8 +6,8 @@ use mir.Syntax.{w64}
 use mir.Facts.{toZ-pos, toZ-ofZ}
 use Rattle.weighing.specs.Inner.Signs.{rise, fall}
 use Rattle.weighing.proofs.SignLaws.{difference-test, difference-sum-of, along-fits, along-is}
-use Rattle.weighing.proofs.deciding.rises.Statement.{statement}
-use Rattle.weighing.proofs.deciding.rises.Tie as tie
+use Rattle.weighing.proofs.relaxing.rises.Statement.{statement}
+use Rattle.weighing.proofs.relaxing.rises.Tie as tie
 
 cast-result : tie.Need-cast-result
 cast-result c = record { sfits = omega (arith, c .pre .1) }
