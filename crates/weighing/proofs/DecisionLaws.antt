@@ -1,7 +1,7 @@
 -- Laws of deciding: relaxation in place with the lengths 1 + n × weight, and what it says of the weights.
 use mathlib.Core.Path.{_≡_, refl, sym, ap, _∙_, subst}
-use mathlib.Core.Logic.{_⊎_, inl, inr}
-use mathlib.Core.Bool.{Bool, true, false, false≢true}
+use mathlib.Core.Logic.{_≢_, _⊎_, inl, inr}
+use mathlib.Core.Bool.{true, false}
 use mathlib.Core.List.{List}
 use Prim.Native.Nat.{ℕ, _+_, _-_, _*_, _≤_, _<_, max}
 use native.Mathlib.Nat.{le-refl, not-suc-le-zero, mul-le-mul}
@@ -42,7 +42,7 @@ module _ (n : ℕ) (z : ℤ) where
 -- ---- one pass
 
 -- With no edge relaxed yet.
-pub pass-starts : (g : Graph) (before : List ℕ) → Pass g 0 before before false
+pub pass-starts : (g : Graph) (before : List ℕ) → Pass g 0 before before (g .size)
 pass-starts g before =
     record {
       same-length = refl;
@@ -50,8 +50,9 @@ pass-starts g before =
       along = λ e l. absurd (not-suc-le-zero l);
       attained = λ w. w;
       rises = λ most h s. omega (arith, h s);
+      last-in = le-refl _;
       kept = λ e. refl;
-      raised = λ e. absurd (false≢true e);
+      raised = λ e. absurd (omega (arith, e));
     }
 
 -- What holds of v at a, and of each entry, holds of each entry after v is stored at a.
@@ -64,7 +65,7 @@ after-store table a v room F here each s = go (ℕ-discrete s a)
 
 -- Edge i, after the edges before it. No height falls, so what held along the edges before still holds;
 -- and the height that edge i asks for is reached, since that of its end is no lower than before the pass.
-module _ (g : Graph) (i : ℕ) (before now : List ℕ) (changed : Bool) (so-far : Pass g i before now changed) where
+module _ (g : Graph) (i : ℕ) (before now : List ℕ) (last : ℕ) (so-far : Pass g i before now last) where
   along-next : (after : List ℕ) → ((s : ℕ) → getD now s 0 ≤ getD after s 0) → g .plus i + getD now (g .dst i) 0 ≤ getD after (g .src i) 0 + g .minus i
       → (e : ℕ) → e < i + 1 → g .plus e + getD before (g .dst e) 0 ≤ getD after (g .src e) 0 + g .minus e
   along-next after grown here e l = go (ℕ-discrete e i)
@@ -74,7 +75,7 @@ module _ (g : Graph) (i : ℕ) (before now : List ℕ) (changed : Bool) (so-far 
       go (no q) = omega (arith, so-far .along e (omega arith), grown (g .src e))
 
   -- It is not above the height of the state that it leaves: nothing changes.
-  pass-keeps : g .plus i + getD now (g .dst i) 0 ≤ getD now (g .src i) 0 + g .minus i → Pass g (i + 1) before now changed
+  pass-keeps : g .plus i + getD now (g .dst i) 0 ≤ getD now (g .src i) 0 + g .minus i → Pass g (i + 1) before now last
   pass-keeps here =
       record {
         same-length = so-far .same-length;
@@ -82,6 +83,7 @@ module _ (g : Graph) (i : ℕ) (before now : List ℕ) (changed : Bool) (so-far 
         along = along-next now (λ s. le-refl _) here;
         attained = so-far .attained;
         rises = λ most h s. omega (arith, so-far .rises most h s);
+        last-in = so-far .last-in;
         kept = so-far .kept;
         raised = so-far .raised;
       }
@@ -101,7 +103,7 @@ module _ (g : Graph) (i : ℕ) (before now : List ℕ) (changed : Bool) (so-far 
     grown : (s : ℕ) → getD now s 0 ≤ getD after s 0
     grown = each-after (λ s x. getD now s 0 ≤ x) (omega arith) (λ s. le-refl _)
 
-    pass-raises : Pass g (i + 1) before (set now (g .src i) v) true
+    pass-raises : Pass g (i + 1) before (set now (g .src i) v) i
     pass-raises =
         record {
           same-length = length-set now (g .src i) v ∙ so-far .same-length;
@@ -111,13 +113,14 @@ module _ (g : Graph) (i : ℕ) (before now : List ℕ) (changed : Bool) (so-far 
           rises =
               λ most h.
               each-after (λ s x. x ≤ most + (i + 1) * 4194304) (omega (arith, so-far .rises most h (g .dst i))) (λ s. omega (arith, so-far .rises most h s));
-          kept = λ e. absurd (false≢true (sym e));
+          last-in = omega (arith, there .0);
+          kept = λ e. absurd (omega (arith, there .0));
           raised = λ e. (g .src i, omega (arith, so-far .never-lower (g .src i), here-is));
         }
 
 -- The same for an edge list, with the length 1 + n × weight.
 module _ (n count states : ℕ) (from to : List ℕ) (weight : List ℤ) (ok : EdgesIn states count from to weight) (most : n ≤ 64) (i : ℕ) (there : i < count)
-    (before now : List ℕ) (changed : Bool) (so-far : Pass (lengthened n (edgeGraph count from to weight)) i before now changed) where
+    (before now : List ℕ) (last : ℕ) (so-far : Pass (lengthened n (edgeGraph count from to weight)) i before now last) where
   abbrev g : Graph
   g = lengthened n (edgeGraph count from to weight)
 
@@ -133,14 +136,14 @@ module _ (n count states : ℕ) (from to : List ℕ) (weight : List ℤ) (ok : E
   along = (rise (pos 1 +ℤ pos n *ℤ getD weight i (pos 0)) + getD now (getD to i 0) 0) - fall (pos 1 +ℤ pos n *ℤ getD weight i (pos 0))
 
   -- Where it is not above the height of the state that the edge leaves, nothing changes,
-  pub edge-keeps : ltb (getD now (getD from i 0) 0) along ≡ false → Pass (lengthened n (edgeGraph count from to weight)) (i + 1) before now changed
-  edge-keeps l = pass-keeps g i before now changed so-far (omega (arith, ltb-false (getD now (getD from i 0) 0) along l, length-same n z))
+  pub edge-keeps : ltb (getD now (getD from i 0) 0) along ≡ false → Pass (lengthened n (edgeGraph count from to weight)) (i + 1) before now last
+  edge-keeps l = pass-keeps g i before now last so-far (omega (arith, ltb-false (getD now (getD from i 0) 0) along l, length-same n z))
 
   -- and where it is, that height becomes the length.
   pub edge-raises : length before ≡ 64 → ltb (getD now (getD from i 0) 0) along ≡ true → (v : ℕ) → v ≡ max (getD now (getD from i 0) 0) along
-      → Pass (lengthened n (edgeGraph count from to weight)) (i + 1) before (set now (getD from i 0) v) true
+      → Pass (lengthened n (edgeGraph count from to weight)) (i + 1) before (set now (getD from i 0) v) i
   edge-raises room more v is =
-      pass-raises g i before now changed so-far (there, refl)
+      pass-raises g i before now last so-far (there, refl)
       (omega (arith, room, so-far .same-length, ok .from-in i there, ok .states-in))
       (omega (arith, mul-le-mul most (ok .rise-in i there)))
       v
@@ -180,10 +183,10 @@ heights-first g =
 
 module _ (g : Graph) (k : ℕ) (heights : List ℕ) (here : Heights g k heights) where
   -- after one that raised a height,
-  pub heights-next : (after : List ℕ) (told : Bool) → g .size ≤ 256 → told ≡ true → Pass g (g .size) heights after told → Heights g (k + 1) after
-  heights-next after told few t p =
+  pub heights-next : (after : List ℕ) (last : ℕ) → g .size ≤ 256 → last ≢ g .size → Pass g (g .size) heights after last → Heights g (k + 1) after
+  heights-next after last few other p =
       let e : k + 1 - 1 ≡ k = omega arith in
-      let x = p .raised t in
+      let x = p .raised (omega (arith, p .last-in)) in
       record {
         room = p .same-length ∙ here .room;
         low = λ s. omega (arith, p .rises (k * 1073741824) (here .low) s);
@@ -193,8 +196,8 @@ module _ (g : Graph) (k : ℕ) (heights : List ℕ) (here : Heights g k heights)
       }
 
   -- after one that raised none: the heights are a potential,
-  pub heights-settled : (after : List ℕ) (told : Bool) → told ≡ false → Pass g (g .size) heights after told → Potential g (λ s. getD heights s 0)
-  heights-settled after told t p e u = omega (arith, p .along e (u .0), ap (λ (x : List ℕ). getD x (g .src e) 0) (p .kept t))
+  pub heights-settled : (after : List ℕ) (last : ℕ) → last ≡ g .size → Pass g (g .size) heights after last → Potential g (λ s. getD heights s 0)
+  heights-settled after last none p e u = omega (arith, p .along e (u .0), ap (λ (x : List ℕ). getD x (g .src e) 0) (p .kept (omega arith)))
 
   -- and after as many as there are states: a simple cycle is positive.
   pub heights-positive : (N : ℕ) → Within g N → 1 ≤ N → k ≡ N → PositiveCycle g

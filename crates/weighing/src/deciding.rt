@@ -18,8 +18,8 @@ fn row_length(n: u64, weight: i64) -> i64
     1 + n as i64 * weight
 }
 
-// One pass over the edges, in place; whether a height was raised. The height of a is read first: read just before the test, the compiler would store it
-// at every edge, raised or not, and the next edge would wait for the store.
+// One pass over the edges, in place; the last edge that raised a height, or the number of edges if none did. The height of a is read first: read just
+// before the test, the compiler would store it at every edge, raised or not, and the next edge would wait for the store.
 fn relax(
     from: &[u8; 256],
     to: &[u8; 256],
@@ -28,11 +28,11 @@ fn relax(
     states: usize,
     n: u64,
     heights: &mut [u64; 64],
-) -> bool
+) -> usize
     requires { ⌜ EdgesIn states count (now from) (now to) (now weight) × (n ≤ 64) × (length (now heights) ≡ 64) × AtMost 68719476736 (now heights) ⌝ }
     ensures { λ r. ⌜ Pass (lengthened n (edgeGraph count (now (from .entry)) (now (to .entry)) (now (weight .entry)))) count (now (heights .entry)) (now (heights .exit)) r ⌝ }
 {
-    let mut changed = false;
+    let mut last = count;
     let mut i = 0;
     while i < count {
         let a = wide(from[i]);
@@ -42,11 +42,11 @@ fn relax(
         let next = heights[b];
         if rises(height, next, length) {
             heights[a] = raised(height, next, length);
-            changed = true;
+            last = i;
         }
         i += 1;
     }
-    changed
+    last
 }
 
 // Whether every simple cycle weighs below zero. A pass that raises no height says yes; if each of as many passes as there are states raises one, the answer is no.
@@ -64,7 +64,8 @@ pub fn decide(
     let mut heights = [0; 64];
     let mut k = 0;
     while k < states {
-        if !relax(from, to, weight, count, states, n, &mut heights) {
+        let last = relax(from, to, weight, count, states, n, &mut heights);
+        if last == count {
             return true;
         }
         k += 1;

@@ -40,15 +40,17 @@ AtMost most table = (s : ℕ) → getD table s 0 ≤ most
 abbrev pub WalkLengths : Graph → List ℕ → Type 0
 WalkLengths g heights = (s : ℕ) → WalkLength g s (getD heights s 0)
 
--- The first `count` edges, none longer than 2 ^ 22, were relaxed in place, one after the other; `changed` says whether a height was raised.
-pub record Pass (g : Graph) (count : ℕ) (before after : List ℕ) (changed : Bool) : Type 0 where
+-- The first `count` edges, none longer than 2 ^ 22, were relaxed in place, one after the other; `last` is the last that raised a height, or the number
+-- of all edges if none did.
+pub record Pass (g : Graph) (count : ℕ) (before after : List ℕ) (last : ℕ) : Type 0 where
   pub same-length : length after ≡ length before
   pub never-lower : (s : ℕ) → getD before s 0 ≤ getD after s 0
   pub along : (e : ℕ) → e < count → g .plus e + getD before (g .dst e) 0 ≤ getD after (g .src e) 0 + g .minus e
   pub attained : WalkLengths g before → WalkLengths g after
   pub rises : (most : ℕ) → AtMost most before → AtMost (most + count * 4194304) after
-  pub kept : changed ≡ false → after ≡ before
-  pub raised : changed ≡ true → (s : ℕ) × (getD before s 0 < getD after s 0)
+  pub last-in : last ≤ g .size
+  pub kept : g .size ≤ last → after ≡ before
+  pub raised : last < g .size → (s : ℕ) × (getD before s 0 < getD after s 0)
 
 -- Every simple cycle of the edges is below zero.
 abbrev pub AllBelowZero : Graph → Type 0

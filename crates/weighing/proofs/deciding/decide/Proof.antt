@@ -6,7 +6,6 @@ use Rattle.livelock.proofs.Lengths.{lengthened}
 use Rattle.weighing.specs.Inner.Rounds.{edgeGraph}
 use Rattle.weighing.proofs.RoundLaws.{edges-within}
 use Rattle.weighing.proofs.DecisionLaws.{Heights, heights-first, heights-low, heights-next, heights-settled, heights-positive, all-below, some-cycle}
-use borrow.Author.Tests.{not-true, not-false}
 use borrow.Author.Needs.{needs}
 use Rattle.weighing.proofs.deciding.decide.Statement.{statement}
 use Rattle.weighing.proofs.deciding.decide.Tie as tie
@@ -33,7 +32,7 @@ returns c =
     let g = edgeGraph (a .count) (a .from .now) (a .to .now) (a .weight .now) in
     let inside = edges-within (a .count) (a .states) (a .from .now) (a .to .now) (a .weight .now) (p .0) in
     let l = c .before .before .before .before .loop in
-    all-below (a .n) g (a .states) inside (p .1) (λ s. getD (l .heights) s 0) (heights-settled (lengthened (a .n) g) (l .k) (l .heights) (l .inv .1) _ _ (not-true _ (c .if1 .taken)) (c .before .relax .ensures))
+    all-below (a .n) g (a .states) inside (p .1) (λ s. getD (l .heights) s 0) (heights-settled (lengthened (a .n) g) (l .k) (l .heights) (l .inv .1) _ _ (c .if1 .taken) (c .before .relax .ensures))
 
 add-k : tie.Need-add-k Inv-loop μ-loop
 add-k c = search needs
@@ -44,7 +43,7 @@ loop-less c = search needs
 loop-again : tie.Need-loop-again Inv-loop μ-loop
 loop-again c =
     let l = c .before .before .before .before .loop in
-    (search needs, heights-next _ (l .k) (l .heights) (l .inv .1) _ _ (c .before .before .before .before .before .pre .0 .few) (not-false _ (c .if1 .left)) (c .before .relax .ensures))
+    (search needs, heights-next _ (l .k) (l .heights) (l .inv .1) _ _ (c .before .before .before .before .before .pre .0 .few) (c .if1 .left) (c .before .relax .ensures))
 
 returns-2 : tie.Need-returns-2 Inv-loop μ-loop
 returns-2 c =

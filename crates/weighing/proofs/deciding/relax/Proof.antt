@@ -15,10 +15,10 @@ use Rattle.weighing.proofs.deciding.relax.Statement.{statement}
 use Rattle.weighing.proofs.deciding.relax.Tie as tie
 
 abbrev Inv-loop : tie.InvT-loop
-Inv-loop from to weight count states n heights₀ changed₀ i₀ heights changed i = (i ≤ count) × Pass (lengthened n (edgeGraph count from to weight)) i heights₀ heights changed
+Inv-loop from to weight count states n heights₀ last₀ i₀ heights last i = (i ≤ count) × Pass (lengthened n (edgeGraph count from to weight)) i heights₀ heights last
 
 abbrev μ-loop : tie.MeasureT-loop
-μ-loop from to weight count states n heights₀ changed₀ i₀ heights changed i = count - i
+μ-loop from to weight count states n heights₀ last₀ i₀ heights last i = count - i
 
 -- Both states of an edge have a height.
 left-low : (c : tie.After-wide Inv-loop μ-loop) → c .wide .result < 64
@@ -79,7 +79,7 @@ rises-requires c κs =
     let made = toZ-ofZ {w = w64} {z = c .before .row-length .result} (record { sfits = c .before .row-length .ok }) in
     let long = rw fit at (c .before .row-length .ensures) in
     let short = length-low (a .n) (getD (a .weight .now) (l .i) (pos 0)) (start .pre .1) (ok .rise-in (l .i) there) (ok .fall-in (l .i) there) in
-    let low = pass-low (a .n) (a .count) (a .states) (a .from .now) (a .to .now) (a .weight .now) ok (start .pre .1) (l .i) there (a .heights .now) (l .heights) (l .changed) (l .inv .1) (start .pre .3) in
+    let low = pass-low (a .n) (a .count) (a .states) (a .from .now) (a .to .now) (a .weight .now) ok (start .pre .1) (l .i) there (a .heights .now) (l .heights) (l .last) (l .inv .1) (start .pre .3) in
     (omega (arith, low (c .before .before .before .before .before .before .wide .result)), low (c .before .before .before .wide2 .result), rw (made, long) (short .0), rw (made, long) (short .1))
 
 raised-requires : tie.Need-raised-requires Inv-loop μ-loop
@@ -111,8 +111,8 @@ loop-again c =
     let test = rw (left, entered, made, long) at (c .before .rises .ensures) in (
       omega (arith, there),
       ⊎-elim
-          (λ w. rw (w .2, w .3, left) (edge-raises (a .n) (a .count) (a .states) (a .from .now) (a .to .now) (a .weight .now) (start .pre .0) (start .pre .1) (l .i) there (a .heights .now) (l .heights) (l .changed) (l .inv .1) (start .pre .2) (sym test ∙ w .0 .taken) _ (rw (left, entered, made, long) at (w .1 .ensures))))
-          (λ w. rw (w .1, w .2) (edge-keeps (a .n) (a .count) (a .states) (a .from .now) (a .to .now) (a .weight .now) (start .pre .0) (start .pre .1) (l .i) there (a .heights .now) (l .heights) (l .changed) (l .inv .1) (sym test ∙ w .0 .left)))
+          (λ w. rw (w .2, w .3, left) (edge-raises (a .n) (a .count) (a .states) (a .from .now) (a .to .now) (a .weight .now) (start .pre .0) (start .pre .1) (l .i) there (a .heights .now) (l .heights) (l .last) (l .inv .1) (start .pre .2) (sym test ∙ w .0 .taken) _ (rw (left, entered, made, long) at (w .1 .ensures))))
+          (λ w. rw (w .1, w .2) (edge-keeps (a .n) (a .count) (a .states) (a .from .now) (a .to .now) (a .weight .now) (start .pre .0) (start .pre .1) (l .i) there (a .heights .now) (l .heights) (l .last) (l .inv .1) (sym test ∙ w .0 .left)))
           (c .if1 .came),
     )
 
@@ -120,7 +120,7 @@ returns : tie.Need-returns Inv-loop μ-loop
 returns c =
     let a = c .before .before .args in
     let done : c .before .loop .i ≡ a .count = omega (arith, c .before .loop .inv .0, c .loop-test .left) in
-    subst (λ (x : ℕ). Pass (lengthened (a .n) (edgeGraph (a .count) (a .from .now) (a .to .now) (a .weight .now))) x (a .heights .now) (c .before .loop .heights) (c .before .loop .changed)) done (c .before .loop .inv .1)
+    subst (λ (x : ℕ). Pass (lengthened (a .n) (edgeGraph (a .count) (a .from .now) (a .to .now) (a .weight .now))) x (a .heights .now) (c .before .loop .heights) (c .before .loop .last)) done (c .before .loop .inv .1)
 
 pub relax-spec : {M : Type 1} → statement M
 relax-spec =
