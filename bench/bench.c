@@ -113,8 +113,9 @@ static void compare(int reps, void (*ours)(void), void (*theirs)(void), double (
         if (!(i % 2)) o[i] = timed(ours, calls);
         r[i] = o[i] / p[i];
     }
-    double ratio = median(r, reps);
-    printf("\"ours_ns\": %.1f, \"peer_ns\": %.1f, \"ratio\": %.6g, \"low\": %.6g, \"high\": %.6g, \"reps\": %d}\n", median(o, reps), median(p, reps), ratio, r[reps / 4], r[reps - 1 - reps / 4], reps);
+    printf("\"ours_ns\": %.1f, \"peer_ns\": %.1f, \"ratio\": %.6g, \"ratios\": [", median(o, reps), median(p, reps), median(r, reps));
+    for (int i = 0; i < reps; i++) printf("%s%.6g", i ? ", " : "", r[i]);
+    printf("]}\n");
 }
 
 static void checked(int reps, void (*ours)(void), void (*theirs)(void), int (*same)(void)) {

@@ -2,24 +2,17 @@
 
 # Why a goal is missed: for keys of bench/run that begin with the first word. The evidence is from `perf` and from the machine
 # code (`objdump -d dist/libhemtaluq.a`) of the library at the time of writing; look again when the crates have changed.
-SHOWING = (
-    'The search takes as many rounds as the peer\'s, but the rows of the cycle that it finds are written by computing the walks of fewer rows anew for each row: '
-    'for the ten machines 28 rounds after the 49 of the search, for plant A 3 after 3. The peer keeps the tables of all rounds, 65 × 64 numbers. '
-    'Tables that are cleared and copied up to the machine\'s states only were tried, and were no faster; a table of the first row of each walk would save these rounds, and is not made yet. What deciding takes comes on top.')
+DECIDING = (
+    'The decision works out the length 1 + n × weight of a row in each pass, the peer has a list of lengths: its loop has 12 instructions, 44 bytes. Where these '
+    'bytes lie across a line of 64, the loop takes a third longer. With a list of lengths the proved code was no faster at the limits, and slower in small plants, for the list has to be cleared.')
 CAUSES = [
     ('read', 'Reading',
      'Nothing is stored, and on the largest file the call executes as many instructions as the peer, within a hundredth (callgrind).'),
-    ('weigh-a-fails', 'Showing a cycle of a small machine', SHOWING),
-    ('weigh-ordinary-fails', 'Showing a cycle of a small machine', SHOWING),
     ('weigh-a', 'Weighing small plants',
-     'A plant of 20 bytes is weighed in the time that its arrays take: 9 KB are cleared, and the six columns, local arrays of the reader, are copied once, 6 KB, into '
+     'A plant of 20 bytes is weighed in the time that its arrays take: 9 KB are cleared, where a cycle is shown 14 KB, and the six columns, local arrays of the reader, are copied once, 6 KB, into '
      'the table that is handed back (`memset` and `memcpy` of 0x400 bytes in `plant::decode`). C with the same arrays, cleared, and without the copy: see the next table.'),
-    ('weigh', 'Weighing',
-     'The decision works out the length 1 + n × weight of a row in each pass: its loop executes 1.24 times the instructions of the peer\'s, which has a list of lengths (callgrind, at '
-     'the limits). The proved code was tried with such a list, too: at the limits it was no faster, and in small plants slower, for the list has to be cleared.'),
-    ('quote-fails', 'Quoting weights that do not pass',
-     'All the work is deciding. Its loop executes 1.24 times the instructions of the peer\'s, which has a list of the lengths 1 + n × weight; the proved code works them out in each pass. '
-     'It was tried with such a list, too: at the limits it was no faster, and in small plants slower, for the list has to be cleared.'),
+    ('weigh', 'Weighing', DECIDING),
+    ('quote-fails', 'Quoting weights that do not pass', 'All the work is deciding. ' + DECIDING),
     ('quote-a', 'Quoting for small plants',
      'As for weighing: the arrays. Besides, the price class compares edge after edge of the constant table that document 01 asks for, where the peer counts leading zeros.'),
     ('quote', 'Quoting', 'Quoting is deciding and a few sums; what deciding loses, quoting loses.'),
@@ -77,7 +70,7 @@ def verdict(ratio, goal):
 
 
 def calls_table(found):
-    lines = ['| Call | Input | Lent list | Time against C | Middle half | Goal | |', '|---|---|---|---|---|---|---|']
+    lines = ['| Call | Input | Lent list | Time against C | By layout | Goal | |', '|---|---|---|---|---|---|---|']
     for _, call, given, lent, goal, m in found['calls']:
         lines.append('| %s | %s | %s | %s | %s to %s | %s | %s |' % (call, given, lent, times(m['ratio']), times(m['low']), times(m['high']), goal, verdict(m['ratio'], goal)))
     return '\n'.join(lines)
@@ -101,7 +94,7 @@ def growth_table(found):
 
 
 def floors_table(found):
-    lines = ['| Weighing in C with cleared arrays, passes | Time against the peer | Middle half |', '|---|---|---|']
+    lines = ['| Weighing in C with the arrays of the proved call | Time against the peer | By layout |', '|---|---|---|']
     for name, m in found['floors']:
         lines.append('| %s | %s | %s to %s |' % (name, times(m['ratio']), times(m['low']), times(m['high'])))
     return '\n'.join(lines)
@@ -138,8 +131,9 @@ It needs gcc, binutils, spin and glpk-utils, all from Debian, and the kit's `rt`
 
 Every figure of time is a ratio of two things that were measured in turn, in one program (generating and compiling for SPIN: by processes, in turn).
 Against C and GLPK the order changed from one repetition to the next. A ratio is the median of {fast} repetitions, or of {slow} for the longest listing, for SPIN's search from
-anywhere and for whole commands; the middle half of the repetitions lies in the range beside it. Machine: 2 cores, shared with other work: a ratio moves by a fifth from
-run to run, at times by more, so one near its goal is met in one run and missed in the next. {gcc}, -O2; {spin}; {glpsol}.
+anywhere and for whole commands. A loop can take a third longer where its address is unlucky, the peer's too; against C, therefore, the whole program is linked four times, moved by
+16 bytes each time, with a quarter of the repetitions for each, and the least and the greatest of the four medians stand beside the median of all. Machine: 2 cores, shared with other
+work: a ratio moves by a tenth from run to run, at times by more. {gcc}, -O2; {spin}; {glpsol}.
 
 ## Against C
 
@@ -154,7 +148,7 @@ Both show a cycle with the fewest rows; a program that may show any cycle could 
 {causes}
 
 In Rattle every array has contents from the start, so a call clears its tables where C leaves them as they are. `bench/floor.c` is weighing in C with
-arrays as Rattle must have them, each cleared once, and no copies: what the proved call could come to with these tables.
+the arrays and the algorithms of the proved call, each array cleared, and no copies: what the proved call could come to with these arrays.
 
 {floors}
 
