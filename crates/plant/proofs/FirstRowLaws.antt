@@ -11,7 +11,7 @@ use lib.ListN.{length, getD, set, take, drop, length-set}
 use lib.Seq.{getD-set-same, getD-set-other}
 use lib.Dec.{ltb, eqb}
 use borrow.Author.Tests.{ltb-true, ltb-false, lt-ltb, le-ltb, eq-eqb, ne-eqb}
-use Rattle.livelock.specs.Lists.{All, sum, count}
+use Rattle.livelock.specs.Lists.{All, below, sum, count}
 use Rattle.livelock.specs.Plants.{Row, Plant, rowAt, rowCount, machineCount, noRow}
 use Rattle.livelock.proofs.ListLaws.{all-append, all-weaken, all-always, all-at}
 use Rattle.livelock.proofs.SumLaws.{sum-append, sum-equal, sum-mono, sum-zero, sum-ones}
@@ -19,7 +19,7 @@ use Rattle.plant.specs.Found.{found}
 use Rattle.plant.specs.Reading.{withRow, withMachine, readMachine}
 use Rattle.plant.specs.Limits.{Ascending, rowsOf, WithinLimits}
 use Rattle.plant.specs.Inner.Steps.{FirstRows, MachinesRead}
-use Rattle.plant.specs.Tables.{Columns, plantIn, rowsBefore, plantOf, Ready}
+use Rattle.plant.specs.Tables.{Columns, plantIn, rowsBefore, plantOf, tableOf, Ready}
 use Rattle.plant.specs.declared.Stored.{Stored}
 use Rattle.plant.specs.declared.PlantTable.{PlantTable}
 use Rattle.plant.proofs.Bounds.{Each, each-then, each-found, byteIn-each, rowsByte-each, readRows-each, one-bit}
@@ -98,27 +98,10 @@ pub first-stored : (s : List ℕ) (at : ℕ) (first : List ℕ) (n used : ℕ) (
 first-stored s at first n used p q next m u l f e =
     rw (← m) (each-found q next (first-each s at (set first (machineCount p) used) p (first-next first (machineCount p) used p u (rw m l) (rw m f))) e)
 
--- The table of the counts and columns that were filled.
-abbrev pub tableOf : ℕ → Stored → (states first : List ℕ) → Columns → PlantTable
-tableOf types r states first cs =
-    record {
-      types = types;
-      machines = r .machines;
-      rows = r .rows;
-      states = states;
-      first = first;
-      machine = cs .machine;
-      left = cs .left;
-      entered = cs .entered;
-      sent = cs .sent;
-      taken = cs .taken;
-      progress = cs .progress;
-    }
-
 -- What was read makes a ready table, once the entries behind the last machine's first row are stored too.
 pub table-ready : {n : ℕ} {file : List ℕ} {from types : ℕ} {states first first′ : List ℕ} {cs : Columns} {r : Stored} → types ≤ 64
     → MachinesRead n file from types states first cs r → ((p : Plant) → rowCount p ≡ r .rows → FirstRows first (r .machines) p → FirstRows first′ 17 p)
-    → Ready (tableOf types r states first′ cs)
+    → Ready (tableOf types (r .machines) (r .rows) states first′ cs)
 table-ready {types = types} {states = states} {cs = cs} {r = r} few h ends =
     record {
       sound =
@@ -129,6 +112,16 @@ table-ready {types = types} {states = states} {cs = cs} {r = r} few h ends =
             states-room = h .states-room;
           };
       first-row = λ m l. ends (plantIn types (take (r .machines) states) (r .rows) cs) (rows-in cs (r .rows)) (h .first-rows) .at m (omega arith);
+    }
+
+-- So does nothing, with 0 as each machine's first row.
+pub nothing-ready : {first first′ : List ℕ} → length first ≡ 17 → ((p : Plant) → rowCount p ≡ 0 → FirstRows first 0 p → FirstRows first′ 17 p)
+    → (states : List ℕ) (cs : Columns) → length states ≡ 16 → Ready (tableOf 0 0 0 states first′ cs)
+unfolding below
+nothing-ready {first} room ends states cs states-room =
+    record {
+      sound = record { few-machines = zero-le; few-rows = zero-le; few-types = zero-le; states-room = states-room };
+      first-row = λ m l. let p = plantIn 0 [] 0 cs in ends p refl (first-none first p room refl) .at m (omega arith);
     }
 
 -- ---- for the crates that work on plants

@@ -55,6 +55,23 @@ rowOf t = rowIn (columnsOf t)
 abbrev pub plantOf : PlantTable → Plant
 plantOf t = plantIn (t .types) (take (t .machines) (t .states)) (t .rows) (columnsOf t)
 
+-- The table of the counts and columns that were filled.
+abbrev pub tableOf : (types machines rows : ℕ) → (states first : List ℕ) → Columns → PlantTable
+tableOf types machines rows states first cs =
+    record {
+      types = types;
+      machines = machines;
+      rows = rows;
+      states = states;
+      first = first;
+      machine = cs .machine;
+      left = cs .left;
+      entered = cs .entered;
+      sent = cs .sent;
+      taken = cs .taken;
+      progress = cs .progress;
+    }
+
 -- Where reading ended, with the plant that was read.
 abbrev pub endFound : End → Plant → Found Plant
 endFound (Ends.At next) p = found p next

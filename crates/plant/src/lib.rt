@@ -1,5 +1,6 @@
 // Reading plant files: the bytes are judged one by one, and the first fault met decides.
 ghost use mathlib.Core.Path.{_≡_};
+ghost use mathlib.Core.List.{List};
 ghost use Prim.Native.Nat.{ℕ, _+_, _^_, _≤_, _<_};
 ghost use lib.ListN.{length};
 ghost use Rattle.livelock.specs.Plants.{Plant, rowCount, machineCount};
@@ -7,7 +8,7 @@ ghost use Rattle.plant.specs.Found.{andThen, movedBy};
 ghost use Rattle.plant.specs.Reading.{byteAt, inRange, byteIn, countByte, hasBit, isMap, mapByte, stateField, typeField, readRow};
 ghost use Rattle.plant.specs.Reading.{noMachines, readRows, rowsByte, readMachine, readMachines, fileEnd, readPlant};
 ghost use Rattle.plant.specs.Inner.Steps.{fieldFound, typeFound, rowFound, offsetOf, columns, Room, RowsRead, MachineRead, MachinesRead, FirstRows, Counted};
-ghost use Rattle.plant.specs.Tables.{Ready, endFound, decodedFound};
+ghost use Rattle.plant.specs.Tables.{Columns, tableOf, plantOf, Ready, endFound, decodedFound};
 ghost use Rattle.plant.specs.Answers.{faultFound, answerOf, countsOf};
 
 // A fault's number in document 01's table, and its place.
@@ -67,6 +68,14 @@ pub enum End {
 // Where reading ended, and how many machines and rows are stored: none where there is a fault.
 pub struct Stored {
     pub end: End,
+    pub machines: usize,
+    pub rows: usize,
+}
+
+// What lent columns were filled with: where reading ended, and the counts, which are of use where there is no fault.
+pub struct Filled {
+    pub end: End,
+    pub types: u8,
     pub machines: usize,
     pub rows: usize,
 }
@@ -448,37 +457,6 @@ fn read_machines(
     }
 }
 
-// A refusal, with a table that holds nothing.
-fn refused(fault: Fault) -> Decoded
-    ensures { λ r. ⌜ decodedFound r ≡ faultFound fault ⌝ }
-    ensures { λ r. ⌜ Ready (r .table) ⌝ }
-{
-    let states = [0; 16];
-    let first = [0; 17];
-    let machine = [0; 1024];
-    let left = [0; 1024];
-    let entered = [0; 1024];
-    let sent = [0; 1024];
-    let taken = [0; 1024];
-    let progress = [false; 1024];
-    Decoded {
-        end: End::Fault(fault),
-        table: PlantTable {
-            types: 0,
-            machines: 0,
-            rows: 0,
-            states,
-            first,
-            machine,
-            left,
-            entered,
-            sent,
-            taken,
-            progress,
-        },
-    }
-}
-
 // Where the last row ends, the file ends.
 fn at_file_end(file: &[u8], end: End) -> End
     ensures { λ r. ⌜ ((p : Plant) → endFound r p ≡ andThen (endFound end p) (fileEnd (now (file .entry)))) ⌝ }
@@ -510,10 +488,75 @@ fn fill_first(first: &mut [u16; 17], machines: usize, rows: usize)
     }
 }
 
-// The machines of a file, `n` of them from `from` on, and its end. The columns are locals of this function and lent to those that read.
-fn read_table(file: &[u8], n: usize, types: u8, from: usize) -> Decoded
-    requires { ⌜ (n ≤ 16) × (types ≤ 64) ⌝ }
-    ensures { λ r. ⌜ decodedFound r ≡ andThen (readMachines n (now (file .entry)) from (noMachines types)) (fileEnd (now (file .entry))) ⌝ }
+// A refusal before any machine was read.
+fn nothing_read(fault: Fault, first: &mut [u16; 17]) -> Filled
+    requires { ⌜ length (now first) ≡ 17 ⌝ }
+    ensures { λ r. ⌜ ((p : Plant) → endFound (r .end) p ≡ faultFound fault) ⌝ }
+    ensures { λ r. ⌜ ((states : List ℕ) (cs : Columns) → length states ≡ 16 → Ready (tableOf (r .types) (r .machines) (r .rows) states (now (first .exit)) cs)) ⌝ }
+{
+    fill_first(first, 0, 0);
+    Filled {
+        end: End::Fault(fault),
+        types: 0,
+        machines: 0,
+        rows: 0,
+    }
+}
+
+// Reads a file into lent columns: its plant, or the first fault. For the crates that work on plants; a table handed back by value would be copied.
+pub fn decode_columns(
+    file: &[u8],
+    states: &mut [u8; 16],
+    first: &mut [u16; 17],
+    machine: &mut [u8; 1024],
+    left: &mut [u8; 1024],
+    entered: &mut [u8; 1024],
+    sent: &mut [u8; 1024],
+    taken: &mut [u8; 1024],
+    progress: &mut [bool; 1024],
+) -> Filled
+    requires { ⌜ Room (columns (now machine) (now left) (now entered) (now sent) (now taken) (now progress)) × (length (now states) ≡ 16) × (length (now first) ≡ 17) ⌝ }
+    ensures { λ r. ⌜ endFound (r .end) (plantOf (tableOf (r .types) (r .machines) (r .rows) (now (states .exit)) (now (first .exit)) (columns (now (machine .exit)) (now (left .exit)) (now (entered .exit)) (now (sent .exit)) (now (taken .exit)) (now (progress .exit))))) ≡ readPlant (now (file .entry)) ⌝ }
+    ensures { λ r. ⌜ Ready (tableOf (r .types) (r .machines) (r .rows) (now (states .exit)) (now (first .exit)) (columns (now (machine .exit)) (now (left .exit)) (now (entered .exit)) (now (sent .exit)) (now (taken .exit)) (now (progress .exit)))) ⌝ }
+{
+    let one = machines_byte(file, 0);
+    let machines = match one {
+        FieldStep::Value(field) => field,
+        FieldStep::Fault(fault) => return nothing_read(fault, first),
+    };
+    let two = types_byte(file, machines.next);
+    let types = match two {
+        FieldStep::Value(field) => field,
+        FieldStep::Fault(fault) => return nothing_read(fault, first),
+    };
+    let read = read_machines(
+        file,
+        machines.value as usize,
+        types.next,
+        types.value,
+        states,
+        first,
+        machine,
+        left,
+        entered,
+        sent,
+        taken,
+        progress,
+    );
+    let last = read.end;
+    fill_first(first, read.machines, read.rows);
+    let end = at_file_end(file, last);
+    Filled {
+        end,
+        types: types.value,
+        machines: read.machines,
+        rows: read.rows,
+    }
+}
+
+// The same as one value: the columns are locals, and the table is put together at the end.
+pub fn decode(file: &[u8]) -> Decoded
+    ensures { λ r. ⌜ decodedFound r ≡ readPlant (now (file .entry)) ⌝ }
     ensures { λ r. ⌜ Ready (r .table) ⌝ }
 {
     let mut states = [0; 16];
@@ -524,11 +567,8 @@ fn read_table(file: &[u8], n: usize, types: u8, from: usize) -> Decoded
     let mut sent = [0; 1024];
     let mut taken = [0; 1024];
     let mut progress = [false; 1024];
-    let read = read_machines(
+    let read = decode_columns(
         file,
-        n,
-        from,
-        types,
         &mut states,
         &mut first,
         &mut machine,
@@ -538,13 +578,11 @@ fn read_table(file: &[u8], n: usize, types: u8, from: usize) -> Decoded
         &mut taken,
         &mut progress,
     );
-    let last = read.end;
-    fill_first(&mut first, read.machines, read.rows);
-    let end = at_file_end(file, last);
+    let end = read.end;
     Decoded {
         end,
         table: PlantTable {
-            types,
+            types: read.types,
             machines: read.machines,
             rows: read.rows,
             states,
@@ -557,24 +595,6 @@ fn read_table(file: &[u8], n: usize, types: u8, from: usize) -> Decoded
             progress,
         },
     }
-}
-
-// The plant of a file, or the first fault, for the crates that work on plants.
-pub fn decode(file: &[u8]) -> Decoded
-    ensures { λ r. ⌜ decodedFound r ≡ readPlant (now (file .entry)) ⌝ }
-    ensures { λ r. ⌜ Ready (r .table) ⌝ }
-{
-    let first = machines_byte(file, 0);
-    let machines = match first {
-        FieldStep::Value(field) => field,
-        FieldStep::Fault(fault) => return refused(fault),
-    };
-    let second = types_byte(file, machines.next);
-    let types = match second {
-        FieldStep::Value(field) => field,
-        FieldStep::Fault(fault) => return refused(fault),
-    };
-    read_table(file, machines.value as usize, types.value, types.next)
 }
 
 // Where `n` rows of a machine end, in the part of the file that begins after its two bytes. No row is stored, so the machine's
