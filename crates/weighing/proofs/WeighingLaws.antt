@@ -22,7 +22,7 @@ use Rattle.livelock.proofs.Decision.{decision, not-both}
 use Rattle.livelock.proofs.Ceiling.{ceiling}
 use Rattle.plant.specs.Found.{Found, found, fault, andThen}
 use Rattle.plant.specs.Reading.{readPlant}
-use Rattle.plant.specs.Tables.{plantOf, endFound}
+use Rattle.plant.specs.Tables.{plantOf, endFound, Ready}
 use Rattle.plant.specs.Limits.{WithinLimits}
 use Rattle.plant.specs.declared.End.{End}
 use Rattle.plant.specs.declared.PlantTable.{PlantTable}
@@ -33,7 +33,7 @@ use Rattle.weighing.specs.Answers.{Answer, passed, cycle, refused, answe
 use Rattle.weighing.specs.Answers as Answers
 use Rattle.weighing.specs.Weighing.{firstAbove, checkedSizes, checkedWeights, judgedWeights, checkedRoom, checked, judged, Bounded}
 use Rattle.weighing.specs.Weighing.{OnPassing, OnFailing, Owed, for-fault, for-plant, OnPassingVerdict, OwedVerdict, verdict-for-fault, verdict-for-plant}
-use Rattle.weighing.specs.Inner.Checks.{WeightsChecked, RoomChecked, Machines, graphOf, PassingRows, FailingRows, FirstFailing, Weighable, ShownRows, Lent}
+use Rattle.weighing.specs.Inner.Checks.{WeightsChecked, RoomChecked, Machines, graphOf, PassingRows, FailingRows, FirstFailing, Weighable, ShownRows, Lent, Shows}
 use Rattle.weighing.specs.Inner.Edges.{Columns, columnsOf, Edges, Listed}
 use Rattle.weighing.specs.Inner.FigureSums.{FiguresOf}
 use Rattle.weighing.specs.Inner.Rounds.{EdgesIn, AllBelowZero, SomeZeroOrMore, Decided}
@@ -123,7 +123,7 @@ turn-states c first states given m within s n s-is n-is = (
 )
 
 -- Where machine m fails, there is a cycle for the search to find.
-pub search-begins : (c : Columns) (first states ws : List ℕ) → Machines c first states → (m : ℕ) (e : Edges) → FirstFailing c first states ws m e → m < length states
+search-begins : (c : Columns) (first states ws : List ℕ) → Machines c first states → (m : ℕ) (e : Edges) → FirstFailing c first states ws m e → m < length states
     → ((i : ℕ) → getD ws i 0 ≤ 65535) → (s : ℕ) → s ≡ getD states m 0 → EdgesIn s (e .count) (e .from) (e .to) (e .weight) × SomeZeroOrMore (graphOf e)
 search-begins c first states ws given m e failing within light s s-is =
     let x = failing .fails within in
@@ -151,24 +151,15 @@ module _ (t : PlantTable) (ws : List ℕ) (ok : Weighable t ws) where
     one-count-each : length states ≡ t .machines
     one-count-each = sym (ap length (lent .counts)) ∙ machines-are
 
-    -- The answers with the figures f: they are owed where the weights pass, and the bound holds.
+    -- The verdict with the figures f: it is owed where the weights pass, and the bound holds.
     module _ (f : Figures) (figures : FiguresOf states ws f) (p : Passes (plantOf t) ws) where
-      figures-are : {A : Type 0} (answer : ℕ → ℕ → ℕ → A) → answer (f .base) (f .«most_states») (f .«per_progress») ≡ answer (base (plantOf t) ws) (mostStates (plantOf t)) (perProgress (plantOf t) ws)
-      figures-are answer = let x = figures (plantOf t) (lent .counts) (sym (ok .one-each)) in rw (x .0, x .1, x .2)
-
-      bounded : Bounded (plantOf t) ws
-      bounded = ceiling (plantOf t) (ok .limits .formed) ws p
-
-      pub passing-owed : (before : List ℕ) (end : ℕ) → Owed ws before before (passed (f .base) (f .«most_states») (f .«per_progress»)) (found (plantOf t) end)
-      passing-owed before end =
-          for-plant
-          (λ q. record { figures = figures-are passed; whole-kept = refl; bounded = bounded })
-          (λ q. absurd (q p))
+      figures-are : Answers.passing (f .base) (f .«most_states») (f .«per_progress») ≡ Answers.passing (base (plantOf t) ws) (mostStates (plantOf t)) (perProgress (plantOf t) ws)
+      figures-are = let x = figures (plantOf t) (lent .counts) (sym (ok .one-each)) in rw (x .0, x .1, x .2)
 
       pub passing-verdict : (end : ℕ) → OwedVerdict ws (Answers.passing (f .base) (f .«most_states») (f .«per_progress»)) (found (plantOf t) end)
       passing-verdict end =
           verdict-for-plant
-          (λ q. record { figures = figures-are Answers.passing; bounded = bounded })
+          (λ q. record { figures = figures-are; bounded = ceiling (plantOf t) (ok .limits .formed) ws p })
           (λ q. absurd (q p))
 
     -- Machine m is the first that fails, and e are its edges.
@@ -209,7 +200,7 @@ module _ (t : PlantTable) (ws : List ℕ) (ok : Weighable t ws) where
         failing-verdict end = verdict-for-plant (λ p. absurd (one-fails p)) (λ q. refl)
 
         -- and the cycle that is shown is owed.
-        pub failing-owed : (s : ℕ) → s ≡ getD states m 0 → (k : ℕ) (before after : List ℕ) → ShownRows (graphOf e) s (e .row) k before after
+        failing-owed : (s : ℕ) → s ≡ getD states m 0 → (k : ℕ) (before after : List ℕ) → ShownRows (graphOf e) s (e .row) k before after
             → (end : ℕ) → Owed ws before after (cycle k) (found (plantOf t) end)
         failing-owed s s-is k before after x end =
             let w = x .written in
@@ -225,6 +216,13 @@ module _ (t : PlantTable) (ws : List ℕ) (ok : Weighable t ws) where
               count = ap cycle (sym long);
               shown = subst (λ (i : ℕ). after ≡ rows ++ drop i before) (sym long) (w .shown);
             })
+
+        -- So the search can begin with the edges.
+        pub failing-shows : Machines c first states → ((i : ℕ) → getD ws i 0 ≤ 65535) → (s : ℕ) → s ≡ getD states m 0
+            → (end : ℕ) → Shows ws (e .from) (e .to) (e .weight) (e .row) (e .count) s (found (plantOf t) end)
+        failing-shows given light s s-is end =
+            let begins = search-begins c first states ws given m e failing within light s s-is in
+            record { edges-in = begins .0; zero-or-more = begins .1; owed = λ k before after x. failing-owed s s-is k before after x end }
 
 -- ---- the checks
 
@@ -279,6 +277,10 @@ owed-same ws before after a x y e h = subst (Owed ws before after a) e h
 pub verdict-refusal : (ws : List ℕ) (number place : ℕ) (x : Found Plant) → fault number place ≡ x → OwedVerdict ws (Answers.refusing number place) x
 verdict-refusal ws number place x e = subst (OwedVerdict ws (Answers.refusing number place)) e (verdict-for-fault refl)
 
+-- What a verdict owes, that which equals it owes.
+pub verdict-told : {ws : List ℕ} {v w : Verdict} {x : Found Plant} → v ≡ w → OwedVerdict ws (judgementOf v) x → OwedVerdict ws (judgementOf w) x
+verdict-told {ws} {x = x} e h = subst (λ (u : Verdict). OwedVerdict ws (judgementOf u) x) e h
+
 -- What is read first, what follows it, and what follows that.
 pub then-then : (x : Found Plant) (k l : Plant → ℕ → Found Plant) → andThen (andThen x k) l ≡ andThen x (λ P end. andThen (k P end) l)
 then-then (found P end) k l = refl
@@ -289,20 +291,23 @@ judged-room : (file ws : List ℕ) (room : ℕ) → andThen (judgedWeights file 
 unfolding checked
 judged-room file ws room = then-then (readPlant file) (checkedWeights ws) (checkedRoom room)
 
+-- A list of 64 is long enough.
+pub judged-64 : (file ws : List ℕ) → judged file ws 64 ≡ judgedWeights file ws
+judged-64 file ws = sym (accept-room 64 (judgedWeights file ws) (omega arith) ∙ judged-room file ws 64)
+
 -- A file that reads as P has P checked.
 pub judged-plant : (file ws : List ℕ) (room : ℕ) (P : Plant) (end : ℕ) → readPlant file ≡ found P end → checked ws room P end ≡ judged file ws room
 judged-plant file ws room P end e = rw e
 
--- A table that reading the file gave, and where it ended.
-module _ (file ws : List ℕ) (t : PlantTable) (read : End) (reads : endFound read (plantOf t) ≡ readPlant file) (weighed : End) (types : ℕ)
-    (weights : WeightsChecked types ws read weighed) (types-are : t .types ≡ types) where
-  -- After the checks of the weights it is as judged,
-  pub weights-judged : endFound weighed (plantOf t) ≡ judgedWeights file ws
-  weights-judged = weights (plantOf t) types-are ∙ ap (λ (x : Found Plant). andThen x (checkedWeights ws)) reads
-
-  -- and so it is after that of the lent list.
-  pub room-judged : (room : ℕ) (end : End) → RoomChecked room weighed end → endFound end (plantOf t) ≡ judged file ws room
-  room-judged room end h = h (plantOf t) ∙ (ap (λ (x : Found Plant). andThen x (checkedRoom room)) weights-judged ∙ judged-room file ws room)
+-- A table that reading the file gave, where it ended, and where the checks of the weights and of the lent list ended: so it is judged.
+pub checks-judged : {t : PlantTable} → Ready t → (file ws : List ℕ) (read : End) → endFound read (plantOf t) ≡ readPlant file
+    → (weighed : End) (types : ℕ) → WeightsChecked types ws read weighed → t .types ≡ types
+    → (room : ℕ) (end : End) → RoomChecked room weighed end → (told-end : End) → end ≡ told-end → endFound told-end (plantOf t) ≡ judged file ws room
+checks-judged {t} ready file ws read reads weighed types weights types-are room end in-room told-end e =
+    ap (λ (x : End). endFound x (plantOf t)) (sym e)
+    ∙ in-room (plantOf t)
+    ∙ ap (λ (x : Found Plant). andThen x (checkedRoom room)) (weights (plantOf t) types-are ∙ ap (λ (x : Found Plant). andThen x (checkedWeights ws)) reads)
+    ∙ judged-room file ws room
 
 -- ---- what the answer says
 
@@ -400,6 +405,12 @@ judged-good file ws room P end e =
     let y = room-good room (x .0) P (x .1) end (x .3) in
     (subst (λ (z : Plant). WithinLimits z × Good ws z z) (y .0) (judged-weights file ws (x .0) (x .1) (x .2)), y .1)
 
+-- So the table that holds it can be weighed.
+pub judged-weighable : {t : PlantTable} → Ready t → (file ws : List ℕ) (room end : ℕ) → found (plantOf t) end ≡ judged file ws room → Weighable t ws
+judged-weighable ready file ws room end e =
+    let good = judged-good file ws room _ end (sym e) .0 in
+    record { ready = ready; limits = good .0; one-each = good .1 .one-each }
+
 -- The limits alone.
 pub judged-limits : (file ws : List ℕ) (room : ℕ) (P : Plant) (end : ℕ) → judged file ws room ≡ found P end → WithinLimits P
 judged-limits file ws room P end e = judged-good file ws room P end e .0 .0
@@ -472,6 +483,14 @@ kindOfVerdict (Answers.passing F n G) = 0
 kindOfVerdict Answers.failing = 1
 kindOfVerdict (Answers.refusing number place) = 2
 
+-- Figures are another verdict than that the weights do not pass,
+pub passing-other : {A : Type 0} {F n G : ℕ} → Answers.passing F n G ≡ Answers.failing → A
+passing-other e = absurd (omega (arith, ap kindOfVerdict e))
+
+-- and so is a refusal.
+pub refusing-other : {A : Type 0} {number place : ℕ} → Answers.refusing number place ≡ Answers.failing → A
+refusing-other e = absurd (omega (arith, ap kindOfVerdict e))
+
 -- A refusal is owed for that fault alone,
 pub verdict-refused : {ws : List ℕ} {number place : ℕ} (x : Found Plant) → OwedVerdict ws (Answers.refusing number place) x → fault number place ≡ x
 verdict-refused (fault n q) (verdict-for-fault h) = cc
@@ -492,6 +511,21 @@ verdict-passes {ws} {F} {n} {G} (found P end) formed (verdict-for-plant passes f
         → (Q : Plant) × (k : ℕ) × (found P end ≡ found Q k) × Passes Q ws × OnPassingVerdict Q ws (Answers.passing F n G)
     go (inl p) = (P, end, refl, p, passes p)
     go (inr x) = absurd (omega (arith, ap kindOfVerdict (fails (λ p. not-both P ws (x .0) p (x .1)))))
+
+-- So where figures are the verdict, weighing owes them too, with the list kept,
+pub verdict-owed : {ws : List ℕ} {F n G : ℕ} (before : List ℕ) (x : Found Plant) → OwedVerdict ws (Answers.passing F n G) x → Owed ws before before (passed F n G) x
+verdict-owed before (fault n q) (verdict-for-fault h) = absurd (omega (arith, ap kindOfVerdict h))
+verdict-owed before (found P end) (verdict-for-plant passes fails) =
+    for-plant
+    (λ p. let h = passes p in record { figures = passing-is (h .figures); whole-kept = refl; bounded = h .bounded })
+    (λ q. absurd (omega (arith, ap kindOfVerdict (fails q))))
+  where
+    passing-is : {F n G F′ n′ G′ : ℕ} → Answers.passing F n G ≡ Answers.passing F′ n′ G′ → passed F n G ≡ passed F′ n′ G′
+    passing-is e = cc
+
+-- and where the weights fail, the list was long enough.
+pub verdict-room : (file ws : List ℕ) (room : ℕ) → OwedVerdict ws Answers.failing (judged file ws room) → 64 ≤ room
+verdict-room file ws room v = let x = verdict-fails (judged file ws room) v in judged-good file ws room (x .0) (x .1) (x .2) .1
 
 -- Different verdicts never mean the same.
 pub verdicts-differ : (a b : Verdict) → judgementOf a ≡ judgementOf b → a ≡ b

@@ -5,7 +5,7 @@ ghost use lib.ListN.{length};
 ghost use Rattle.weighing.specs.Answers.{answerOf, judgementOf};
 ghost use Rattle.weighing.specs.Weighing.{firstAbove, judgedWeights, judged, Owed, OwedVerdict};
 ghost use Rattle.weighing.specs.Inner.Edges.{Room};
-ghost use Rattle.weighing.specs.Inner.Checks.{WeightsChecked, RoomChecked, Machines, FirstFailing, OwedFor, OwedVerdictFor};
+ghost use Rattle.weighing.specs.Inner.Checks.{WeightsChecked, RoomChecked, Machines, FirstFailing, OwedJudged, JudgedFor};
 use plant::End;
 use plant::Fault;
 
@@ -44,6 +44,24 @@ pub enum Verdict {
 struct Failing {
     machine: usize,
     count: usize,
+}
+
+// A verdict. Where the weights do not pass: how many edges the first machine has that fails, and how many states.
+struct Judged {
+    verdict: Verdict,
+    count: usize,
+    states: usize,
+}
+
+// A verdict that no machine fails.
+fn without_edges(verdict: Verdict) -> Judged
+    ensures { λ r. ⌜ r ≡ record { verdict = verdict; count = 0; states = 0 } ⌝ }
+{
+    Judged {
+        verdict,
+        count: 0,
+        states: 0,
+    }
 }
 
 // The index of the first weight above 1,000, or the length if none is.
@@ -147,56 +165,7 @@ fn first_failing<'a>(
     Failing { machine: m, count }
 }
 
-// Weighs the machines of lent columns; the first that fails shows its cycle.
-fn weigh_columns<'a>(
-    left: &'a [u8; 1024],
-    entered: &'a [u8; 1024],
-    sent: &'a [u8; 1024],
-    taken: &'a [u8; 1024],
-    progress: &'a [bool; 1024],
-    first: &'a [u16; 17],
-    states: &[u8],
-    weights: &[u16],
-    cycle: &mut [u16],
-) -> Weighed
-    requires { ⌜ Machines (record { left = now left; entered = now entered; sent = now sent; taken = now taken; progress = now progress }) (now first) (now states) × (1 ≤ length (now states)) × (64 ≤ length (now cycle)) ⌝ }
-    ensures { λ r. ⌜ OwedFor (record { left = now (left .entry); entered = now (entered .entry); sent = now (sent .entry); taken = now (taken .entry); progress = now (progress .entry) }) (now (first .entry)) (now (states .entry)) (now (weights .entry)) (now (cycle .entry)) (now (cycle .exit)) r ⌝ }
-{
-    let machines = states.len();
-    let mut from = [0; 256];
-    let mut to = [0; 256];
-    let mut weight = [0; 256];
-    let mut row = [0; 256];
-    let failing = first_failing(
-        left,
-        entered,
-        sent,
-        taken,
-        progress,
-        first,
-        states,
-        weights,
-        &mut from,
-        &mut to,
-        &mut weight,
-        &mut row,
-    );
-    let m = failing.machine;
-    if m < machines {
-        let count = failing.count;
-        let own = casts::wide(states[m]);
-        let rows = searching::show(&from, &to, &weight, &row, count, own, cycle);
-        return Weighed::Cycle { rows };
-    }
-    let f = figures::figures_of(states, weights);
-    Weighed::Passed {
-        base: f.base,
-        states: f.most_states,
-        progress: f.per_progress,
-    }
-}
-
-// Decides whether the weights pass the machines of lent columns.
+// Decides whether the weights pass the machines of lent columns. Where they do not, the edges of the first machine that fails stay in the lists.
 fn judge_columns<'a>(
     left: &'a [u8; 1024],
     entered: &'a [u8; 1024],
@@ -206,15 +175,15 @@ fn judge_columns<'a>(
     first: &'a [u16; 17],
     states: &[u8],
     weights: &[u16],
-) -> Verdict
-    requires { ⌜ Machines (record { left = now left; entered = now entered; sent = now sent; taken = now taken; progress = now progress }) (now first) (now states) × (1 ≤ length (now states)) ⌝ }
-    ensures { λ r. ⌜ OwedVerdictFor (record { left = now (left .entry); entered = now (entered .entry); sent = now (sent .entry); taken = now (taken .entry); progress = now (progress .entry) }) (now (first .entry)) (now (states .entry)) (now (weights .entry)) r ⌝ }
+    from: &mut [u8; 256],
+    to: &mut [u8; 256],
+    weight: &mut [i64; 256],
+    row: &mut [u16; 256],
+) -> Judged
+    requires { ⌜ Machines (record { left = now left; entered = now entered; sent = now sent; taken = now taken; progress = now progress }) (now first) (now states) × (1 ≤ length (now states)) × Room (now from) (now to) (now weight) (now row) ⌝ }
+    ensures { λ r. ⌜ JudgedFor (record { left = now (left .entry); entered = now (entered .entry); sent = now (sent .entry); taken = now (taken .entry); progress = now (progress .entry) }) (now (first .entry)) (now (states .entry)) (now (weights .entry)) (now (from .exit)) (now (to .exit)) (now (weight .exit)) (now (row .exit)) r ⌝ }
 {
     let machines = states.len();
-    let mut from = [0; 256];
-    let mut to = [0; 256];
-    let mut weight = [0; 256];
-    let mut row = [0; 256];
     let failing = first_failing(
         left,
         entered,
@@ -224,19 +193,78 @@ fn judge_columns<'a>(
         first,
         states,
         weights,
-        &mut from,
-        &mut to,
-        &mut weight,
-        &mut row,
+        from,
+        to,
+        weight,
+        row,
     );
-    if failing.machine < machines {
-        return Verdict::Fails;
+    let m = failing.machine;
+    if m < machines {
+        return Judged {
+            verdict: Verdict::Fails,
+            count: failing.count,
+            states: casts::wide(states[m]),
+        };
     }
     let figures = figures::figures_of(states, weights);
-    Verdict::Passes {
+    let verdict = Verdict::Passes {
         base: figures.base,
         states: figures.most_states,
         progress: figures.per_progress,
+    };
+    without_edges(verdict)
+}
+
+// Reads a file, makes the checks 9 to 11 and decides. The columns are locals of this function, and lent.
+fn judge_file(
+    file: &[u8],
+    weights: &[u16],
+    room: usize,
+    from: &mut [u8; 256],
+    to: &mut [u8; 256],
+    weight: &mut [i64; 256],
+    row: &mut [u16; 256],
+) -> Judged
+    requires { ⌜ Room (now from) (now to) (now weight) (now row) ⌝ }
+    ensures { λ r. ⌜ OwedJudged (now (weights .entry)) (now (from .exit)) (now (to .exit)) (now (weight .exit)) (now (row .exit)) r (judged (now (file .entry)) (now (weights .entry)) room) ⌝ }
+{
+    let mut states = [0; 16];
+    let mut first = [0; 17];
+    let mut machine = [0; 1024];
+    let mut left = [0; 1024];
+    let mut entered = [0; 1024];
+    let mut sent = [0; 1024];
+    let mut taken = [0; 1024];
+    let mut progress = [false; 1024];
+    let filled = plant::decode_columns(
+        file,
+        &mut states,
+        &mut first,
+        &mut machine,
+        &mut left,
+        &mut entered,
+        &mut sent,
+        &mut taken,
+        &mut progress,
+    );
+    let read = filled.end;
+    let end = check_room(check_weights(read, filled.types as usize, weights), room);
+    match end {
+        End::Fault(fault) => without_edges(Verdict::Refused(fault)),
+        End::At(_) => judge_columns(
+            &left,
+            &entered,
+            &sent,
+            &taken,
+            &progress,
+            &first,
+            &states[..filled.machines],
+            weights,
+            from,
+            to,
+            weight,
+            row,
+        ),
     }
 }
 
@@ -244,53 +272,48 @@ fn judge_columns<'a>(
 pub fn weigh(file: &[u8], weights: &[u16], cycle: &mut [u16]) -> Weighed
     ensures { λ r. ⌜ Owed (now (weights .entry)) (now (cycle .entry)) (now (cycle .exit)) (answerOf r) (judged (now (file .entry)) (now (weights .entry)) (length (now (cycle .entry)))) ⌝ }
 {
-    let decoded = plant::decode(file);
-    let read = decoded.end;
-    let types = decoded.table.types as usize;
-    let end = check_room(check_weights(read, types, weights), cycle.len());
-    match end {
-        End::Fault(fault) => Weighed::Refused(fault),
-        End::At(_) => {
-            let machines = decoded.table.machines;
-            let states = decoded.table.states;
-            weigh_columns(
-                &decoded.table.left,
-                &decoded.table.entered,
-                &decoded.table.sent,
-                &decoded.table.taken,
-                &decoded.table.progress,
-                &decoded.table.first,
-                &states[..machines],
-                weights,
-                cycle,
-            )
+    let mut from = [0; 256];
+    let mut to = [0; 256];
+    let mut weight = [0; 256];
+    let mut row = [0; 256];
+    let judged = judge_file(
+        file,
+        weights,
+        cycle.len(),
+        &mut from,
+        &mut to,
+        &mut weight,
+        &mut row,
+    );
+    let verdict = judged.verdict;
+    match verdict {
+        Verdict::Passes {
+            base,
+            states,
+            progress,
+        } => Weighed::Passed {
+            base,
+            states,
+            progress,
+        },
+        Verdict::Fails => {
+            let count = judged.count;
+            let own = judged.states;
+            let rows = searching::show(&from, &to, &weight, &row, count, own, cycle);
+            Weighed::Cycle { rows }
         }
+        Verdict::Refused(fault) => Weighed::Refused(fault),
     }
 }
 
-// The same without a cycle to show: where the weights do not pass, deciding is a small part of the work.
+// The same without a cycle to show: where the weights do not pass, deciding is a small part of the work. There is no lent list, so that check 11 finds nothing.
 pub fn judge(file: &[u8], weights: &[u16]) -> Verdict
     ensures { λ r. ⌜ OwedVerdict (now (weights .entry)) (judgementOf r) (judgedWeights (now (file .entry)) (now (weights .entry))) ⌝ }
 {
-    let decoded = plant::decode(file);
-    let read = decoded.end;
-    let types = decoded.table.types as usize;
-    let end = check_weights(read, types, weights);
-    match end {
-        End::Fault(fault) => Verdict::Refused(fault),
-        End::At(_) => {
-            let machines = decoded.table.machines;
-            let states = decoded.table.states;
-            judge_columns(
-                &decoded.table.left,
-                &decoded.table.entered,
-                &decoded.table.sent,
-                &decoded.table.taken,
-                &decoded.table.progress,
-                &decoded.table.first,
-                &states[..machines],
-                weights,
-            )
-        }
-    }
+    let mut from = [0; 256];
+    let mut to = [0; 256];
+    let mut weight = [0; 256];
+    let mut row = [0; 256];
+    let judged = judge_file(file, weights, 64, &mut from, &mut to, &mut weight, &mut row);
+    judged.verdict
 }

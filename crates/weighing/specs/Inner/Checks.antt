@@ -3,20 +3,20 @@ use mathlib.Core.Path.{_≡_}
 use mathlib.Core.List.{List}
 use Prim.Native.Nat.{ℕ, _+_, _≤_, _<_}
 use lib.ListN.{length, getD, take}
+use lib.IntN.{ℤ}
 use Rattle.livelock.specs.Plants.{Plant}
 use Rattle.livelock.proofs.Graphs.{Graph}
 use Rattle.plant.specs.Tables.{plantOf, endFound, Ready}
 use Rattle.plant.specs.Limits.{WithinLimits}
-use Rattle.plant.specs.Found.{found, andThen}
+use Rattle.plant.specs.Found.{Found, found, andThen}
 use Rattle.plant.specs.declared.End.{End}
 use Rattle.plant.specs.declared.PlantTable.{PlantTable}
-use Rattle.weighing.specs.Answers.{answerOf, judgementOf}
+use Rattle.weighing.specs.Answers.{cycle, failing, judgementOf}
 use Rattle.weighing.specs.Weighing.{checkedWeights, checkedRoom, Owed, OwedVerdict}
 use Rattle.weighing.specs.Inner.Edges.{Columns, columnsOf, Edges, Listed}
-use Rattle.weighing.specs.Inner.Rounds.{edgeGraph, AllBelowZero, SomeZeroOrMore}
+use Rattle.weighing.specs.Inner.Rounds.{edgeGraph, EdgesIn, AllBelowZero, SomeZeroOrMore}
 use Rattle.weighing.specs.Inner.Searches.{Written}
-use Rattle.weighing.specs.declared.Weighed.{Weighed}
-use Rattle.weighing.specs.declared.Verdict.{Verdict}
+use Rattle.weighing.specs.declared.Judged.{Judged}
 
 -- For every plant with so many types: where reading ended, the checks 9 and 10 follow.
 abbrev pub WeightsChecked : ℕ → List ℕ → End → End → Type 0
@@ -80,10 +80,18 @@ pub record Lent (t : PlantTable) (c : Columns) (first states : List ℕ) : Type 
   pub first-rows : t .first ≡ first
   pub counts : take (t .machines) (t .states) ≡ states
 
--- What is owed for the plant of every table of which these are lent, wherever its file ended,
-abbrev pub OwedFor : Columns → List ℕ → List ℕ → List ℕ → List ℕ → List ℕ → Weighed → Type 0
-OwedFor c first states ws before after r = (t : PlantTable) → Weighable t ws → Lent t c first states → (end : ℕ) → Owed ws before after (answerOf r) (found (plantOf t) end)
+-- The edges of a machine with a cycle that weighs zero or more: the search can begin, and whatever rows it shows are owed.
+pub record Shows (ws from to : List ℕ) (weight : List ℤ) (row : List ℕ) (count states : ℕ) (x : Found Plant) : Type 0 where
+  pub edges-in : EdgesIn states count from to weight
+  pub zero-or-more : SomeZeroOrMore (edgeGraph count from to weight)
+  pub owed : (k : ℕ) (before after : List ℕ) → ShownRows (edgeGraph count from to weight) states row k before after → Owed ws before after (cycle k) x
 
--- and what a verdict owes.
-abbrev pub OwedVerdictFor : Columns → List ℕ → List ℕ → List ℕ → Verdict → Type 0
-OwedVerdictFor c first states ws r = (t : PlantTable) → Weighable t ws → Lent t c first states → (end : ℕ) → OwedVerdict ws (judgementOf r) (found (plantOf t) end)
+-- The verdict is owed; if it is that the weights do not pass, the edges that were left are those of such a machine.
+pub record OwedJudged (ws from to : List ℕ) (weight : List ℤ) (row : List ℕ) (r : Judged) (x : Found Plant) : Type 0 where
+  pub verdict : OwedVerdict ws (judgementOf (r .verdict)) x
+  pub shows : judgementOf (r .verdict) ≡ failing → Shows ws from to weight row (r .count) (r .states) x
+
+-- So it is for the plant of every table of which these columns are lent, wherever its file ended.
+abbrev pub JudgedFor : Columns → (first states ws from to : List ℕ) → List ℤ → List ℕ → Judged → Type 0
+JudgedFor c first states ws from to weight row r =
+    (t : PlantTable) → Weighable t ws → Lent t c first states → (end : ℕ) → OwedJudged ws from to weight row r (found (plantOf t) end)
