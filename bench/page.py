@@ -9,12 +9,12 @@ CAUSES = [
     ('read', 'Reading',
      'Nothing is stored, and on the largest file the call executes as many instructions as the peer, within a hundredth (callgrind).'),
     ('weigh-a', 'Weighing small plants',
-     'A plant of 20 bytes is weighed in the time that its arrays take: 9 KB are cleared, where a cycle is shown 14 KB, and the six columns, local arrays of the reader, are copied once, 6 KB, into '
-     'the table that is handed back (`memset` and `memcpy` of 0x400 bytes in `plant::decode`). C with the same arrays, cleared, and without the copy: see the next table.'),
+     'A plant of 20 bytes is weighed in the time that it takes to clear its arrays: 10 KB, and 5 KB more where a cycle is shown. They have room for the limits, and a call does not '
+     'know what it will need before it has read the file. C with the same arrays, cleared: see the next table.'),
     ('weigh', 'Weighing', DECIDING),
     ('quote-fails', 'Quoting weights that do not pass', 'All the work is deciding. ' + DECIDING),
     ('quote-a', 'Quoting for small plants',
-     'As for weighing: the arrays. Besides, the price class compares edge after edge of the constant table that document 01 asks for, where the peer counts leading zeros.'),
+     'As for weighing: the arrays are cleared. Besides, the price class compares edge after edge of the constant table that document 01 asks for, where the peer counts leading zeros.'),
     ('quote', 'Quoting', 'Quoting is deciding and a few sums; what deciding loses, quoting loses.'),
     ('list', 'Listing',
      'Each row of a path is a call with 13 arguments, since columns are lent one by one; the peer keeps what does not change in one struct.'),

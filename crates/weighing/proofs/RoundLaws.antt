@@ -11,7 +11,7 @@ use lib.Dec.{ltb}
 use lib.ListN.{length, length-set, getD, set}
 use lib.Seq.{getD-set-same, getD-set-other}
 use lib.IntN.{ℤ, pos}
-use borrow.Author.Tests.{eq-eqb, ne-eqb, ltb-true, ltb-false}
+use borrow.Author.Tests.{ne-eqb, ltb-true, ltb-false}
 use Rattle.livelock.specs.Lists.{below, greatest}
 use Rattle.livelock.proofs.ListLaws.{all-below}
 use Rattle.livelock.proofs.SumLaws.{greatest-next, greatest-bound}

@@ -17,7 +17,7 @@ use mir.Syntax.{w64}
 use mir.Val.{SFits, toZ, ofZ}
 use mir.Facts.{toZ-ofZ}
 use borrow.Author.Tests.{eq-eqb, ne-eqb, eqb-true}
-use Rattle.livelock.specs.Lists.{below, sum, greatest, All, Distinct}
+use Rattle.livelock.specs.Lists.{below, sum, All, Distinct}
 use Rattle.livelock.specs.Cycles.{Walk}
 use Rattle.livelock.proofs.ListLaws.{all-append, all-front, all-back, all-below, all-weaken}
 use Rattle.livelock.proofs.SumLaws.{sum-append, greatest-bound, greatest-attained, greatest-equal, greatest-below}

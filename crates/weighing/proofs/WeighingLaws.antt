@@ -31,7 +31,7 @@ use Rattle.plant.proofs.OneToOne.{same-fault}
 use Rattle.plant.proofs.TableLaws.{machines-counted}
 use Rattle.weighing.specs.Answers.{Answer, passed, cycle, refused, answerOf, Judgement, judgementOf}
 use Rattle.weighing.specs.Answers as Answers
-use Rattle.weighing.specs.Weighing.{firstAbove, checkedSizes, checkedWeights, judgedWeights, checkedRoom, checked, judged, Bounded}
+use Rattle.weighing.specs.Weighing.{firstAbove, checkedSizes, checkedWeights, judgedWeights, checkedRoom, checked, judged}
 use Rattle.weighing.specs.Weighing.{OnPassing, OnFailing, Owed, for-fault, for-plant, OnPassingVerdict, OwedVerdict, verdict-for-fault, verdict-for-plant}
 use Rattle.weighing.specs.Inner.Checks.{WeightsChecked, RoomChecked, Machines, graphOf, PassingRows, FailingRows, FirstFailing, Weighable, ShownRows, Lent, Shows}
 use Rattle.weighing.specs.Inner.Edges.{Columns, columnsOf, Edges, Listed}

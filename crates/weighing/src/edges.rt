@@ -33,13 +33,12 @@ fn one_if_quiet(progress: bool) -> usize
 
 // Lists the quiet rows from `low` up to, and not including, `high`, and hands back how many they are: edge i leads from state from[i] to state to[i],
 // weighs weight[i] and is row row[i]. Each row is stored; only a quiet one is counted, so that the next takes its place otherwise.
-// One lifetime for all columns, so that a caller can lend the fields of one table.
-pub fn edges_of<'a>(
-    left: &'a [u8; 1024],
-    entered: &'a [u8; 1024],
-    sent: &'a [u8; 1024],
-    taken: &'a [u8; 1024],
-    progress: &'a [bool; 1024],
+pub fn edges_of(
+    left: &[u8; 1024],
+    entered: &[u8; 1024],
+    sent: &[u8; 1024],
+    taken: &[u8; 1024],
+    progress: &[bool; 1024],
     low: usize,
     high: usize,
     weights: &[u16],

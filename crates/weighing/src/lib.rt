@@ -120,13 +120,13 @@ fn check_room(end: End, room: usize) -> End
 }
 
 // Lists the quiet rows of one machine after the other, up to the first machine with a cycle that weighs zero or more; its edges stay in the lists.
-fn first_failing<'a>(
-    left: &'a [u8; 1024],
-    entered: &'a [u8; 1024],
-    sent: &'a [u8; 1024],
-    taken: &'a [u8; 1024],
-    progress: &'a [bool; 1024],
-    first: &'a [u16; 17],
+fn first_failing(
+    left: &[u8; 1024],
+    entered: &[u8; 1024],
+    sent: &[u8; 1024],
+    taken: &[u8; 1024],
+    progress: &[bool; 1024],
+    first: &[u16; 17],
     states: &[u8],
     weights: &[u16],
     from: &mut [u8; 256],
@@ -166,13 +166,13 @@ fn first_failing<'a>(
 }
 
 // Decides whether the weights pass the machines of lent columns. Where they do not, the edges of the first machine that fails stay in the lists.
-fn judge_columns<'a>(
-    left: &'a [u8; 1024],
-    entered: &'a [u8; 1024],
-    sent: &'a [u8; 1024],
-    taken: &'a [u8; 1024],
-    progress: &'a [bool; 1024],
-    first: &'a [u16; 17],
+fn judge_columns(
+    left: &[u8; 1024],
+    entered: &[u8; 1024],
+    sent: &[u8; 1024],
+    taken: &[u8; 1024],
+    progress: &[bool; 1024],
+    first: &[u16; 17],
     states: &[u8],
     weights: &[u16],
     from: &mut [u8; 256],

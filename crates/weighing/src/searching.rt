@@ -121,9 +121,10 @@ fn least_from(
     limit + 1
 }
 
-pub struct Start {
-    pub start: usize,
-    pub length: usize,
+// A state, and how many edges a closed walk from it has.
+struct Start {
+    start: usize,
+    length: usize,
 }
 
 // Where such a walk with the fewest edges begins, and how many it has.

@@ -5,8 +5,8 @@ use mathlib.Core.List.{List}
 use Prim.Native.Nat.{ℕ, _+_, _*_, _≤_, _<_}
 use lib.ListN.{length, getD}
 use lib.IntN.{ℤ, pos}
-use Rattle.livelock.specs.Lists.{below, sum, greatest}
-use Rattle.livelock.proofs.Graphs.{Graph, Cycle, via}
+use Rattle.livelock.specs.Lists.{sum}
+use Rattle.livelock.proofs.Graphs.{Graph, Cycle}
 use Rattle.livelock.proofs.Rounds.{WalkLength}
 use Rattle.weighing.specs.Inner.Signs.{rise, fall}
 

@@ -1,10 +1,9 @@
 -- `show` meets its contract: after i turns the rows of a walk of i edges from the start are written, and a heaviest walk leads on from its end.
 use borrow.Author.Needs.{needs}
-use mathlib.Core.Path.{_≡_, sym, subst}
-use Prim.Native.Nat.{ℕ, _+_, _-_, _*_, _≤_, _<_}
+use Prim.Native.Nat.{_+_, _-_, _*_, _≤_, _<_}
 use native.Mathlib.Omega.{arith}
 use Rattle.weighing.specs.Inner.Rounds.{edgeGraph}
-use Rattle.weighing.specs.Inner.Searches.{Least, FirstEdge, entry}
+use Rattle.weighing.specs.Inner.Searches.{Least, FirstEdge}
 use Rattle.weighing.proofs.SearchLaws.{edges-searchable, least-again, Walking, walk-begins, walk-in, walk-leads, walk-goes-on, walk-ends}
 use Rattle.weighing.proofs.searching.show.Statement.{statement}
 use Rattle.weighing.proofs.searching.show.Tie as tie
