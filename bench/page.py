@@ -177,7 +177,7 @@ The stack was painted, the call was run on it, and the deepest byte that changed
 
 {stack}
 
-The frame of `plant::decode` has 6.3 KB, the columns of the table, and the table that it hands back is 6.2 KB of its caller's. `list` and `confirm` pass the table by value, which copies it.
+`weigh` and `quote` have the columns of the plant, 6.2 KB, in the frame of `judge_file`, and the edges of a machine, 3 KB, in their own; to show a cycle takes 5 KB more. `list` and `confirm` have the columns and the table that is put together of them, and hand the table on by value, which copies it.
 
 {sizes}
 """
