@@ -115,6 +115,7 @@ module _ (count states : ℕ) (from to : List ℕ) (weight : List ℤ) (ok : Edg
     unfolding via
     via-elsewhere s q = rw (ne-eqb a s (λ p. q (sym p)))
 
+    -- The greatest number over the edges up to this one.
     more : (s : ℕ) → greatest (via g (entry before old) s) (below (i + 1)) ≡ max (greatest (via g (entry before old) s) (below i)) (via g (entry before old) s i)
     more s = rw (add-one i) (greatest-next (via g (entry before old) s) i)
 
@@ -136,7 +137,9 @@ module _ (count states : ℕ) (from to : List ℕ) (weight : List ℤ) (ok : Edg
         go s l (yes e) = rw e (omega (arith, r .relaxed a (ok .from-in i there), more a, via-here, ltb-false (entry after new a) along test))
         go s l (no e) = omega (arith, r .relaxed s l, more s, via-elsewhere s e)
 
-    -- or it does, and is noted.
+    -- or it does: then v is stored for the state a that it leaves, and the edge is noted there. Nothing else changes: the old table has no place in
+    -- common with the new one, another state keeps its number and its note, and from there this edge leads nowhere. At a the number of this edge is now
+    -- the greatest, for it is above that of the edges before.
     module _ (v : ℕ) (is-raised : v ≡ max (entry after new (getD from i 0)) ((rise (getD weight i (pos 0)) + entry after old (getD to i 0)) - fall (getD weight i (pos 0))))
         (test : ltb (entry after new (getD from i 0)) ((rise (getD weight i (pos 0)) + entry after old (getD to i 0)) - fall (getD weight i (pos 0))) ≡ true)
         (room : length before ≡ 128) (edge-room : length edges-before ≡ 4096) (few : k < 64) where
@@ -146,21 +149,27 @@ module _ (count states : ℕ) (from to : List ℕ) (weight : List ℤ) (ok : Edg
       abbrev noted : List ℕ
       noted = set edges (k * 64 + a) i
 
+      -- The state has an entry,
       a-in : a < states
       a-in = ok .from-in i there
 
+      -- which is the number of this edge,
       at-a : entry walks new a ≡ along
       at-a = getD-set-same after (new + a) v 0 (omega (arith, r .same-length, a-in, ok .states-in, halves-in halves .1)) ∙ omega (arith, is-raised, ltb-true (entry after new a) along test)
 
+      -- and the edge is noted.
       edge-at-a : entry noted (k * 64) a ≡ i
       edge-at-a = getD-set-same edges (k * 64 + a) i 0 (omega (arith, r .same-edges, a-in, ok .states-in))
 
+      -- Another state keeps its number
       elsewhere : (s : ℕ) → s ≢ a → entry walks new s ≡ entry after new s
       elsewhere s e = getD-set-other after (new + a) (new + s) v 0 (λ q. e (omega arith))
 
+      -- and its note.
       edge-elsewhere : (s : ℕ) → s ≢ a → entry noted (k * 64) s ≡ entry edges (k * 64) s
       edge-elsewhere s e = getD-set-other edges (k * 64 + a) (k * 64 + s) i 0 (λ q. e (omega arith))
 
+      -- So the first i + 1 edges were gone along.
       pub edge-raises : Round (edgeGraph count from to weight) (i + 1) states old new k before (set after (new + getD from i 0) v) edges-before (set edges (k * 64 + getD from i 0) i)
       edge-raises =
           record {

@@ -278,6 +278,7 @@ module _ {g : Graph} {states k old new : ℕ} {before after edges-before edges :
   exactly-suc s l =
       r .relaxed s l ∙ greatest-equal (via g (entry before old) s) (via g (heaviest g start k) s) (below (g .size)) (all-below _ (g .size) (along-equal s))
 
+  -- that is, of one edge more,
   exactly-next : Exactly g states start (k + 1) new after
   exactly-next = rw (add-one k) exactly-suc
 
@@ -301,6 +302,7 @@ module _ {g : Graph} {states k old new : ℕ} {before after edges-before edges :
       go (inl z) = absurd (omega (arith, worth))
       go (inr d) = record { there = (e-in, d .counted); leaves = d .from; worth = omega (arith, worth, d .long) }
 
+  -- So those of 1 to k + 1 edges are noted: this round's at places of their own, behind those of the rounds before, which it kept.
   first-edges-next : FirstEdges g states start k edges-before → FirstEdges g states start (k + 1) edges
   first-edges-next h j s x l m = go (ℕ-discrete j k)
     where

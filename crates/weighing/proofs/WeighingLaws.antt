@@ -153,9 +153,11 @@ module _ (t : PlantTable) (ws : List ℕ) (ok : Weighable t ws) where
 
     -- The verdict with the figures f: it is owed where the weights pass, and the bound holds.
     module _ (f : Figures) (figures : FiguresOf states ws f) (p : Passes (plantOf t) ws) where
+      -- They are the plant's,
       figures-are : Answers.passing (f .base) (f .«most_states») (f .«per_progress») ≡ Answers.passing (base (plantOf t) ws) (mostStates (plantOf t)) (perProgress (plantOf t) ws)
       figures-are = let x = figures (plantOf t) (lent .counts) (sym (ok .one-each)) in rw (x .0, x .1, x .2)
 
+      -- and so the verdict is owed.
       pub passing-verdict : (end : ℕ) → OwedVerdict ws (Answers.passing (f .base) (f .«most_states») (f .«per_progress»)) (found (plantOf t) end)
       passing-verdict end =
           verdict-for-plant
