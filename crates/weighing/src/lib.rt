@@ -53,7 +53,7 @@ struct Judged {
     states: usize,
 }
 
-// A verdict that no machine fails.
+// A verdict without edges to search: figures, or a refusal.
 fn without_edges(verdict: Verdict) -> Judged
     ensures { λ r. ⌜ r ≡ record { verdict = verdict; count = 0; states = 0 } ⌝ }
 {
