@@ -2,6 +2,10 @@
 
 # Why a goal is missed: for keys of bench/run that begin with the first word. The evidence is from `perf` and from the machine
 # code (`objdump -d dist/libhemtaluq.a`) of the library at the time of writing; look again when the crates have changed.
+# How far whole runs lie apart. Look again when the crates have changed.
+RUNS = """Three full runs of the code of this writing, one after the other, of which this page first had the last: weighing that passes on plant A 2.62, 2.09 and 2.26, that shows a cycle 3.27, 3.13
+and 2.99, quoting 2.38, 1.95 and 2.08; showing a cycle of ten machines 1.20, missed by less than a hundredth, 1.08 and 1.05, of the machine at the limits 0.89, 0.81 and 0.78; listing the ring of 16 1.92, 1.69 and 1.53. The other rows differ by a tenth at most."""
+
 DECIDING = (
     'The decision works out the length 1 + n × weight of a row in each pass, the peer has a list of lengths: its loop has 12 instructions, 44 bytes. Where these '
     'bytes lie across a line of 64, the loop takes a third longer. With a list of lengths the proved code was no faster at the limits, and slower in small plants, for the list has to be cleared.')
@@ -9,8 +13,10 @@ CAUSES = [
     ('read', 'Reading',
      'Nothing is stored, and on the largest file the call executes as many instructions as the peer, within a hundredth (callgrind).'),
     ('weigh-a', 'Weighing small plants',
-     'A plant of 20 bytes is weighed in the time that it takes to clear its arrays: 10 KB, and 5 KB more where a cycle is shown. They have room for the limits, and a call does not '
-     'know what it will need before it has read the file. C with the same arrays, cleared: see the next table.'),
+     'Half of the call that passes, and four tenths of the one that shows a cycle, is spent in `memset` (perf), which clears 10 KB and 5 KB more; what is left of the first takes about as long '
+     'as the peer. The arrays have room for the limits, and a call does not know what it will need before it has read the file. The kit\'s compiler gives an array of bytes no alignment: they '
+     'lie at 40 past a line of 64 bytes, and six columns take 66 ns to clear there, 34 ns at the start of a line. C with the same arrays, which gcc aligns: see the next table. Where a cycle is shown, the '
+     'rounds take a fourth of the call: each clears its table of two states by a call of `memset`, and those from the start that was found are made twice (DECISIONS.md, 23).'),
     ('weigh', 'Weighing', DECIDING),
     ('quote-fails', 'Quoting weights that do not pass', 'All the work is deciding. ' + DECIDING),
     ('quote-a', 'Quoting for small plants',
@@ -133,7 +139,7 @@ Every figure of time is a ratio of two things that were measured in turn, in one
 Against C and GLPK the order changed from one repetition to the next. A ratio is the median of {fast} repetitions, or of {slow} for the longest listing, for SPIN's search from
 anywhere and for whole commands. A loop can take a third longer where its address is unlucky, the peer's too; against C, therefore, the whole program is linked four times, moved by
 16 bytes each time, with a quarter of the repetitions for each, and the least and the greatest of the four medians stand beside the median of all. Machine: 2 cores, shared with other
-work: a ratio moves by a tenth from run to run, at times by more. {gcc}, -O2; {spin}; {glpsol}.
+work: a ratio moves by a tenth from run to run, on plant A and the ring of 16 by a quarter, so one near its goal is met in one run and missed in the next. {gcc}, -O2; {spin}; {glpsol}.
 
 ## Against C
 
@@ -147,8 +153,10 @@ Both show a cycle with the fewest rows; a program that may show any cycle could 
 
 {causes}
 
+{runs}
+
 In Rattle every array has contents from the start, so a call clears its tables where C leaves them as they are. `bench/floor.c` is weighing in C with
-the arrays and the algorithms of the proved call, each array cleared; gcc does it with `rep stos`, the kit's compiler with `memset`, which is faster.
+the arrays and the algorithms of the proved call, each array cleared by `memset` as there.
 
 {floors}
 
@@ -186,6 +194,6 @@ The stack was painted, the call was run on it, and the deepest byte that changed
 def page(found):
     return PAGE.format(
         fast=found['reps'][0], slow=found['reps'][1], gcc=found['gcc'], spin=found['spin'], glpsol=found['glpsol'].split(',')[0],
-        cases='{:,}'.format(found['cases']), calls=calls_table(found), causes=causes(found), floors=floors_table(found), tools=tools_table(found), tool_goals=tool_goals(found),
+        cases='{:,}'.format(found['cases']), calls=calls_table(found), causes=causes(found), runs=RUNS, floors=floors_table(found), tools=tools_table(found), tool_goals=tool_goals(found),
         capacities=', '.join('%s: %d' % (r['name'], r['capacity']) for r in found['tools']),
         growth=growth_table(found), stack=stack_table(found), sizes=sizes_table(found))
