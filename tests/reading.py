@@ -169,7 +169,7 @@ pub struct Columns {
 
 #[no_mangle]
 pub extern "C" fn probe_columns(file: &[u8]) -> Columns {
-    let decoded = plant::decode(file);
+    let decoded = decoding::decode(file);
     let t = decoded.table;
     let states = t.states;
     let first = t.first;

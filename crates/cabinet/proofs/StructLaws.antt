@@ -10,8 +10,8 @@ use mir.Facts.{toZ-ofZ}
 use Rattle.livelock.specs.Plants.{Plant}
 use Rattle.plant.specs.Found.{Found}
 use Rattle.plant.specs.Reading.{readPlant}
-use Rattle.plant.specs.Answers as Reading
-use Rattle.plant.specs.declared.Reading as ReadingResult
+use Rattle.reading.specs.Answers as Reading
+use Rattle.reading.specs.declared.Reading as ReadingResult
 use Rattle.weighing.specs.Answers as WeighingAnswers
 use Rattle.weighing.specs.Weighing as Weighing
 use Rattle.weighing.specs.declared.Weighed.{Weighed}

@@ -5,7 +5,7 @@ use Prim.Native.Nat.{ℕ}
 use lib.IntN.{pos}
 use Rattle.livelock.specs.Plants.{Plant}
 use Rattle.plant.specs.Found.{Found}
-use Rattle.plant.specs.Answers as Reading
+use Rattle.reading.specs.Answers as Reading
 use Rattle.weighing.specs.Answers as WeighingAnswers
 use Rattle.weighing.specs.Weighing as Weighing
 use Rattle.quoting.specs.Answers as QuotingAnswers

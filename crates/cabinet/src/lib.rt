@@ -2,7 +2,7 @@
 ghost use mathlib.Core.Path.{_≡_};
 ghost use lib.ListN.{length};
 ghost use Rattle.plant.specs.Reading.{readPlant};
-ghost use Rattle.plant.specs.Answers.{countsOf};
+ghost use Rattle.reading.specs.Answers.{countsOf};
 ghost use Rattle.weighing.specs.Weighing as Weighing;
 ghost use Rattle.quoting.specs.Quoting as Quoting;
 ghost use Rattle.listing.specs.Listing as Listing;
@@ -10,8 +10,8 @@ ghost use Rattle.cycle_sets.specs.Confirming.{owed};
 ghost use Rattle.cabinet.specs.Structs.{readStruct, listStruct, confirmStruct, WeighedAs, QuotedAs};
 use cycle_sets::Confirmation;
 use listing::Listed;
-use plant::Reading;
 use quoting::Quoted;
+use reading::Reading;
 use weighing::Weighed;
 
 // kind 1: the counts; kind 0: a refusal with its number and place.
@@ -70,7 +70,7 @@ pub struct ConfirmAnswer {
 pub extern "C" fn hemtaluq_read(file: &[u8]) -> ReadAnswer
     ensures { λ r. ⌜ r ≡ readStruct (countsOf (readPlant (now (file .entry)))) ⌝ }
 {
-    let answer = plant::read(file);
+    let answer = reading::read(file);
     match answer {
         Reading::Counts {
             machines,

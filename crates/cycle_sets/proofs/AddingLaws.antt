@@ -17,8 +17,8 @@ use Rattle.livelock.specs.Lists.{sum}
 use Rattle.livelock.specs.Cycles.{isOfType}
 use Rattle.livelock.proofs.SumLaws.{sum-append}
 use Rattle.livelock.proofs.Differences.{Difference, difference-shift, difference-plus, difference-neg}
-use Rattle.plant.specs.Tables.{typeOf}
-use Rattle.cycle_sets.specs.Inner.Steps.{raised, Within, having, Added}
+use Rattle.plant.specs.Steps.{typeOf}
+use Rattle.cycle_sets.specs.Inner.Sums.{raised, Within, having, Added}
 use Rattle.cycle_sets.proofs.SizeLaws.{size-plus, size-neg, sum-is, times-is, less-is}
 
 -- 1 where an entry of a column is type t.

@@ -11,7 +11,7 @@ use Rattle.livelock.specs.CycleSets.{Entry, setEffect}
 use Rattle.plant.specs.Found.{Found, found, fault}
 use Rattle.plant.specs.Reading.{readPlant}
 use Rattle.cycle_sets.specs.Answers.{negative}
-use Rattle.cycle_sets.specs.Sets.{readSet}
+use Rattle.set_entries.specs.Sets.{readSet}
 use Rattle.cycle_sets.specs.Confirming.{lowestNegative, setAnswer, owed}
 use Rattle.cycle_sets.proofs.ConfirmingLaws.{sums-bounded}
 

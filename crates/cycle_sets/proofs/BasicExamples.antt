@@ -11,7 +11,7 @@ use Rattle.livelock.proofs.BasicExamples.{panelAndProbe, plantA, plantB}
 use Rattle.plant.specs.Reading.{byteAt, byteThat, byteIn, mapByte, stateField, typeField, readRow, readRows, rowsByte, readMachine, readMachines, readPlant}
 use Rattle.plant.proofs.BasicExamples.{panelAndProbeFile}
 use Rattle.cycle_sets.specs.Answers.{Answer, confirmed, negative, refused}
-use Rattle.cycle_sets.specs.Sets.{numberIn, rowsAt, entryEnds, entryAt, entryBegins, entriesAt, readSet}
+use Rattle.set_entries.specs.Sets.{numberIn, rowsAt, entryEnds, entryAt, entryBegins, entriesAt, readSet}
 use Rattle.cycle_sets.specs.Confirming.{lowestNegative, setAnswer, owed}
 
 -- The answer that is owed for a plant and a list.
@@ -156,19 +156,23 @@ probe-in-A : answer plantA (1 ∷ 1 ∷ 2 ∷ 2 ∷ 3 ∷ []) ≡ negative 0 (ne
 unfolding panelAndProbe below sum sumℤ every isDistinct isWalk hasProgress numberIn rowsAt entryEnds entryAt entryBegins entriesAt setEffect lowestNegative
 probe-in-A = refl
 
--- ---- 256 entries
+-- ---- as many entries as may come
 
 -- The panel's cycle, so many times.
 unfoldable panels : ℕ → List ℕ
 panels zero = []
 panels (suc n) = 0 ∷ 1 ∷ 2 ∷ 0 ∷ 1 ∷ panels n
 
--- 256 entries are a set,
-entries-256 : answer plantB (panels 256) ≡ negative 1 (negsuc 255)
-unfolding panelAndProbe below sum sumℤ every isDistinct isWalk hasProgress numberIn rowsAt entryEnds entryAt entryBegins entriesAt setEffect lowestNegative panels
-entries-256 = refl
+-- The answer where n entries may come: `readSet` lets 256 come.
+abbrev answerTo : ℕ → List ℕ → Answer
+answerTo n set = setAnswer plantB (entriesAt n plantB set 0 [])
 
--- and a 257th is number 18 where it begins, whatever stands there.
-entry-257 : answer plantB (panels 256 ++ (9 ∷ [])) ≡ refused 18 1280
+-- As many entries as may come are a set,
+entries-4 : answerTo 4 (panels 4) ≡ negative 1 (negsuc 3)
 unfolding panelAndProbe below sum sumℤ every isDistinct isWalk hasProgress numberIn rowsAt entryEnds entryAt entryBegins entriesAt setEffect lowestNegative panels
-entry-257 = refl
+entries-4 = refl
+
+-- and one more is number 18 where it begins, whatever stands there.
+entry-5 : answerTo 4 (panels 4 ++ (9 ∷ [])) ≡ refused 18 20
+unfolding panelAndProbe below sum sumℤ every isDistinct isWalk hasProgress numberIn rowsAt entryEnds entryAt entryBegins entriesAt setEffect lowestNegative panels
+entry-5 = refl

@@ -25,15 +25,15 @@ use Rattle.plant.specs.declared.End.the-variants as Ends
 use Rattle.plant.proofs.Bounds.{one-bit}
 use Rattle.plant.proofs.OneToOne.{same-fault}
 use Rattle.cycle_sets.specs.Answers.{Answer, confirmed, refused, answerOf}
-use Rattle.cycle_sets.specs.Sets.{entryBegins, entryAt, entriesAt, readSet}
+use Rattle.set_entries.specs.Sets.{entryBegins, entryAt, entriesAt, readSet}
 use Rattle.cycle_sets.specs.Confirming.{lowestNegative, setAnswer, owed, ReadsBalanced}
-use Rattle.cycle_sets.specs.Inner.Steps.{JudgedAs, entries-read, fault-met}
+use Rattle.cycle_sets.specs.Inner.Sums.{JudgedAs, entries-read, fault-met}
 use Rattle.cycle_sets.specs.declared.Confirmation.{Confirmation}
 use Rattle.cycle_sets.specs.declared.Confirmation.the-variants as Variants
-use Rattle.cycle_sets.proofs.FoundLaws.{chained, value-same}
-use Rattle.cycle_sets.proofs.NumberLaws.{begins-within, part-length}
-use Rattle.cycle_sets.proofs.CycleTestLaws.{quiet-cycle-iff}
-use Rattle.cycle_sets.proofs.EntryLaws.{EntryRead, entry-read}
+use Rattle.set_entries.proofs.FoundLaws.{chained, value-same}
+use Rattle.set_entries.proofs.NumberLaws.{begins-within, part-length}
+use Rattle.set_entries.proofs.CycleTestLaws.{quiet-cycle-iff}
+use Rattle.set_entries.proofs.EntryLaws.{EntryRead, entry-read}
 use Rattle.cycle_sets.proofs.SizeLaws.{size-at-most}
 use Rattle.cycle_sets.proofs.LowestLaws.{lowest-same, none-negative, all-confirmed}
 

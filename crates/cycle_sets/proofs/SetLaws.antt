@@ -17,15 +17,16 @@ use Rattle.livelock.proofs.SumLaws.{sum-append}
 use Rattle.livelock.proofs.Differences.{Difference, difference-shift}
 use Rattle.livelock.proofs.CycleSetLaws.{setSent, setTaken, set-difference}
 use Rattle.plant.specs.Found.{found, fault, andThen}
-use Rattle.plant.specs.Tables.{plantOf, Ready}
-use Rattle.plant.specs.declared.PlantTable.{PlantTable}
+use Rattle.decoding.specs.Tables.{plantOf, Ready}
+use Rattle.decoding.specs.declared.PlantTable.{PlantTable}
 use Rattle.plant.specs.declared.Fault.{Fault}
 use Rattle.plant.specs.declared.End.the-variants as Ends
-use Rattle.plant.proofs.TableLaws.{rows-counted}
-use Rattle.cycle_sets.specs.Sets.{entryAt, entryBegins, entriesAt, readSet}
-use Rattle.cycle_sets.specs.Inner.Steps.{part, NumbersBelow, entryIn, Within, having, Added, SumsOf, JudgedAs, entries-read, fault-met}
-use Rattle.cycle_sets.proofs.NumberLaws.{begins-within, part-length, part-below}
-use Rattle.cycle_sets.proofs.EntryLaws.{EntryRead, entry-read}
+use Rattle.decoding.proofs.TableLaws.{rows-counted}
+use Rattle.set_entries.specs.Sets.{entryAt, entryBegins, entriesAt, readSet}
+use Rattle.set_entries.specs.Inner.Steps.{part, NumbersBelow, entryIn}
+use Rattle.cycle_sets.specs.Inner.Sums.{Within, having, Added, SumsOf, JudgedAs, entries-read, fault-met}
+use Rattle.set_entries.proofs.NumberLaws.{begins-within, part-length, part-below}
+use Rattle.set_entries.proofs.EntryLaws.{EntryRead, entry-read}
 use Rattle.cycle_sets.proofs.TableLaws.{sent-is, taken-is}
 
 -- ---- sums of entries

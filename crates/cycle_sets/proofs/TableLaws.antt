@@ -11,11 +11,13 @@ use Rattle.livelock.specs.Plants.{Row, Plant, rowAt, noRow, rowCount, machineCo
 use Rattle.livelock.specs.Cycles.{isOfType, messagesSent, messagesTaken}
 use Rattle.livelock.proofs.ListLaws.{all-at, all-weaken}
 use Rattle.livelock.proofs.SumLaws.{sum-equal}
-use Rattle.plant.specs.Tables.{typeOf, rowOf, plantOf, Ready}
+use Rattle.plant.specs.Steps.{typeOf}
+use Rattle.decoding.specs.Tables.{rowOf, plantOf, Ready}
 use Rattle.plant.specs.Limits.{WithinLimits}
-use Rattle.plant.specs.declared.PlantTable.{PlantTable}
-use Rattle.plant.proofs.TableLaws.{rows-counted, machines-counted, row-is}
-use Rattle.cycle_sets.specs.Inner.Steps.{Columns, ColumnsOf, having}
+use Rattle.decoding.specs.declared.PlantTable.{PlantTable}
+use Rattle.decoding.proofs.TableLaws.{rows-counted, machines-counted, row-is}
+use Rattle.set_entries.specs.Inner.Steps.{Columns, ColumnsOf}
+use Rattle.cycle_sets.specs.Inner.Sums.{having}
 
 -- The columns that tell whether rows are a quiet simple cycle.
 abbrev pub columnsOf : PlantTable → Columns

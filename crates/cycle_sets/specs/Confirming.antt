@@ -10,7 +10,7 @@ use Rattle.livelock.specs.CycleSets.{Entry, Balanced, setEffect}
 use Rattle.plant.specs.Found.{Found, found, fault}
 use Rattle.plant.specs.Reading.{readPlant}
 use Rattle.cycle_sets.specs.Answers.{Answer, confirmed, negative, refused}
-use Rattle.cycle_sets.specs.Sets.{readSet}
+use Rattle.set_entries.specs.Sets.{readSet}
 
 -- "confirmed when no sum is below zero; otherwise the lowest type with a negative sum, and that signed sum": for n types from t on.
 unfoldable pub lowestNegative : (ℕ → ℤ) → ℕ → ℕ → Answer

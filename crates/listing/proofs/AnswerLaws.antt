@@ -13,12 +13,13 @@ use Rattle.livelock.specs.Plants.{Plant, machineCount, stateCount}
 use Rattle.plant.specs.Found.{Found, fault, andThen}
 use Rattle.plant.specs.Limits.{rowsOf}
 use Rattle.plant.specs.Reading.{readPlant}
-use Rattle.plant.specs.Tables.{plantOf}
-use Rattle.plant.specs.declared.PlantTable.{PlantTable}
+use Rattle.decoding.specs.Tables.{plantOf}
+use Rattle.decoding.specs.declared.PlantTable.{PlantTable}
 use Rattle.listing.specs.Answers.{entries, refused, answerOf}
 use Rattle.listing.specs.Listing.{entriesNeeded, checkedRoom, checkedSize, checked, judged, answered, filled, Means}
-use Rattle.listing.specs.Listings.{flattened}
-use Rattle.listing.specs.Inner.Filling.{RowsBelow, Added, allEntries, Listable, Answers}
+use Rattle.cycle_paths.specs.Listings.{flattened}
+use Rattle.cycle_paths.specs.Inner.Filling.{RowsBelow, Added, allEntries}
+use Rattle.listing.specs.Inner.Machines.{Listable, Answers}
 use Rattle.listing.specs.declared.Listed.{Listed}
 use Rattle.listing.specs.declared.Listed.the-variants as Variants
 use Rattle.listing.proofs.TableCycles.{rows-range, states-below, table-cycles}

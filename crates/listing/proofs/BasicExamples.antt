@@ -6,8 +6,8 @@ use Rattle.livelock.specs.Lists.{below, sum}
 use Rattle.plant.specs.Found.{found, fault}
 use Rattle.plant.specs.Reading.{byteAt, byteThat, byteIn, mapByte, stateField, typeField, readRow, readRows, rowsByte, readMachine, readMachines, readPlant}
 use Rattle.plant.proofs.BasicExamples.{panelAndProbeFile}
-use Rattle.listing.specs.Listings.{flattened}
-use Rattle.listing.specs.Cycles.{joined, selected, unleft, paths, cyclesThrough}
+use Rattle.cycle_paths.specs.Listings.{flattened}
+use Rattle.cycle_paths.specs.Cycles.{joined, selected, unleft, paths, cyclesThrough}
 use Rattle.listing.specs.Listing.{checkedRoom, checkedSize, checked, judged, filled}
 
 -- ---- plant A of document 01

@@ -15,9 +15,9 @@ use Rattle.plant.proofs.OneToOne.{same-fault}
 use Rattle.listing.specs.declared.Listed.{Listed}
 use Rattle.listing.specs.declared.Listed.the-variants as Variants
 use Rattle.listing.specs.Answers.{Answer, entries, answerOf}
-use Rattle.listing.specs.Cycles.{cyclesOf}
+use Rattle.cycle_paths.specs.Cycles.{cyclesOf}
 use Rattle.listing.specs.Listing.{entriesNeeded, checkedRoom, checkedSize, checked, judged, answered, filled, ListsCycles, Means}
-use Rattle.listing.proofs.CycleLaws.{cycles-are}
+use Rattle.cycle_paths.proofs.CycleLaws.{cycles-are}
 
 -- ---- what entries mean
 

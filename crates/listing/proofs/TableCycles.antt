@@ -6,17 +6,17 @@ use lib.ListN.{getD}
 use Rattle.livelock.specs.Plants.{Row, rowCount, stateCount}
 use Rattle.livelock.specs.Cycles.{leaves, enters, RowOf}
 use Rattle.livelock.proofs.QuietGraphs.{row-within}
-use Rattle.plant.specs.Tables.{plantOf, Ready}
+use Rattle.decoding.specs.Tables.{plantOf, Ready}
 use Rattle.plant.specs.Limits.{rowsOf, WithinLimits}
-use Rattle.plant.specs.declared.PlantTable.{PlantTable}
-use Rattle.plant.proofs.TableLaws.{row-is, rows-counted}
-use Rattle.plant.proofs.FirstRowLaws.{row-of-machine, machine-rows}
-use Rattle.listing.specs.Listings.{In}
-use Rattle.listing.specs.Cycles.{cyclesThrough, rowNumbers, cyclesOf}
-use Rattle.listing.specs.Inner.Ranges.{upFrom, column}
-use Rattle.listing.proofs.ElementLaws.{in-all, up-from-in, in-up-from}
-use Rattle.listing.proofs.OrderLaws.{increasing-same, increasing-up-from}
-use Rattle.listing.proofs.CycleLaws.{number-row, row-number, numbers-increasing, same-cycles, through-same}
+use Rattle.decoding.specs.declared.PlantTable.{PlantTable}
+use Rattle.decoding.proofs.TableLaws.{row-is, rows-counted}
+use Rattle.decoding.proofs.FirstRowLaws.{row-of-machine, machine-rows}
+use Rattle.cycle_paths.specs.Listings.{In}
+use Rattle.cycle_paths.specs.Cycles.{cyclesThrough, rowNumbers, cyclesOf}
+use Rattle.cycle_paths.specs.Inner.Ranges.{upFrom, column}
+use Rattle.cycle_paths.proofs.ElementLaws.{in-all, up-from-in, in-up-from}
+use Rattle.cycle_paths.proofs.OrderLaws.{increasing-same, increasing-up-from}
+use Rattle.cycle_paths.proofs.CycleLaws.{number-row, row-number, numbers-increasing, same-cycles, through-same}
 
 module _ (t : PlantTable) (ready : Ready t) (limits : WithinLimits (plantOf t)) (m : ℕ) (within : m < t .machines) where
   -- The number of the machine's first row,

@@ -1,3 +1,2 @@
 -- Definitions that only the contracts of private functions cite.
-pub mod Ranges
-pub mod Filling
+pub mod Machines

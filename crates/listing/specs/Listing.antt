@@ -10,8 +10,8 @@ use Rattle.plant.specs.Found.{Found, found, fault, andThen}
 use Rattle.plant.specs.Reading.{readPlant}
 use Rattle.plant.specs.Limits.{rowsOf}
 use Rattle.listing.specs.Answers.{Answer, entries, refused}
-use Rattle.listing.specs.Cycles.{cyclesOf}
-use Rattle.listing.specs.Listings.{IsListing, flattened}
+use Rattle.cycle_paths.specs.Cycles.{cyclesOf}
+use Rattle.cycle_paths.specs.Listings.{IsListing, flattened}
 
 -- "the entries needed".
 abbrev pub entriesNeeded : Plant → ℕ → List ℕ

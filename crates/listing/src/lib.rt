@@ -1,231 +1,20 @@
 // Listing the simple cycles of a machine.
 ghost use mathlib.Core.Path.{_≡_};
-ghost use Prim.Native.Nat.{suc, _+_, _≤_, _<_, _^_};
-ghost use lib.ListN.{length, getD, take, set};
-ghost use lib.Dec.{eqb};
-ghost use lib.Seq.{sets};
-ghost use Rattle.plant.specs.Tables.{plantOf, Ready};
+ghost use lib.ListN.{length};
 ghost use Rattle.plant.specs.Limits.{WithinLimits};
+ghost use Rattle.decoding.specs.Tables.{plantOf, Ready};
 ghost use Rattle.listing.specs.Answers.{answerOf, refused};
 ghost use Rattle.listing.specs.Listing.{judged, answered, filled, Means};
-ghost use Rattle.listing.specs.Inner.Ranges.{column};
-ghost use Rattle.listing.specs.Inner.Filling.{marksOf, RowsBelow, Linked, stepOf, entryOf, Added, Extendable, PathKept, Extended, allEntries, Listable, AnswersMachine, AnswersChecked};
+ghost use Rattle.listing.specs.Inner.Machines.{Listable, AnswersMachine, AnswersChecked};
+use cycle_paths::wide;
+use decoding::PlantTable;
 use plant::End;
 use plant::Fault;
-use plant::PlantTable;
 
 // The answer of listing: the entries used, or a fault.
 pub enum Listed {
     Entries(usize),
     Refused(Fault),
-}
-
-// The rows of a machine by the state they leave: head[s] is the first row that leaves state s, and next[k] the row after k that leaves
-// the same state. Where there is none, it is the number after the machine's last row.
-pub struct Links {
-    pub next: [u16; 1024],
-    pub head: [u16; 24],
-}
-
-// What a row does for a path: nothing, it closes the cycle, or it enters a state not yet left.
-pub enum Step {
-    Skip,
-    Close,
-    Enter(u8),
-}
-
-// A row number as an index.
-fn wide(x: u16) -> usize
-    ensures { λ r. ⌜ r ≡ x ⌝ }
-{
-    x as usize
-}
-
-// Links the rows from `first` up to, and not including, `last`; from the last row to the first, so that each is put before those that are linked.
-fn link(left: &[u8; 1024], first: usize, last: usize) -> Links
-    requires { ⌜ RowsBelow (now left) first last ⌝ }
-    ensures { λ r. ⌜ Linked (now (left .entry)) (r .next) (r .head) first last ⌝ }
-{
-    let end = last as u16;
-    let mut next = [0; 1024];
-    let mut head = [end; 24];
-    let mut k = last;
-    while k > first {
-        k -= 1;
-        let s = left[k] as usize;
-        let later = head[s];
-        next[k] = later;
-        head[s] = k as u16;
-    }
-    Links { next, head }
-}
-
-// Whether a state is not yet left: its bit does not stand.
-fn not_yet_left(marks: u32, state: u8) -> bool
-    requires { ⌜ state < 24 ⌝ }
-    ensures { λ r. ⌜ r ≡ eqb (getD (marksOf 24 marks) state 0) 0 ⌝ }
-{
-    (marks >> state) % 2 == 0
-}
-
-// The marks with one state more that is left: its bit is put.
-fn with_left(marks: u32, state: u8) -> u32
-    requires { ⌜ state < 24 ⌝ }
-    ensures { λ r. ⌜ marksOf 24 r ≡ set (marksOf 24 marks) state 1 ⌝ }
-{
-    marks | (1 << state)
-}
-
-// What row k does for a path from `start` that stands at the state which the row leaves.
-fn step_of(entered: &[u8; 1024], start: u8, marks: u32, k: usize) -> Step
-    requires { ⌜ (k < 1024) × (column (now entered) k < 24) ⌝ }
-    ensures { λ r. ⌜ r ≡ stepOf (now (entered .entry)) start (marksOf 24 marks) k ⌝ }
-{
-    let state = entered[k];
-    if state == start {
-        return Step::Close;
-    }
-    if state < start {
-        return Step::Skip;
-    }
-    if not_yet_left(marks, state) {
-        return Step::Enter(state);
-    }
-    Step::Skip
-}
-
-// Stores the row count and the rows of a cycle from `pos` on: the first `depth` rows of a path, and the row that closes it. Hands back where they end.
-fn write_cycle(out: &mut [u16], pos: usize, path: &[u16; 24], depth: usize, row: u16) -> usize
-    requires { ⌜ (depth ≤ 24) × (length (now path) ≡ 24) × (pos + depth + 2 ≤ length (now out)) ⌝ }
-    ensures { λ r. ⌜ (r ≡ pos + depth + 2) × (now (out .exit) ≡ sets (now (out .entry)) pos (entryOf (take depth (now (path .entry))) row)) ⌝ }
-{
-    out[pos] = (depth + 1) as u16;
-    let mut i = 0;
-    while i < depth {
-        out[pos + 1 + i] = path[i];
-        i += 1;
-    }
-    out[pos + 1 + depth] = row;
-    pos + depth + 2
-}
-
-// Adds a cycle to the entries that end at `pos`: stores it if the list has room, and hands back where it ends, or the limit and one if that is above the limit.
-fn add_cycle(
-    out: &mut [u16],
-    pos: usize,
-    path: &[u16; 24],
-    depth: usize,
-    row: u16,
-    limit: usize,
-) -> usize
-    requires { ⌜ (depth ≤ 24) × (length (now path) ≡ 24) × (pos ≤ suc limit) × (length (now out) ≤ limit) × (limit < 2 ^ 63) ⌝ }
-    ensures { λ r. ⌜ Added limit (now (out .entry)) pos (entryOf (take depth (now (path .entry))) row) r (now (out .exit)) ⌝ }
-{
-    let end = pos + depth + 2;
-    if end <= out.len() {
-        return write_cycle(out, pos, path, depth, row);
-    }
-    if end > limit { limit + 1 } else { end }
-}
-
-// Adds the cycles that begin with the first `depth` rows of a path and go on by one of the linked rows from `low` up to, and not
-// including, `high`: depth-first extension of the path. The states not yet left become fewer at each call, and no row is tried once the count is above the limit.
-fn extend<'a>(
-    entered: &'a [u8; 1024],
-    next: &'a [u16; 1024],
-    head: &'a [u16; 24],
-    last: usize,
-    start: u8,
-    marks: u32,
-    path: &mut [u16; 24],
-    depth: usize,
-    low: usize,
-    high: usize,
-    out: &mut [u16],
-    pos: usize,
-    limit: usize,
-) -> usize
-    requires { ⌜ Extendable (now entered) (now next) (now head) last (marksOf 24 marks) (now path) depth low high (length (now out)) pos limit ⌝ }
-    ensures { λ r. ⌜ PathKept depth (now (path .entry)) (now (path .exit)) ⌝ }
-    ensures { λ r. ⌜ Extended (now (entered .entry)) (now (next .entry)) (now (head .entry)) last start (marksOf 24 marks) (take depth (now (path .entry))) low high limit (now (out .entry)) pos r (now (out .exit)) ⌝ }
-{
-    let mut used = pos;
-    let mut k = low;
-    while k < high {
-        if used > limit {
-            return used;
-        }
-        let step = step_of(entered, start, marks, k);
-        match step {
-            Step::Skip => {}
-            Step::Close => {
-                used = add_cycle(out, used, path, depth, k as u16, limit);
-            }
-            Step::Enter(state) => {
-                let begin = wide(head[state as usize]);
-                let marked = with_left(marks, state);
-                path[depth] = k as u16;
-                used = extend(
-                    entered,
-                    next,
-                    head,
-                    last,
-                    start,
-                    marked,
-                    path,
-                    depth + 1,
-                    begin,
-                    last,
-                    out,
-                    used,
-                    limit,
-                );
-            }
-        }
-        k = wide(next[k]);
-    }
-    used
-}
-
-// Lists the cycles of the rows from `first` up to, and not including, `last`, by the row they begin with. The entries are counted up to
-// one above the limit, and stored if the list has room for them all.
-fn list_rows<'a>(
-    left: &'a [u8; 1024],
-    entered: &'a [u8; 1024],
-    next: &'a [u16; 1024],
-    head: &'a [u16; 24],
-    first: usize,
-    last: usize,
-    out: &mut [u16],
-    limit: usize,
-) -> usize
-    requires { ⌜ RowsBelow (now left) first last × RowsBelow (now entered) first last × Linked (now left) (now next) (now head) first last × (length (now out) ≤ limit) × (limit < 2 ^ 63) ⌝ }
-    ensures { λ r. ⌜ Added limit (now (out .entry)) 0 (allEntries (now (left .entry)) (now (entered .entry)) first last) r (now (out .exit)) ⌝ }
-{
-    let mut path = [0; 24];
-    let mut used = 0;
-    let mut row = first;
-    while row < last {
-        let start = left[row];
-        let marks = with_left(0, start);
-        used = extend(
-            entered,
-            next,
-            head,
-            last,
-            start,
-            marks,
-            &mut path,
-            0,
-            row,
-            row + 1,
-            out,
-            used,
-            limit,
-        );
-        row += 1;
-    }
-    used
 }
 
 // A refusal at place 0.
@@ -242,9 +31,9 @@ fn list_machine(table: PlantTable, m: usize, out: &mut [u16]) -> Listed
 {
     let first = wide(table.first[m]);
     let last = wide(table.first[m + 1]);
-    let links = link(&table.left, first, last);
+    let links = cycle_paths::link(&table.left, first, last);
     let room = out.len();
-    let needed = list_rows(
+    let needed = cycle_paths::list_rows(
         &table.left,
         &table.entered,
         &links.next,
@@ -257,7 +46,7 @@ fn list_machine(table: PlantTable, m: usize, out: &mut [u16]) -> Listed
     if needed > room {
         return refused(14);
     }
-    let used = list_rows(
+    let used = cycle_paths::list_rows(
         &table.left,
         &table.entered,
         &links.next,
@@ -296,7 +85,7 @@ pub fn list(file: &[u8], machine: u32, out: &mut [u16]) -> Listed
     ensures { λ r. ⌜ now (out .exit) ≡ filled (judged (now (file .entry)) machine (length (now (out .entry)))) (now (out .entry)) ⌝ }
     ensures { λ r. ⌜ Means (now (file .entry)) machine (answerOf r) (now (out .exit)) ⌝ }
 {
-    let decoded = plant::decode(file);
+    let decoded = decoding::decode(file);
     let end = decoded.end;
     let table = decoded.table;
     match end {

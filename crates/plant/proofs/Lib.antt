@@ -7,10 +7,7 @@ pub mod FileBounds
 pub mod FirstBytes
 pub mod FileLaws
 pub mod TypeLaws
-pub mod TableLaws
-pub mod FirstRowLaws
 pub mod RowLaws
 pub mod MachineLaws
 pub mod PlantLaws
-pub mod CountLaws
 pub mod OneToOne

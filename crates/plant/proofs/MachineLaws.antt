@@ -10,12 +10,11 @@ use Rattle.livelock.specs.Plants.{Plant, rowCount, machineCount}
 use Rattle.plant.specs.Found.{Found, found, fault, andThen, movedBy}
 use Rattle.plant.specs.Reading.{byteIn, withMachine, readRows, rowsByte, readMachine, readMachines}
 use Rattle.plant.specs.Limits.{Placed, at-the-end, within}
-use Rattle.plant.specs.Tables.{Columns, plantIn, endFound}
-use Rattle.plant.specs.Inner.Steps.{offsetOf, MachineRead}
+use Rattle.plant.specs.Steps.{endFound}
+use Rattle.plant.specs.Steps.{offsetOf}
 use Rattle.plant.specs.declared.Fault.{Fault}
 use Rattle.plant.specs.declared.End.{End}
 use Rattle.plant.specs.declared.End.the-variants as Ends
-use Rattle.plant.proofs.Told.{told}
 use Rattle.plant.proofs.Bounds.{Each, got, stopped, readRows-each}
 
 -- `&s[b..]`, as the rule for it has it.
@@ -65,18 +64,6 @@ rows-end n m states b s p q end h e =
     q
     end
     (rw (e, part-is) (readRows-each (drop b s) (λ k at q. Unit {0}) m states (λ k at next q r j l i. tt) n 0 0 p h zero-le tt)))
-
--- What the end of reading a machine says of `readMachine`.
-module _ {file : List ℕ} {at m types used : ℕ} {states : List ℕ} {before : Columns} {rows : ℕ} {states′ : List ℕ} {after : Columns} {e : End}
-    (r : MachineRead file at m types used states before rows states′ after e) where
-  -- It finds the fault at which reading ended,
-  pub machine-fault : (f : Fault) → e ≡ Ends.Fault f → readMachine file at (plantIn types (take m states) used before) ≡ fault (f .number) (f .place)
-  machine-fault f q = told (λ x. endFound x (plantIn types (take (m + 1) states′) rows after)) (r .holds) q
-
-  -- or the plant with machine m in it, up to the offset at which reading ended.
-  pub machine-found : (next : ℕ) → e ≡ Ends.At next
-      → readMachine file at (plantIn types (take m states) used before) ≡ found (plantIn types (take (m + 1) states′) rows after) next
-  machine-found next q = told (λ x. endFound x (plantIn types (take (m + 1) states′) rows after)) (r .holds) q
 
 -- ---- what is left to read after i of n machines
 

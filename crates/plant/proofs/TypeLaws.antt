@@ -7,8 +7,8 @@ use native.Mathlib.Omega.{arith}
 use borrow.Author.Tests.{lt-ltb}
 use Rattle.plant.specs.Found.{found, andThen}
 use Rattle.plant.specs.Reading.{byteIn}
-use Rattle.plant.specs.Tables.{typeOf}
-use Rattle.plant.specs.Inner.Steps.{fieldFound, typeFound}
+use Rattle.plant.specs.Steps.{typeOf}
+use Rattle.plant.specs.Steps.{fieldFound, typeFound}
 use Rattle.plant.specs.declared.FieldStep.{FieldStep}
 use Rattle.plant.specs.declared.FieldStep.the-variants as FieldSteps
 use Rattle.plant.proofs.Bounds.{byteIn-each, each-found}

@@ -1,7 +1,5 @@
--- The plant file: what reading finds, the format, its limits, the answers, and the decoded table. `Inner` is for the reader's own functions.
+-- The plant file: what reading finds, the format, its limits, and what the functions that read it answer.
 pub mod Found
 pub mod Reading
 pub mod Limits
-pub mod Answers
-pub mod Tables
-pub mod Inner
+pub mod Steps

@@ -15,7 +15,7 @@ use Rattle.livelock.specs.Lists.{below, sum}
 use Rattle.livelock.specs.Weights.{weight}
 use Rattle.plant.specs.Found.{found, fault}
 use Rattle.weighing.specs.Weighing.{firstAbove}
-use Rattle.weighing.proofs.FigureLaws.{sum-limit}
+use Rattle.figures.proofs.FigureLaws.{sum-limit}
 use Rattle.weighing.proofs.WeighingLaws.{above-stops, above-goes-on, above-ends, no-plant}
 use Rattle.quoting.specs.Quoting.{content, amounts, checkedAmounts, checkedContents}
 use Rattle.quoting.specs.Inner.Checks.{AllAtMost, checkedPassing}

@@ -17,7 +17,7 @@ use Rattle.plant.specs.Found.{found, andThen}
 use Rattle.plant.specs.Limits.{WithinLimits}
 use Rattle.plant.specs.Reading.{byteAt, byteThat, byteIn, readRows, rowsByte, readMachine, readMachines, readPlant}
 use Rattle.weighing.specs.Weighing.{firstAbove, checkedSizes, checkedWeights, judgedWeights, Bounded}
-use Rattle.weighing.proofs.FigureLaws.{most-limit, base-limit, per-progress-limit}
+use Rattle.figures.proofs.FigureLaws.{most-limit, base-limit, per-progress-limit}
 use Rattle.weighing.proofs.WeighingLaws.{then-then, then-found, judged-weights}
 use Rattle.quoting.specs.Classes.{edges, classOf}
 use Rattle.quoting.specs.Quoting.{content, checkedAmounts, checkedContents, checked, judged, ceilingFor, OpensWith, IsCeiling, largestCeiling}

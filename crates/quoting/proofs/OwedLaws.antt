@@ -18,7 +18,7 @@ use Rattle.plant.proofs.OneToOne.{same-fault}
 use Rattle.weighing.specs.Weighing.{firstAbove, judgedWeights, OnPassingVerdict, OwedVerdict}
 use Rattle.weighing.specs.Answers as weighed
 use Rattle.weighing.specs.declared.Verdict.{Verdict}
-use Rattle.weighing.proofs.FigureLaws.{most-limit, base-limit, per-progress-limit}
+use Rattle.figures.proofs.FigureLaws.{most-limit, base-limit, per-progress-limit}
 use Rattle.weighing.proofs.WeighingLaws.{no-plant, then-found, judged-weights, verdict-refused, verdict-fails, verdict-passes}
 use Rattle.quoting.specs.Answers.{Answer, quoted, refused, answerOf}
 use Rattle.quoting.specs.Classes.{classOf}

@@ -18,16 +18,16 @@ use Rattle.livelock.proofs.Graphs.{Cycle}
 use Rattle.livelock.proofs.Differences.{Difference, difference-minus}
 use Rattle.livelock.proofs.CycleWeights.{sentWeight, takenWeight, below-zero-iff, zero-or-more-iff}
 use Rattle.livelock.proofs.QuietGraphs.{QuietRowOf, row-within}
-use Rattle.plant.specs.Tables.{plantOf, rowOf, rowsBefore, Ready}
+use Rattle.decoding.specs.Tables.{plantOf, rowOf, rowsBefore, Ready}
 use Rattle.plant.specs.Limits.{WithinLimits}
-use Rattle.plant.specs.declared.PlantTable.{PlantTable}
-use Rattle.plant.proofs.TableLaws.{row-is, rows-counted}
-use Rattle.plant.proofs.FirstRowLaws.{row-of-machine, machine-rows}
-use Rattle.weighing.specs.Inner.Signs.{rise, fall}
-use Rattle.weighing.specs.Inner.Edges.{columnsOf, Edges, Has, Listed}
-use Rattle.weighing.specs.Inner.Rounds.{AllBelowZero, Decided}
-use Rattle.weighing.specs.Inner.Checks.{RowsBetween, graphOf}
-use Rattle.weighing.proofs.SignLaws.{rise-fall, difference-same}
+use Rattle.decoding.specs.declared.PlantTable.{PlantTable}
+use Rattle.decoding.proofs.TableLaws.{row-is, rows-counted}
+use Rattle.decoding.proofs.FirstRowLaws.{row-of-machine, machine-rows}
+use Rattle.deciding.specs.Signs.{rise, fall}
+use Rattle.edges.specs.Edges.{columnsOf, Edges, Has, Listed, RowsBetween}
+use Rattle.deciding.specs.Rounds.{AllBelowZero, Decided}
+use Rattle.weighing.specs.Inner.Checks.{graphOf}
+use Rattle.deciding.proofs.SignLaws.{rise-fall, difference-same}
 
 -- ---- edges and rows
 

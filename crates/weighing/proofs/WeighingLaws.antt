@@ -22,28 +22,30 @@ use Rattle.livelock.proofs.Decision.{decision, not-both}
 use Rattle.livelock.proofs.Ceiling.{ceiling}
 use Rattle.plant.specs.Found.{Found, found, fault, andThen}
 use Rattle.plant.specs.Reading.{readPlant}
-use Rattle.plant.specs.Tables.{plantOf, endFound, Ready}
+use Rattle.decoding.specs.Tables.{plantOf, Ready}
+use Rattle.plant.specs.Steps.{endFound}
 use Rattle.plant.specs.Limits.{WithinLimits}
 use Rattle.plant.specs.declared.End.{End}
-use Rattle.plant.specs.declared.PlantTable.{PlantTable}
+use Rattle.decoding.specs.declared.PlantTable.{PlantTable}
 use Rattle.plant.proofs.FileBounds.{within-limits}
 use Rattle.plant.proofs.OneToOne.{same-fault}
-use Rattle.plant.proofs.TableLaws.{machines-counted}
+use Rattle.decoding.proofs.TableLaws.{machines-counted}
 use Rattle.weighing.specs.Answers.{Answer, passed, cycle, refused, answerOf, Judgement, judgementOf}
 use Rattle.weighing.specs.Answers as Answers
 use Rattle.weighing.specs.Weighing.{firstAbove, checkedSizes, checkedWeights, judgedWeights, checkedRoom, checked, judged}
 use Rattle.weighing.specs.Weighing.{OnPassing, OnFailing, Owed, for-fault, for-plant, OnPassingVerdict, OwedVerdict, verdict-for-fault, verdict-for-plant}
-use Rattle.weighing.specs.Inner.Checks.{WeightsChecked, RoomChecked, Machines, graphOf, PassingRows, FailingRows, FirstFailing, Weighable, ShownRows, Lent, Shows}
-use Rattle.weighing.specs.Inner.Edges.{Columns, columnsOf, Edges, Listed}
-use Rattle.weighing.specs.Inner.FigureSums.{FiguresOf}
-use Rattle.weighing.specs.Inner.Rounds.{EdgesIn, AllBelowZero, SomeZeroOrMore, Decided}
-use Rattle.weighing.specs.declared.figures.Figures.{Figures}
+use Rattle.weighing.specs.Inner.Checks.{WeightsChecked, RoomChecked, Machines, graphOf, PassingRows, FailingRows, FirstFailing, Weighable, Lent, Shows}
+use Rattle.edges.specs.Edges.{Columns, columnsOf, Edges, Listed}
+use Rattle.figures.specs.FigureSums.{FiguresOf}
+use Rattle.deciding.specs.Rounds.{EdgesIn, AllBelowZero, SomeZeroOrMore, Decided}
+use Rattle.searching.specs.Searches.{ShownRows}
+use Rattle.figures.specs.declared.Figures.{Figures}
 use Rattle.weighing.specs.declared.Weighed.{Weighed}
 use Rattle.weighing.specs.declared.Weighed.the-variants as Variants
 use Rattle.weighing.specs.declared.Verdict.{Verdict}
 use Rattle.weighing.specs.declared.Verdict.the-variants as Verdicts
-use Rattle.weighing.proofs.FigureLaws.{states-limit, greatest-limit}
-use Rattle.weighing.proofs.ListedLaws.{edges-in}
+use Rattle.figures.proofs.FigureLaws.{states-limit, greatest-limit}
+use Rattle.edges.proofs.ListedLaws.{edges-in}
 use Rattle.weighing.proofs.MachineLaws.{rows-between, machine-passes, machine-fails}
 
 -- ---- the first number above a limit

@@ -14,17 +14,3 @@ pub fn wide_row(x: u16) -> usize
 {
     x as usize
 }
-
-// A count of states as a figure.
-pub fn byte(x: u8) -> u64
-    ensures { λ r. ⌜ r ≡ x ⌝ }
-{
-    x as u64
-}
-
-// A weight as a figure.
-pub fn word(x: u16) -> u64
-    ensures { λ r. ⌜ r ≡ x ⌝ }
-{
-    x as u64
-}

@@ -4,17 +4,12 @@ ghost use mathlib.Core.Path.{_≡_};
 ghost use lib.ListN.{length};
 ghost use Rattle.weighing.specs.Answers.{answerOf, judgementOf};
 ghost use Rattle.weighing.specs.Weighing.{firstAbove, judgedWeights, judged, Owed, OwedVerdict};
-ghost use Rattle.weighing.specs.Inner.Edges.{Room};
+ghost use Rattle.edges.specs.Edges.{Room};
 ghost use Rattle.weighing.specs.Inner.Checks.{WeightsChecked, RoomChecked, Machines, FirstFailing, OwedJudged, JudgedFor};
 use plant::End;
 use plant::Fault;
 
 mod casts;
-mod deciding;
-mod edges;
-mod figures;
-mod relaxing;
-mod searching;
 
 // The answer of weighing: F, n and G, or how many rows are shown, or a fault.
 pub enum Weighed {
@@ -236,7 +231,7 @@ fn judge_file(
     let mut sent = [0; 1024];
     let mut taken = [0; 1024];
     let mut progress = [false; 1024];
-    let filled = plant::decode_columns(
+    let filled = decoding::decode_columns(
         file,
         &mut states,
         &mut first,

@@ -17,10 +17,10 @@ use Rattle.plant.specs.Found.{found}
 use Rattle.weighing.specs.Weighing.{firstAbove, checkedSizes, checkedWeights}
 use Rattle.quoting.specs.Classes.{edges, classOf}
 use Rattle.quoting.specs.Quoting.{checkedAmounts, checkedContents, checked, judged}
-use Rattle.listing.specs.Listings.{flattened}
-use Rattle.listing.specs.Cycles.{joined, selected, unleft, paths, cyclesThrough}
+use Rattle.cycle_paths.specs.Listings.{flattened}
+use Rattle.cycle_paths.specs.Cycles.{joined, selected, unleft, paths, cyclesThrough}
 use Rattle.listing.specs.Listing as Listing
-use Rattle.cycle_sets.specs.Sets.{numberIn, rowsAt, entryEnds, entryAt, entryBegins, entriesAt}
+use Rattle.set_entries.specs.Sets.{numberIn, rowsAt, entryEnds, entryAt, entryBegins, entriesAt}
 use Rattle.cycle_sets.specs.Confirming.{lowestNegative}
 use Rattle.worked_examples.specs.Files.{fileA, oneState}
 use Rattle.worked_examples.specs.Table.{Examples}

@@ -2,15 +2,15 @@
 // prints a line for each.
 use cycle_sets::Confirmation;
 use listing::Listed;
-use plant::Reading;
 use quoting::Quoted;
+use reading::Reading;
 use weighing::Weighed;
 
 mod plants;
 mod printing;
 
 fn read(title: &[u8], file: &[u8]) {
-    let answer = plant::read(file);
+    let answer = reading::read(file);
     printing::say(title);
     match answer {
         Reading::Counts {

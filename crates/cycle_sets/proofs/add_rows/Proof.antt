@@ -5,8 +5,9 @@ use native.Mathlib.Nat.{le-refl}
 use native.Mathlib.Omega.{arith}
 use lib.ListN.{length, getD}
 use lib.IntN.{pos, natAbs}
-use Rattle.cycle_sets.specs.Inner.Steps.{part, Added}
-use Rattle.cycle_sets.proofs.NumberLaws.{part-next, part-empty, part-length}
+use Rattle.set_entries.specs.Inner.Steps.{part}
+use Rattle.cycle_sets.specs.Inner.Sums.{Added}
+use Rattle.set_entries.proofs.NumberLaws.{part-next, part-empty, part-length}
 use Rattle.cycle_sets.proofs.SizeLaws.{size-fits, size-neg, times-is, less-fits, less-is}
 use Rattle.cycle_sets.proofs.AddingLaws.{none-added, sent-small, row-stored}
 use borrow.Author.Needs.{needs}

@@ -1,7 +1,8 @@
 -- `confirm` meets its contract: faults of the file and of the list are handed on, and otherwise the sums are looked through.
 use mathlib.Core.Path.{_∙_}
 use native.Mathlib.Omega.{arith}
-use Rattle.plant.specs.Tables.{plantOf, endFound}
+use Rattle.decoding.specs.Tables.{plantOf}
+use Rattle.plant.specs.Steps.{endFound}
 use Rattle.plant.proofs.Told.{told}
 use Rattle.plant.proofs.FileBounds.{within-limits}
 use Rattle.cycle_sets.proofs.ConfirmingLaws.{answered, file-refused, set-refused, sums-answer}

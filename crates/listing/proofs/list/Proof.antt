@@ -1,7 +1,8 @@
 -- `list` meets its contract: a fault of the file is handed on, and the table of a file that reads is checked and the machine listed.
 use borrow.Author.Needs.{needs}
 use mathlib.Core.Path.{refl}
-use Rattle.plant.specs.Tables.{plantOf, endFound}
+use Rattle.decoding.specs.Tables.{plantOf}
+use Rattle.plant.specs.Steps.{endFound}
 use Rattle.plant.proofs.Told.{told}
 use Rattle.plant.proofs.FileBounds.{within-limits}
 use Rattle.listing.specs.declared.Listed.the-variants as Variants

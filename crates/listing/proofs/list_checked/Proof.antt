@@ -2,8 +2,8 @@
 use borrow.Author.Needs.{needs}
 use native.Mathlib.Omega.{arith}
 use lib.ListN.{length}
-use Rattle.plant.specs.Tables.{plantOf}
-use Rattle.plant.proofs.TableLaws.{machines-counted}
+use Rattle.decoding.specs.Tables.{plantOf}
+use Rattle.decoding.proofs.TableLaws.{machines-counted}
 use Rattle.listing.proofs.TableCycles.{rows-range}
 use Rattle.listing.proofs.AnswerLaws.{states-are, refuse-12, refuse-states, refuse-rows, refuse-none, refusal, answers-same}
 use Rattle.listing.proofs.list_checked.Statement.{statement}

@@ -1,7 +1,7 @@
 -- `list_machine` meets its contract: the entries are counted over no room, and stored if they fit.
 use borrow.Author.Needs.{needs}
 use native.Mathlib.Omega.{arith}
-use Rattle.plant.specs.Tables.{plantOf}
+use Rattle.decoding.specs.Tables.{plantOf}
 use Rattle.listing.specs.Listing.{entriesNeeded}
 use Rattle.listing.proofs.AnswerLaws.{left-in, entered-in, entries-are, nothing-before, too-short, enough}
 use Rattle.listing.proofs.list_machine.Statement.{statement}

@@ -2,7 +2,7 @@
 use borrow.Author.Needs.{needs}
 use mathlib.Core.Path.{sym, _∙_}
 use Rattle.plant.specs.Reading.{mapByte}
-use Rattle.plant.specs.Inner.Steps.{fieldFound}
+use Rattle.plant.specs.Steps.{fieldFound}
 use Rattle.plant.proofs.Told.{told}
 use Rattle.plant.proofs.ByteLaws.{byte-missing, byte-passes, byte-fails}
 use Rattle.plant.proofs.map_byte.Statement.{statement}

@@ -2,7 +2,7 @@
 use borrow.Author.Needs.{needs}
 use mathlib.Core.Path.{ap}
 use native.Mathlib.Omega.{arith}
-use Rattle.plant.specs.Inner.Steps.{offsetOf}
+use Rattle.plant.specs.Steps.{offsetOf}
 use Rattle.plant.proofs.moved.Statement.{statement}
 use Rattle.plant.proofs.moved.Tie as tie
 

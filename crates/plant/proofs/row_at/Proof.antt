@@ -1,7 +1,7 @@
 -- `row_at` meets its contract: each return is `readRow`, rewritten by what the calls before it found.
 use borrow.Author.Needs.{needs}
 use Rattle.plant.specs.Reading.{readRow}
-use Rattle.plant.specs.Inner.Steps.{fieldFound, typeFound}
+use Rattle.plant.specs.Steps.{fieldFound, typeFound}
 use Rattle.plant.proofs.Told.{told}
 use Rattle.plant.proofs.row_at.Statement.{statement}
 use Rattle.plant.proofs.row_at.Tie as tie

@@ -4,7 +4,7 @@ use Prim.Native.Nat.{_+_}
 use native.Mathlib.Omega.{arith}
 use borrow.Author.Tests.{le-leb, lt-leb}
 use Rattle.plant.specs.Reading.{rowsByte}
-use Rattle.plant.specs.Inner.Steps.{fieldFound}
+use Rattle.plant.specs.Steps.{fieldFound}
 use Rattle.plant.proofs.Told.{told}
 use Rattle.plant.proofs.ByteLaws.{byte-missing, byte-passes, byte-fails}
 use Rattle.plant.proofs.rows_byte.Statement.{statement}

@@ -7,7 +7,7 @@ use native.Mathlib.Omega.{arith}
 use lib.ListN.{length}
 use Rattle.livelock.specs.Lists.{below, sum}
 use Rattle.livelock.specs.Weights.{weight}
-use Rattle.weighing.proofs.FigureLaws.{sum-none, sum-turn}
+use Rattle.figures.proofs.FigureLaws.{sum-none, sum-turn}
 use Rattle.quoting.specs.Quoting.{content}
 use Rattle.quoting.proofs.AmountLaws.{contents-limit}
 use Rattle.quoting.proofs.contents_weight.Statement.{statement}

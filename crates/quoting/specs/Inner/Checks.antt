@@ -8,7 +8,7 @@ use Rattle.livelock.specs.Lists.{below, sum}
 use Rattle.livelock.specs.Plants.{Plant}
 use Rattle.livelock.specs.Weights.{weight}
 use Rattle.plant.specs.Found.{Found, found, fault, andThen}
-use Rattle.plant.specs.Answers.{faultFound}
+use Rattle.plant.specs.Steps.{faultFound}
 use Rattle.quoting.specs.Answers.{Answer, quoted, refused}
 use Rattle.quoting.specs.Classes.{classOf}
 use Rattle.quoting.specs.Quoting.{content, checkedContents}

@@ -2,7 +2,7 @@
 use borrow.Author.Needs.{needs}
 use mathlib.Core.Path.{refl}
 use native.Mathlib.Omega.{arith}
-use Rattle.plant.specs.Tables.{endFound}
+use Rattle.plant.specs.Steps.{endFound}
 use Rattle.weighing.specs.Weighing.{checkedRoom}
 use Rattle.weighing.proofs.WeighingLaws.{end-told, refuse-11, accept-room}
 use Rattle.weighing.proofs.check_room.Statement.{statement}

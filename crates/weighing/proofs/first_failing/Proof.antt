@@ -4,7 +4,7 @@ use Prim.Native.Nat.{ℕ, _+_, _-_, _≤_, _<_}
 use native.Mathlib.Omega.{arith}
 use lib.ListN.{length, getD}
 use borrow.Author.Tests.{not-true, not-false}
-use Rattle.weighing.specs.Inner.Edges.{Room}
+use Rattle.edges.specs.Edges.{Room}
 use Rattle.weighing.specs.Inner.Checks.{PassingRows}
 use Rattle.weighing.proofs.WeighingLaws.{when-true, when-false, below-next, turn-rows, turn-edges, turn-states, turn-passes, turn-fails}
 use Rattle.weighing.proofs.first_failing.Statement.{statement}

@@ -6,16 +6,17 @@ use lib.ListN.{length, getD, take}
 use lib.IntN.{ℤ}
 use Rattle.livelock.specs.Plants.{Plant}
 use Rattle.livelock.proofs.Graphs.{Graph}
-use Rattle.plant.specs.Tables.{plantOf, endFound, Ready}
+use Rattle.decoding.specs.Tables.{plantOf, Ready}
+use Rattle.plant.specs.Steps.{endFound}
 use Rattle.plant.specs.Limits.{WithinLimits}
 use Rattle.plant.specs.Found.{Found, found, andThen}
 use Rattle.plant.specs.declared.End.{End}
-use Rattle.plant.specs.declared.PlantTable.{PlantTable}
+use Rattle.decoding.specs.declared.PlantTable.{PlantTable}
 use Rattle.weighing.specs.Answers.{cycle, failing, judgementOf}
 use Rattle.weighing.specs.Weighing.{checkedWeights, checkedRoom, Owed, OwedVerdict}
-use Rattle.weighing.specs.Inner.Edges.{Columns, columnsOf, Edges, Listed}
-use Rattle.weighing.specs.Inner.Rounds.{edgeGraph, EdgesIn, AllBelowZero, SomeZeroOrMore}
-use Rattle.weighing.specs.Inner.Searches.{Written}
+use Rattle.edges.specs.Edges.{Columns, columnsOf, Edges, Listed, RowsBetween}
+use Rattle.deciding.specs.Rounds.{edgeGraph, EdgesIn, AllBelowZero, SomeZeroOrMore}
+use Rattle.searching.specs.Searches.{ShownRows}
 use Rattle.weighing.specs.declared.Judged.{Judged}
 
 -- For every plant with so many types: where reading ended, the checks 9 and 10 follow.
@@ -25,14 +26,6 @@ WeightsChecked types ws end r = (P : Plant) → P .types ≡ types → endFound 
 -- For every plant: where no fault was found, check 11 follows.
 abbrev pub RoomChecked : ℕ → End → End → Type 0
 RoomChecked room end r = (P : Plant) → endFound r P ≡ andThen (endFound end P) (checkedRoom room)
-
--- A machine's rows from `low` up to, and not including, `high`: at most 255, between so many states.
-pub record RowsBetween (c : Columns) (low high states : ℕ) : Type 0 where
-  pub in-table : high ≤ 1024
-  pub ordered : low ≤ high
-  pub few : high ≤ low + 255
-  pub left-in : (j : ℕ) → low ≤ j → j < high → getD (c .left) j 0 < states
-  pub entered-in : (j : ℕ) → low ≤ j → j < high → getD (c .entered) j 0 < states
 
 -- At most 16 machines, each with 1 to 64 states; machine m has the rows from first[m] up to, and not including, first[m + 1].
 pub record Machines (c : Columns) (first states : List ℕ) : Type 0 where
@@ -67,12 +60,6 @@ pub record Weighable (t : PlantTable) (ws : List ℕ) : Type 0 where
   pub ready : Ready t
   pub limits : WithinLimits (plantOf t)
   pub one-each : length ws ≡ t .types
-
--- A cycle of k edges was written; k is at least 1, and no more than the machine has states.
-pub record ShownRows (g : Graph) (states : ℕ) (row : List ℕ) (k : ℕ) (before after : List ℕ) : Type 0 where
-  pub some-row : 1 ≤ k
-  pub few : k ≤ states
-  pub written : Written g row k before after
 
 -- These are the columns of a table, its machines' first rows and their counts of states.
 pub record Lent (t : PlantTable) (c : Columns) (first states : List ℕ) : Type 0 where

@@ -1,0 +1,340 @@
+-- Laws of the extension of a path: what each row adds to the entries.
+--
+-- The definition goes through all rows of the machine, the loop only through those linked, which leave the state where the path stands.
+-- `rest k` has the entries that the rows from k on add. A row that leaves another state adds none (`rest-other`), so that `rest` is the
+-- same at a row and at the next one linked (`rest-to`); a row that leaves the state adds what its step says (`rest-step`). A turn of the
+-- loop is both together (`turn-step`), and `Extending` says of the loop what `Adding` says of a list of entries.
+use mathlib.Core.Path.{_≡_, refl, sym, ap, _∙_, subst}
+use mathlib.Core.Bool.{Bool, true, false, cond}
+use mathlib.Core.List.{List, [], _∷_, _++_, map, append-assoc, append-nil}
+use Prim.Native.Nat.{ℕ, zero, suc, _+_, _-_, _<_, _≤_}
+use native.Mathlib.Decide.{decLt}
+use native.Mathlib.Nat.{add-zero, le-refl}
+use native.Mathlib.Numerals.{add-one}
+use native.Mathlib.Omega.{arith}
+use borrow.Author.Tests.{eqb-true, eq-eqb, ne-eqb}
+use lib.ListN.{length, getD, set, take, length-append}
+use lib.Seq.{take-suc-set, take-take, take-set-le}
+use lib.Dec.{eqb, ltb}
+use Rattle.cycle_paths.specs.declared.Step.{Step}
+use Rattle.cycle_paths.specs.declared.Step.the-variants as Steps
+use Rattle.cycle_paths.specs.Cycles.{unleft, joined, pathsBy, paths, leftOnly, cyclesBy}
+use Rattle.cycle_paths.specs.Listings.{flattened}
+use Rattle.cycle_paths.specs.Inner.Ranges.{upFrom, column}
+use Rattle.cycle_paths.specs.Inner.Filling.{Linked, stepOf, entryOf, entriesWith, extensions, Added, PathKept, Extended}
+use Rattle.cycle_paths.proofs.FillingLaws.{Adding, adding-begins, adding-named, adding-none, adding-part, adding-ends, adding-stops}
+
+-- ---- entries
+
+-- The entries of two lists of cycles, one after the other.
+flattened-append : (a b : List (List ℕ)) → flattened (a ++ b) ≡ flattened a ++ flattened b
+unfolding flattened
+flattened-append [] b = refl
+flattened-append (c ∷ a) b = rw (flattened-append a b, append-assoc c (flattened a) (flattened b))
+
+-- The same behind the rows of a path,
+entries-append : (rows : List ℕ) (a b : List (List ℕ)) → entriesWith rows (a ++ b) ≡ entriesWith rows a ++ entriesWith rows b
+unfolding entriesWith flattened
+entries-append rows [] b = refl
+entries-append rows (c ∷ a) b =
+    rw (entries-append rows a b, append-assoc (rows ++ c) (flattened (map (λ d. rows ++ d) a)) (flattened (map (λ d. rows ++ d) b)))
+
+-- with one row that all cycles go on by,
+entries-row : (rows : List ℕ) (k : ℕ) (cs : List (List ℕ)) → entriesWith rows (map (λ c. k ∷ c) cs) ≡ entriesWith (rows ++ (k ∷ [])) cs
+unfolding entriesWith flattened
+entries-row rows k [] = refl
+entries-row rows k (c ∷ cs) = rw (entries-row rows k cs, append-assoc rows (k ∷ []) c)
+
+-- with a row that closes the cycle,
+entries-close : (rows : List ℕ) (k : ℕ) → entriesWith rows ((k ∷ []) ∷ []) ≡ entryOf rows k
+unfolding entriesWith flattened
+entries-close rows k = rw (append-nil, length-append rows (k ∷ []))
+
+-- and behind no rows.
+entries-none : (cs : List (List ℕ)) → entriesWith [] cs ≡ flattened cs
+unfolding entriesWith flattened
+entries-none [] = refl
+entries-none (c ∷ cs) = rw (entries-none cs)
+
+-- ---- the step of a row
+
+-- The entries that a step adds.
+abbrev added : Step → ℕ → List ℕ → (ℕ → List (List ℕ)) → List ℕ
+added Steps.Skip k rows onward = []
+added Steps.Close k rows onward = entryOf rows k
+added (Steps.Enter s) k rows onward = entriesWith (rows ++ (k ∷ [])) (onward s)
+
+-- They are those of the paths whose first row is k.
+added-are : (closes below unleft : Bool) (s k : ℕ) (rows : List ℕ) (onward : ℕ → List (List ℕ))
+    → entriesWith rows (cond closes ((k ∷ []) ∷ []) (cond below [] (cond unleft (map (λ c. k ∷ c) (onward s)) [])))
+    ≡ added (cond closes Steps.Close (cond below Steps.Skip (cond unleft (Steps.Enter s) Steps.Skip))) k rows onward
+added-are true b u s k rows onward = entries-close rows k
+added-are false true u s k rows onward = unfold entriesWith flattened in refl
+added-are false false true s k rows onward = entries-row rows k (onward s)
+added-are false false false s k rows onward = unfold entriesWith flattened in refl
+
+-- A step that enters a state enters the row's, and that is not yet left.
+enter-inverts : (closes below unleft : Bool) (x s : ℕ) → Steps.Enter s ≡ cond closes Steps.Close (cond below Steps.Skip (cond unleft (Steps.Enter x) Steps.Skip))
+    → (s ≡ x) × (unleft ≡ true)
+enter-inverts true b u x s e = (cc, cc)
+enter-inverts false true u x s e = (cc, cc)
+enter-inverts false false true x s e = (cc, refl)
+enter-inverts false false false x s e = (cc, cc)
+
+-- So it is with the step of row k.
+pub enter-unleft : (entered : List ℕ) (start : ℕ) (marks : List ℕ) (k : ℕ) (step : Step) → step ≡ stepOf entered start marks k → (s : ℕ) → step ≡ Steps.Enter s
+    → (s ≡ column entered k) × (getD marks s 0 ≡ 0)
+enter-unleft entered start marks k step is s e =
+    let p = enter-inverts (eqb (column entered k) start) (ltb (column entered k) start) (eqb (getD marks (column entered k) 0) 0) (column entered k) s (sym e ∙ is) in
+    (p .0, ap (λ (u : ℕ). getD marks u 0) (p .0) ∙ eqb-true _ _ (p .1))
+
+-- ---- one row more
+
+module _ (left entered : List ℕ) (first last start : ℕ) (marks rows : List ℕ) (at high : ℕ) where
+  -- The entries of the paths from row k on.
+  abbrev rest : ℕ → List ℕ
+  rest k = extensions left entered first last start marks rows at k (high - k)
+
+  -- The paths from state s on.
+  abbrev onward : ℕ → List (List ℕ)
+  onward s = paths (unleft marks) (column left) (column entered) (upFrom first (last - first)) start s (set marks s 1) (upFrom first (last - first))
+
+  -- At the end nothing is left.
+  rest-none : (k : ℕ) → high ≤ k → rest k ≡ []
+  unfolding extensions paths joined upFrom entriesWith flattened
+  rest-none k h = let n : high - k ≡ 0 = omega arith in rw n
+
+  -- Row k comes first, then the rows after it.
+  rest-first : (k : ℕ) → k < high → rest k ≡ entriesWith rows (pathsBy (column left) (column entered) start at marks onward k) ++ rest (k + 1)
+  unfolding extensions paths joined upFrom
+  rest-first k h =
+      let n : high - k ≡ suc (high - (k + 1)) = omega arith in
+      rw (n, add-one k) (entries-append rows (pathsBy (column left) (column entered) start at marks onward k) _)
+
+  -- A row that leaves another state adds nothing.
+  rest-other : (k : ℕ) → k < high → (column left k ≡ at → ⊥) → rest k ≡ rest (k + 1)
+  unfolding entriesWith flattened
+  rest-other k h n = rest-first k h ∙ rw (ne-eqb (column left k) at n)
+
+  -- The paths that begin with a row which leaves the state are what its step adds,
+  step-adds : (k : ℕ) → column left k ≡ at → entriesWith rows (pathsBy (column left) (column entered) start at marks onward k) ≡ added (stepOf entered start marks k) k rows onward
+  step-adds k leaves =
+      rw (eq-eqb (column left k) at leaves)
+      (added-are (eqb (column entered k) start) (ltb (column entered k) start) (eqb (getD marks (column entered k) 0) 0) (column entered k) k rows onward)
+
+  -- and come before those of the rows after it.
+  rest-step : (k : ℕ) → k < high → column left k ≡ at → (step : Step) → step ≡ stepOf entered start marks k → rest k ≡ added step k rows onward ++ rest (k + 1)
+  rest-step k h leaves step is =
+      rest-first k h ∙ ap (λ (l : List ℕ). l ++ rest (k + 1)) (step-adds k leaves ∙ ap (λ (z : Step). added z k rows onward) (sym is))
+
+  -- Rows that leave other states are passed over.
+  rest-past : (d k : ℕ) → ((j : ℕ) → k ≤ j → j < k + d → j < high → column left j ≡ at → ⊥) → rest k ≡ rest (k + d)
+  rest-past zero k h = rw (add-zero k)
+  rest-past (suc d) k h = go (decLt k high) (rest-past d (k + 1) (λ j a b c. h j (omega arith) (omega arith) c))
+    where
+      go : Dec (k < high) → rest (k + 1) ≡ rest (k + 1 + d) → rest k ≡ rest (k + suc d)
+      go (yes l) r = let n : k + suc d ≡ k + 1 + d = omega arith in rw n (rest-other k l (h k (omega arith) (omega arith) l) ∙ r)
+      go (no l) r = rest-none k (omega arith) ∙ sym (rest-none (k + suc d) (omega arith))
+
+  -- So what is left is the same at the next row that leaves the state.
+  rest-to : (k next : ℕ) → k ≤ next → ((j : ℕ) → k ≤ j → j < next → j < high → column left j ≡ at → ⊥) → rest k ≡ rest next
+  rest-to k next l h =
+      let e : k + (next - k) ≡ next = omega arith in
+      rw e at (rest-past (next - k) k (λ j a b c. h j a (omega arith) c))
+
+-- The extensions by all rows from state s on, with one state more left and one row more on the path.
+rest-longer : (left entered : List ℕ) (first last start : ℕ) (marks rows : List ℕ) (at high s k : ℕ) → unleft marks ≡ suc (unleft (set marks s 1))
+    → (path : List ℕ) (depth : ℕ) → take depth path ≡ rows → depth < length path
+    → entriesWith (rows ++ (k ∷ [])) (onward left entered first last start marks rows at high s)
+    ≡ rest left entered first last start (set marks s 1) (take (depth + 1) (set path depth k)) s last first
+unfolding extensions
+rest-longer left entered first last start marks rows at high s k u path depth rows-are room = rw (add-one depth, take-suc-set path depth k room, rows-are, u)
+
+-- Where no row is left it does not matter at which state the path stands.
+rest-at : (left entered : List ℕ) (first last start : ℕ) (marks rows : List ℕ) (at at′ low high : ℕ) → (low < high → at ≡ at′)
+    → extensions left entered first last start marks rows at low (high - low) ≡ extensions left entered first last start marks rows at′ low (high - low)
+rest-at left entered first last start marks rows at at′ low high e = go (decLt low high)
+  where
+    go : Dec (low < high) → extensions left entered first last start marks rows at low (high - low) ≡ extensions left entered first last start marks rows at′ low (high - low)
+    go (yes l) = ap (λ (x : ℕ). extensions left entered first last start marks rows x low (high - low)) (e l)
+    go (no l) = rest-none left entered first last start marks rows at high low (omega arith) ∙ sym (rest-none left entered first last start marks rows at′ high low (omega arith))
+
+-- ---- one turn of the loop over linked rows
+
+-- Row k, below `high`, leaves the state at which the path stands; `step` is what it does, and n is the next row that leaves that state.
+record Turn (left entered next head : List ℕ) (first last start : ℕ) (marks rows : List ℕ) (at high k n : ℕ) (step : Step) : Type 0 where
+  pub links : Linked left next head first last
+  pub low-in : first ≤ k
+  pub inside : k < high
+  pub high-in : high ≤ last
+  pub leaves : column left k ≡ at
+  pub step-is : step ≡ stepOf entered start marks k
+  pub next-is : n ≡ column next k
+
+module _ {left entered next head : List ℕ} {first last start : ℕ} {marks rows : List ℕ} {at high k n : ℕ} {step : Step}
+    (turn : Turn left entered next head first last start marks rows at high k n step) where
+  -- The next row comes after row k,
+  turn-later : k < n
+  turn-later = omega (arith, turn .next-is, turn .links .next-later k (turn .low-in) (omega (arith, turn .inside, turn .high-in)))
+
+  -- leaves the same state,
+  turn-leaves : n < high → column left n ≡ at
+  turn-leaves l =
+      ap (column left) (turn .next-is)
+      ∙ (turn .links .next-same k (turn .low-in) (omega (arith, turn .inside, turn .high-in)) (omega (arith, turn .next-is, turn .high-in)) ∙ turn .leaves)
+
+  -- and the rows before it add nothing.
+  turn-past : rest left entered first last start marks rows at high (k + 1) ≡ rest left entered first last start marks rows at high n
+  turn-past =
+      rest-to left entered first last start marks rows at high (k + 1) n (omega (arith, turn-later))
+      (λ j a b c q. turn .links .next-first k j (turn .low-in) (omega arith) (omega (arith, turn .next-is)) (omega (arith, turn .high-in)) (q ∙ sym (turn .leaves)))
+
+  -- The entries from row k on: what its step adds, then those from the next row on.
+  turn-step : rest left entered first last start marks rows at high k
+      ≡ added step k rows (onward left entered first last start marks rows at high) ++ rest left entered first last start marks rows at high n
+  turn-step =
+      rest-step left entered first last start marks rows at high k (turn .inside) (turn .leaves) step (turn .step-is)
+      ∙ ap (λ (l : List ℕ). added step k rows (onward left entered first last start marks rows at high) ++ l) turn-past
+
+  -- Nothing, the cycle that it closes,
+  turn-skip : step ≡ Steps.Skip → rest left entered first last start marks rows at high k ≡ rest left entered first last start marks rows at high n
+  turn-skip e = rw e at turn-step
+
+  turn-close : step ≡ Steps.Close → rest left entered first last start marks rows at high k ≡ entryOf rows k ++ rest left entered first last start marks rows at high n
+  turn-close e = rw e at turn-step
+
+  -- or the extensions from the first row on that leaves the state which it enters.
+  turn-begin : (s : ℕ) → s < 24 → (begin : ℕ) → begin ≡ column head s → (marks′ rows′ : List ℕ)
+      → rest left entered first last start marks′ rows′ s last first ≡ rest left entered first last start marks′ rows′ (column left begin) last begin
+  turn-begin s b begin begin-is marks′ rows′ =
+      rest-to left entered first last start marks′ rows′ s last first begin (omega (arith, begin-is, turn .links .head-in s b .0))
+      (λ j x y z q. turn .links .head-first s j b x (omega (arith, begin-is)) q)
+      ∙ rest-at left entered first last start marks′ rows′ s (column left begin) begin last
+      (λ l. sym (ap (column left) begin-is ∙ turn .links .head-same s b (omega (arith, begin-is))))
+
+  turn-enter : (s : ℕ) → step ≡ Steps.Enter s → s < 24 → unleft marks ≡ suc (unleft (set marks s 1)) → (path : List ℕ) (depth : ℕ) → take depth path ≡ rows
+      → depth < length path → (begin : ℕ) → begin ≡ column head s
+      → rest left entered first last start marks rows at high k
+      ≡ rest left entered first last start (set marks s 1) (take (depth + 1) (set path depth k)) (column left begin) last begin
+      ++ rest left entered first last start marks rows at high n
+  turn-enter s e b u path depth rows-are room begin begin-is =
+      (rw e at turn-step)
+      ∙ ap (λ (l : List ℕ). l ++ rest left entered first last start marks rows at high n)
+      (rest-longer left entered first last start marks rows at high s k u path depth rows-are room
+      ∙ turn-begin s b begin begin-is (set marks s 1) (take (depth + 1) (set path depth k)))
+
+-- ---- the loop over linked rows
+
+-- On the way from `low` to `high`, at row k, with `used` entries in `out`: whatever rows have these links, k leaves the same state as
+-- `low`, and the entries from row k on are left to be added.
+pub record Extending (entered next head : List ℕ) (last start : ℕ) (marks rows : List ℕ) (low high limit : ℕ) (before : List ℕ) (pos k used : ℕ) (out : List ℕ) : Type 0 where
+  pub leaves : (left : List ℕ) (first : ℕ) → Linked left next head first last → first ≤ low → k < high → column left k ≡ column left low
+  pub adds : (left : List ℕ) (first : ℕ) → Linked left next head first last → first ≤ low
+      → Adding limit before pos (rest left entered first last start marks rows (column left low) high low) used out (rest left entered first last start marks rows (column left low) high k)
+
+module _ {entered next head : List ℕ} {last start : ℕ} {marks rows : List ℕ} {low high limit : ℕ} {before : List ℕ} {pos : ℕ} where
+  -- At first all is left.
+  pub extending-begins : length before ≤ limit → pos ≤ suc limit → Extending entered next head last start marks rows low high limit before pos low pos before
+  extending-begins fits h = record { leaves = λ left first links l i. refl; adds = λ left first links l. adding-begins fits h }
+
+  -- What is kept under other names is the same.
+  pub extending-named : {k used : ℕ} {out : List ℕ} (used′ : ℕ) (out′ : List ℕ) → used′ ≡ used → out′ ≡ out
+      → Extending entered next head last start marks rows low high limit before pos k used out → Extending entered next head last start marks rows low high limit before pos k used′ out′
+  extending-named used′ out′ u o g = record { leaves = g .leaves; adds = λ left first links l. adding-named used′ out′ u o (g .adds left first links l) }
+
+  module _ {k used : ℕ} {out : List ℕ} (g : Extending entered next head last start marks rows low high limit before pos k used out) where
+    -- The count is above the limit: all is added.
+    pub extending-stops : limit < used → Extended entered next head last start marks rows low high limit before pos used out
+    extending-stops h left first links l = adding-stops (g .adds left first links l) h
+
+    -- No row is left: all is added.
+    pub extending-ends : high ≤ k → Extended entered next head last start marks rows low high limit before pos used out
+    extending-ends h left first links l = adding-ends (g .adds left first links l) (rest-none left entered first last start marks rows (column left low) high k h)
+
+    module _ (low-in : low ≤ k) (inside : k < high) (high-in : high ≤ last) {step : Step} (step-is : step ≡ stepOf entered start marks k) {n : ℕ} (next-is : n ≡ column next k) where
+      -- For all rows that have these links it is such a turn.
+      turn-of : (left : List ℕ) (first : ℕ) → Linked left next head first last → first ≤ low
+          → Turn left entered next head first last start marks rows (column left low) high k n step
+      turn-of left first links l =
+          record { links = links; low-in = omega arith; inside = inside; high-in = high-in; leaves = g .leaves left first links l inside; step-is = step-is; next-is = next-is }
+
+      -- A row that does nothing is passed over,
+      pub extending-skip : step ≡ Steps.Skip → Extending entered next head last start marks rows low high limit before pos n used out
+      extending-skip e =
+          record {
+            leaves = λ left first links l. turn-leaves (turn-of left first links l);
+            adds = λ left first links l. adding-none (g .adds left first links l) _ (turn-skip (turn-of left first links l) e);
+          }
+
+      module _ {used′ : ℕ} {out′ : List ℕ} (same : length out′ ≡ length out) where
+        -- one that closes the cycle adds it,
+        pub extending-close : step ≡ Steps.Close → (path : List ℕ) (depth : ℕ) → take depth path ≡ rows → Added limit out used (entryOf (take depth path) k) used′ out′
+            → Extending entered next head last start marks rows low high limit before pos n used′ out′
+        extending-close e path depth rows-are f =
+            record {
+              leaves = λ left first links l. turn-leaves (turn-of left first links l);
+              adds = λ left first links l.
+                  adding-part (g .adds left first links l) _ _ (turn-close (turn-of left first links l) e) used′ out′ same
+                  (subst (λ (z : List ℕ). Added limit out used (entryOf z k) used′ out′) rows-are f);
+            }
+
+        -- and one that enters a state adds the extensions of the longer path.
+        pub extending-enter : (s : ℕ) → step ≡ Steps.Enter s → s < 24 → unleft marks ≡ suc (unleft (set marks s 1)) → (path : List ℕ) (depth : ℕ) → take depth path ≡ rows
+            → depth < length path → (begin : ℕ) → begin ≡ column head s → (marked : List ℕ) → marked ≡ set marks s 1
+            → Extended entered next head last start marked (take (depth + 1) (set path depth k)) begin last limit out used used′ out′
+            → Extending entered next head last start marks rows low high limit before pos n used′ out′
+        extending-enter s e b u path depth rows-are room begin begin-is marked marked-is f =
+            record {
+              leaves = λ left first links l. turn-leaves (turn-of left first links l);
+              adds = λ left first links l.
+                  adding-part (g .adds left first links l) _ _ (turn-enter (turn-of left first links l) s e b u path depth rows-are room begin begin-is) used′ out′ same
+                  (subst
+                  (λ (z : List ℕ). Extended entered next head last start z (take (depth + 1) (set path depth k)) begin last limit out used used′ out′)
+                  marked-is
+                  f
+                  left
+                  first
+                  links
+                  (omega (arith, begin-is, links .head-in s b .0)));
+            }
+
+-- The first rows of a path are kept by a store behind them and by what keeps that store.
+pub path-kept : (depth k : ℕ) (path₀ path path′ : List ℕ) → PathKept depth path₀ path → PathKept (depth + 1) (set path depth k) path′ → PathKept depth path₀ path′
+path-kept depth k path₀ path path′ p q =
+    record {
+      path-room = q .path-room;
+      same-rows =
+          sym (take-take depth (depth + 1) path′ (omega arith))
+          ∙ ap (take depth) (q .same-rows)
+          ∙ take-take depth (depth + 1) (set path depth k) (omega arith)
+          ∙ take-set-le depth path depth k (le-refl depth)
+          ∙ p .same-rows;
+    }
+
+-- ---- the first rows of the cycles, one after the other
+
+-- No more states are not yet left than there are.
+pub unleft-few : (marks : List ℕ) → unleft marks ≤ length marks
+unfolding unleft
+unleft-few [] = omega arith
+unleft-few (zero ∷ marks) = omega (arith, unleft-few marks)
+unleft-few (suc x ∷ marks) = omega (arith, unleft-few marks)
+
+module _ (left entered : List ℕ) (first last : ℕ) where
+  -- The entries of the cycles that begin with row k or a later one.
+  abbrev pub entriesFrom : ℕ → List ℕ
+  entriesFrom k = flattened (joined (upFrom k (last - k)) (cyclesBy 24 (column left) (column entered) (upFrom first (last - first))))
+
+  -- The cycles that begin with row k come first.
+  pub entries-first : (k : ℕ) (path marks : List ℕ) → marks ≡ leftOnly 24 (column left k) → k < last
+      → entriesFrom k ≡ extensions left entered first last (column left k) marks (take 0 path) (column left k) k (k + 1 - k) ++ entriesFrom (k + 1)
+  unfolding joined upFrom extensions
+  entries-first k path marks marks-are h =
+      let n : last - k ≡ suc (last - (k + 1)) = omega arith in
+      let o : k + 1 - k ≡ 1 = omega arith in
+      rw (marks-are, n, o, add-one k, entries-none) (flattened-append (cyclesBy 24 (column left) (column entered) (upFrom first (last - first)) k) _)
+
+  -- After the last row there are none.
+  pub entries-end : (k : ℕ) → last ≤ k → entriesFrom k ≡ []
+  unfolding joined upFrom flattened
+  entries-end k h = let n : last - k ≡ 0 = omega arith in rw n

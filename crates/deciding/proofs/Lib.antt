@@ -1,0 +1,3 @@
+-- Laws of edge lists and of deciding.
+pub mod SignLaws
+pub mod DecisionLaws

@@ -1,0 +1,150 @@
+-- `relax` meets its contract: after i turns the first i edges are relaxed.
+use mathlib.Core.Path.{_≡_, sym, _∙_, subst}
+use mathlib.Core.Logic.{⊎-elim}
+use Prim.Native.Nat.{ℕ, _-_, _≤_, _<_}
+use native.Mathlib.Omega.{arith}
+use lib.ListN.{getD}
+use lib.IntN.{pos}
+use mir.Syntax.{w64}
+use mir.Facts.{toZ-ofZ}
+use Rattle.livelock.proofs.Lengths.{lengthened}
+use Rattle.deciding.specs.Rounds.{edgeGraph, Pass}
+use Rattle.deciding.proofs.DecisionLaws.{length-low, pass-starts, pass-low, edge-keeps, edge-raises}
+use borrow.Author.Needs.{needs}
+use Rattle.deciding.proofs.relax.Statement.{statement}
+use Rattle.deciding.proofs.relax.Tie as tie
+
+abbrev Inv-loop : tie.InvT-loop
+Inv-loop from to weight count states n heights₀ last₀ i₀ heights last i = (i ≤ count) × Pass (lengthened n (edgeGraph count from to weight)) i heights₀ heights last
+
+abbrev μ-loop : tie.MeasureT-loop
+μ-loop from to weight count states n heights₀ last₀ i₀ heights last i = count - i
+
+-- Both states of an edge have a height.
+left-low : (c : tie.After-wide Inv-loop μ-loop) → c .wide .result < 64
+left-low c = let ok = c .before .before .before .before .pre .0 in omega (arith, c .wide .ensures, ok .from-in (c .before .before .before .loop .i) (c .before .before .loop-test .taken), ok .states-in)
+
+entered-low : (c : tie.After-wide2 Inv-loop μ-loop) → c .wide2 .result < 64
+entered-low c = let ok = c .before .before .before .before .before .before .before .pre .0 in omega (arith, c .wide2 .ensures, ok .to-in (c .before .before .before .before .before .before .loop .i) (c .before .before .before .before .before .loop-test .taken), ok .states-in)
+
+loop-holds : tie.Need-loop-holds Inv-loop μ-loop
+loop-holds c = (search needs, pass-starts _ (c .args .heights .now))
+
+element-copy-out-wide : tie.Need-element-copy-out-wide Inv-loop μ-loop
+element-copy-out-wide c = search needs
+
+wide-requires : tie.Need-wide-requires Inv-loop μ-loop
+wide-requires c κs = search needs
+
+mul-height : tie.Need-mul-height Inv-loop μ-loop
+mul-height c = record { fits = omega (arith, left-low c) }
+
+element-copy-out-height : tie.Need-element-copy-out-height Inv-loop μ-loop
+element-copy-out-height c = left-low c
+
+element-copy-out-wide-2 : tie.Need-element-copy-out-wide-2 Inv-loop μ-loop
+element-copy-out-wide-2 c = search needs
+
+wide-requires-2 : tie.Need-wide-requires-2 Inv-loop μ-loop
+wide-requires-2 c κs = search needs
+
+mul-row-length : tie.Need-mul-row-length Inv-loop μ-loop
+mul-row-length c = search needs
+
+element-copy-out-row-length : tie.Need-element-copy-out-row-length Inv-loop μ-loop
+element-copy-out-row-length c = search needs
+
+row-length-requires : tie.Need-row-length-requires Inv-loop μ-loop
+row-length-requires c κs =
+    let start = c .before .before .before .before .before .before .before .before in
+    let i = c .before .before .before .before .before .before .before .loop .i in
+    let there = c .before .before .before .before .before .before .loop-test .taken in
+    let fit = toZ-ofZ {w = w64} {z = getD (start .args .weight .now) i (pos 0)} (record { sfits = c .row-length-arg .given }) in
+    (start .pre .1, rw fit (start .pre .0 .rise-in i there), rw fit (start .pre .0 .fall-in i there))
+
+mul-next : tie.Need-mul-next Inv-loop μ-loop
+mul-next c = record { fits = omega (arith, entered-low (c .before .before)) }
+
+element-copy-out-next : tie.Need-element-copy-out-next Inv-loop μ-loop
+element-copy-out-next c = entered-low (c .before .before)
+
+rises-requires : tie.Need-rises-requires Inv-loop μ-loop
+rises-requires c κs =
+    let start = c .before .before .before .before .before .before .before .before .before .before in
+    let a = start .args in
+    let ok = start .pre .0 in
+    let l = c .before .before .before .before .before .before .before .before .before .loop in
+    let there = c .before .before .before .before .before .before .before .before .loop-test .taken in
+    let fit = toZ-ofZ {w = w64} {z = getD (a .weight .now) (l .i) (pos 0)} (record { sfits = c .before .before .row-length-arg .given }) in
+    let made = toZ-ofZ {w = w64} {z = c .before .row-length .result} (record { sfits = c .before .row-length .ok }) in
+    let long = rw fit at (c .before .row-length .ensures) in
+    let short = length-low (a .n) (getD (a .weight .now) (l .i) (pos 0)) (start .pre .1) (ok .rise-in (l .i) there) (ok .fall-in (l .i) there) in
+    let low = pass-low (a .n) (a .count) (a .states) (a .from .now) (a .to .now) (a .weight .now) ok (start .pre .1) (l .i) there (a .heights .now) (l .heights) (l .last) (l .inv .1) (start .pre .3) in
+    (omega (arith, low (c .before .before .before .before .before .before .wide .result)), low (c .before .before .before .wide2 .result), rw (made, long) (short .0), rw (made, long) (short .1))
+
+raised-requires : tie.Need-raised-requires Inv-loop μ-loop
+raised-requires c κs = rises-requires (c .before .before) κs
+
+mul-heights : tie.Need-mul-heights Inv-loop μ-loop
+mul-heights c = record { fits = omega (arith, left-low (c .before .before .before .before .before .before .before .before .before)) }
+
+element-write-heights : tie.Need-element-write-heights Inv-loop μ-loop
+element-write-heights c = left-low (c .before .before .before .before .before .before .before .before .before)
+
+add-i : tie.Need-add-i Inv-loop μ-loop
+add-i c = search needs
+
+loop-less : tie.Need-loop-less Inv-loop μ-loop
+loop-less c = search needs
+
+loop-again : tie.Need-loop-again Inv-loop μ-loop
+loop-again c =
+    let start = c .before .before .before .before .before .before .before .before .before .before .before .before in
+    let a = start .args in
+    let l = c .before .before .before .before .before .before .before .before .before .before .before .loop in
+    let there = c .before .before .before .before .before .before .before .before .before .before .loop-test .taken in
+    let left = c .before .before .before .before .before .before .before .before .wide .ensures in
+    let entered = c .before .before .before .before .before .wide2 .ensures in
+    let fit = toZ-ofZ {w = w64} {z = getD (a .weight .now) (l .i) (pos 0)} (record { sfits = c .before .before .before .before .row-length-arg .given }) in
+    let made = toZ-ofZ {w = w64} {z = c .before .before .before .row-length .result} (record { sfits = c .before .before .before .row-length .ok }) in
+    let long = rw fit at (c .before .before .before .row-length .ensures) in
+    let test = rw (left, entered, made, long) at (c .before .rises .ensures) in (
+      omega (arith, there),
+      ⊎-elim
+          (λ w. rw (w .2, w .3, left) (edge-raises (a .n) (a .count) (a .states) (a .from .now) (a .to .now) (a .weight .now) (start .pre .0) (start .pre .1) (l .i) there (a .heights .now) (l .heights) (l .last) (l .inv .1) (start .pre .2) (sym test ∙ w .0 .taken) _ (rw (left, entered, made, long) at (w .1 .ensures))))
+          (λ w. rw (w .1, w .2) (edge-keeps (a .n) (a .count) (a .states) (a .from .now) (a .to .now) (a .weight .now) (start .pre .0) (start .pre .1) (l .i) there (a .heights .now) (l .heights) (l .last) (l .inv .1) (sym test ∙ w .0 .left)))
+          (c .if1 .came),
+    )
+
+returns : tie.Need-returns Inv-loop μ-loop
+returns c =
+    let a = c .before .before .args in
+    let done : c .before .loop .i ≡ a .count = omega (arith, c .before .loop .inv .0, c .loop-test .left) in
+    subst (λ (x : ℕ). Pass (lengthened (a .n) (edgeGraph (a .count) (a .from .now) (a .to .now) (a .weight .now))) x (a .heights .now) (c .before .loop .heights) (c .before .loop .last)) done (c .before .loop .inv .1)
+
+pub relax-spec : {M : Type 1} → statement M
+relax-spec =
+    tie.close
+    (tie.spec
+    Inv-loop
+    μ-loop
+    loop-holds
+    element-copy-out-wide
+    wide-requires
+    mul-height
+    element-copy-out-height
+    element-copy-out-wide-2
+    wide-requires-2
+    mul-row-length
+    element-copy-out-row-length
+    row-length-requires
+    mul-next
+    element-copy-out-next
+    rises-requires
+    raised-requires
+    mul-heights
+    element-write-heights
+    add-i
+    loop-less
+    loop-again
+    returns)

@@ -1,0 +1,82 @@
+// Whether every simple cycle of an edge list weighs below zero: relaxation in place (Bellman and Ford) with lengths 1 + n × weight.
+ghost use mathlib.Core.Path.{_≡_};
+ghost use Prim.Native.Nat.{_≤_};
+ghost use lib.ListN.{length};
+ghost use lib.IntN.{pos, _+ℤ_, _*ℤ_};
+ghost use Rattle.livelock.proofs.Lengths.{lengthened};
+ghost use Rattle.deciding.specs.Signs.{rise, fall};
+ghost use Rattle.deciding.specs.Rounds.{edgeGraph, EdgesIn, AtMost, Pass, Decided};
+use relaxing::raised;
+use relaxing::rises;
+
+pub mod relaxing;
+
+// A state as an index.
+pub fn wide(x: u8) -> usize
+    ensures { λ r. ⌜ r ≡ x ⌝ }
+{
+    x as usize
+}
+
+// The length of a row: of a cycle of at most n rows it is above zero exactly when the cycle weighs zero or more.
+fn row_length(n: u64, weight: i64) -> i64
+    requires { ⌜ (n ≤ 64) × (rise weight ≤ 65535) × (fall weight ≤ 65535) ⌝ }
+    ensures { λ r. ⌜ r ≡ pos 1 +ℤ pos n *ℤ weight ⌝ }
+{
+    1 + n as i64 * weight
+}
+
+// One pass over the edges, in place; the last edge that raised a height, or the number of edges if none did. The height of a is read first: read just
+// before the test, the compiler would store it at every edge, raised or not, and the next edge would wait for the store.
+fn relax(
+    from: &[u8; 256],
+    to: &[u8; 256],
+    weight: &[i64; 256],
+    count: usize,
+    states: usize,
+    n: u64,
+    heights: &mut [u64; 64],
+) -> usize
+    requires { ⌜ EdgesIn states count (now from) (now to) (now weight) × (n ≤ 64) × (length (now heights) ≡ 64) × AtMost 68719476736 (now heights) ⌝ }
+    ensures { λ r. ⌜ Pass (lengthened n (edgeGraph count (now (from .entry)) (now (to .entry)) (now (weight .entry)))) count (now (heights .entry)) (now (heights .exit)) r ⌝ }
+{
+    let mut last = count;
+    let mut i = 0;
+    while i < count {
+        let a = wide(from[i]);
+        let height = heights[a];
+        let b = wide(to[i]);
+        let length = row_length(n, weight[i]);
+        let next = heights[b];
+        if rises(height, next, length) {
+            heights[a] = raised(height, next, length);
+            last = i;
+        }
+        i += 1;
+    }
+    last
+}
+
+// Whether every simple cycle weighs below zero. A pass that raises no height says yes; if each of as many passes as there are states raises one, the answer is no.
+pub fn decide(
+    from: &[u8; 256],
+    to: &[u8; 256],
+    weight: &[i64; 256],
+    count: usize,
+    states: usize,
+    n: u64,
+) -> bool
+    requires { ⌜ EdgesIn states count (now from) (now to) (now weight) × (states ≤ n) × (n ≤ 64) ⌝ }
+    ensures { λ r. ⌜ Decided (edgeGraph count (now (from .entry)) (now (to .entry)) (now (weight .entry))) r ⌝ }
+{
+    let mut heights = [0; 64];
+    let mut k = 0;
+    while k < states {
+        let last = relax(from, to, weight, count, states, n, &mut heights);
+        if last == count {
+            return true;
+        }
+        k += 1;
+    }
+    false
+}

@@ -1,0 +1,4 @@
+-- Laws of the decoded table.
+pub mod TableLaws
+pub mod ReadLaws
+pub mod FirstRowLaws

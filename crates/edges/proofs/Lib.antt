@@ -1,0 +1,2 @@
+-- Laws of edge lists.
+pub mod ListedLaws

@@ -1,0 +1,2 @@
+-- What an edge list is.
+pub mod Edges

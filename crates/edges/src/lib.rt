@@ -1,0 +1,64 @@
+// The quiet rows of one machine, copied into lent lists of edges, which the rounds and the search are lent in turn.
+ghost use mathlib.Core.Path.{_≡_};
+ghost use Prim.Native.Nat.{_+_, _≤_};
+ghost use Rattle.livelock.proofs.CycleWeights.{messageWeight};
+ghost use Rattle.plant.specs.Steps.{typeOf};
+ghost use Rattle.edges.specs.Edges.{rowWeight, oneIfQuiet, Room, Listed};
+
+// The weight of a message: 0 for none.
+fn message_weight(message: u8, weights: &[u16]) -> u16
+    ensures { λ r. ⌜ r ≡ messageWeight (now (weights .entry)) (typeOf message) ⌝ }
+{
+    if message >= 64 {
+        return 0;
+    }
+    let t = message as usize;
+    if t < weights.len() { weights[t] } else { 0 }
+}
+
+// What a row sends less what it takes.
+fn row_weight(sent: u8, taken: u8, weights: &[u16]) -> i64
+    ensures { λ r. ⌜ r ≡ rowWeight (now (weights .entry)) sent taken ⌝ }
+{
+    let up = message_weight(sent, weights);
+    let down = message_weight(taken, weights);
+    up as i64 - down as i64
+}
+
+fn one_if_quiet(progress: bool) -> usize
+    ensures { λ r. ⌜ r ≡ oneIfQuiet progress ⌝ }
+{
+    if progress { 0 } else { 1 }
+}
+
+// Lists the quiet rows from `low` up to, and not including, `high`, and hands back how many they are: edge i leads from state from[i] to state to[i],
+// weighs weight[i] and is row row[i]. Each row is stored; only a quiet one is counted, so that the next takes its place otherwise.
+pub fn edges_of(
+    left: &[u8; 1024],
+    entered: &[u8; 1024],
+    sent: &[u8; 1024],
+    taken: &[u8; 1024],
+    progress: &[bool; 1024],
+    low: usize,
+    high: usize,
+    weights: &[u16],
+    from: &mut [u8; 256],
+    to: &mut [u8; 256],
+    weight: &mut [i64; 256],
+    row: &mut [u16; 256],
+) -> usize
+    requires { ⌜ (high ≤ 1024) × (low ≤ high) × (high ≤ low + 255) × Room (now from) (now to) (now weight) (now row) ⌝ }
+    ensures { λ r. ⌜ Listed (record { left = now (left .entry); entered = now (entered .entry); sent = now (sent .entry); taken = now (taken .entry); progress = now (progress .entry) }) (now (weights .entry)) low high (record { count = r; from = now (from .exit); to = now (to .exit); weight = now (weight .exit); row = now (row .exit) }) ⌝ }
+{
+    let mut count = 0;
+    let mut k = low;
+    while k < high {
+        from[count] = left[k];
+        to[count] = entered[k];
+        weight[count] = row_weight(sent[k], taken[k], weights);
+        row[count] = k as u16;
+        count += one_if_quiet(progress[k]);
+        k += 1;
+    }
+    count
+}

@@ -1,0 +1,2 @@
+-- What the figures are.
+pub mod FigureSums

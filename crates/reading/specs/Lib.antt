@@ -1,0 +1,3 @@
+-- The answers of the call that only reads.
+pub mod Answers
+pub mod Inner

@@ -1,0 +1,147 @@
+// The call that only reads: the counts of a plant file, or its first fault. No row is stored.
+ghost use mathlib.Core.Path.{_≡_};
+ghost use Prim.Native.Nat.{ℕ, _+_, _≤_};
+ghost use Rattle.livelock.specs.Plants.{Plant, rowCount, machineCount};
+ghost use Rattle.plant.specs.Reading.{noMachines, readRows, readMachine, readMachines, readPlant};
+ghost use Rattle.reading.specs.Answers.{answerOf, countsOf};
+ghost use Rattle.reading.specs.Inner.Counting.{Counted};
+use plant::End;
+use plant::Fault;
+use plant::FieldStep;
+use plant::RowStep;
+
+// Where reading ended, and how many rows were read; the count is of use where there is no fault.
+pub struct Checked {
+    pub end: End,
+    pub rows: usize,
+}
+
+// The answer of the call that only reads.
+pub enum Reading {
+    Counts {
+        machines: usize,
+        types: u8,
+        rows: usize,
+    },
+    Refused(Fault),
+}
+
+// Where `n` rows of a machine end, in the part of the file that begins after its two bytes. No row is stored, so the machine's
+// number and the plant so far may be any.
+fn check_rows(s: &[u8], n: usize, states: u8, types: u8) -> End
+    requires { ⌜ types ≤ 64 ⌝ }
+    ensures { λ r. ⌜ ((m : ℕ) (p : Plant) → p .types ≡ types → Counted (machineCount p) types (rowCount p + n) (readRows n m states 0 (now (s .entry)) 0 p) r) ⌝ }
+{
+    let mut at = 0;
+    let mut left = 0;
+    let mut i = 0;
+    while i < n {
+        let step = plant::row_at(s, at, states, types, left);
+        match step {
+            RowStep::Fault(fault) => {
+                return End::Fault(fault);
+            }
+            RowStep::Value(row) => {
+                left = row.left;
+                at = row.next;
+            }
+        }
+        i += 1;
+    }
+    End::At(at)
+}
+
+// Where the machine at `at` ends, after so many rows of other machines, and the rows with it.
+fn check_machine(file: &[u8], at: usize, types: u8, used: usize) -> Checked
+    requires { ⌜ (types ≤ 64) × (used ≤ 1024) ⌝ }
+    ensures { λ r. ⌜ ((p : Plant) → p .types ≡ types → rowCount p ≡ used → Counted (machineCount p + 1) types (r .rows) (readMachine (now (file .entry)) at p) (r .end)) ⌝ }
+    ensures { λ r. ⌜ r .rows ≤ 1024 ⌝ }
+{
+    let first = plant::states_byte(file, at);
+    let states = match first {
+        FieldStep::Value(field) => field,
+        FieldStep::Fault(fault) => {
+            return Checked {
+                end: End::Fault(fault),
+                rows: used,
+            };
+        }
+    };
+    let second = plant::rows_byte(file, states.next, used);
+    let count = match second {
+        FieldStep::Value(field) => field,
+        FieldStep::Fault(fault) => {
+            return Checked {
+                end: End::Fault(fault),
+                rows: used,
+            };
+        }
+    };
+    let from = count.next;
+    let n = count.value as usize;
+    let inner = check_rows(&file[from..], n, states.value, types);
+    let end = plant::moved(inner, from);
+    Checked {
+        end,
+        rows: used + n,
+    }
+}
+
+// Where `n` machines from `from` on end, and how many rows they have.
+fn check_machines(file: &[u8], n: usize, from: usize, types: u8) -> Checked
+    requires { ⌜ types ≤ 64 ⌝ }
+    ensures { λ r. ⌜ Counted n types (r .rows) (readMachines n (now (file .entry)) from (noMachines types)) (r .end) ⌝ }
+{
+    let mut at = from;
+    let mut rows = 0;
+    let mut i = 0;
+    while i < n {
+        let checked = check_machine(file, at, types, rows);
+        rows = checked.rows;
+        let end = checked.end;
+        match end {
+            End::Fault(fault) => {
+                return Checked {
+                    end: End::Fault(fault),
+                    rows,
+                };
+            }
+            End::At(next) => {
+                at = next;
+            }
+        }
+        i += 1;
+    }
+    Checked {
+        end: End::At(at),
+        rows,
+    }
+}
+
+// The counts of machines, types and rows of a plant file, or the first fault.
+pub fn read(file: &[u8]) -> Reading
+    ensures { λ r. ⌜ answerOf r ≡ countsOf (readPlant (now (file .entry))) ⌝ }
+{
+    let first = plant::machines_byte(file, 0);
+    let machines = match first {
+        FieldStep::Value(field) => field,
+        FieldStep::Fault(fault) => return Reading::Refused(fault),
+    };
+    let second = plant::types_byte(file, machines.next);
+    let types = match second {
+        FieldStep::Value(field) => field,
+        FieldStep::Fault(fault) => return Reading::Refused(fault),
+    };
+    let n = machines.value as usize;
+    let checked = check_machines(file, n, types.next, types.value);
+    let last = checked.end;
+    let end = plant::at_file_end(file, last);
+    match end {
+        End::Fault(fault) => Reading::Refused(fault),
+        End::At(_) => Reading::Counts {
+            machines: n,
+            types: types.value,
+            rows: checked.rows,
+        },
+    }
+}

@@ -1,0 +1,3 @@
+-- Laws of the search.
+pub mod RoundLaws
+pub mod SearchLaws

@@ -1,0 +1,625 @@
+-- Laws of the search: walks of exactly k edges, shortest closed walks, and the walk that is written.
+use mathlib.Core.Path.{_≡_, refl, sym, ap, _∙_, subst}
+use mathlib.Core.Logic.{_≢_, _↔_, _⊎_, inl, inr}
+use mathlib.Core.Bool.{Bool, true, false, cond}
+use mathlib.Core.List.{List, [], _∷_, _++_, map, map-append, append-assoc}
+use Prim.Native.Nat.{ℕ, zero, suc, _+_, _-_, _*_, _≤_, _<_}
+use native.Mathlib.Nat.{not-suc-le-zero, zero-add}
+use native.Mathlib.Decide.{ℕ-discrete, decLe, decLt}
+use native.Mathlib.Numerals.{add-one}
+use native.Mathlib.Omega.{arith}
+use lib.ListN.{length, length-map, length-append, length-set, getD, getD-replicate, set, replicate, drop}
+use lib.Seq.{getD-set-same, getD-set-other, set-at, drop-cons}
+use lib.IntN.{ℤ, pos, _-ℤ_}
+use lib.Signed.{leZ, leZ-yes}
+use lib.Dec.{eqb}
+use mir.Syntax.{w64}
+use mir.Val.{SFits, toZ, ofZ}
+use mir.Facts.{toZ-ofZ}
+use borrow.Author.Tests.{eq-eqb, ne-eqb, eqb-true}
+use Rattle.livelock.specs.Lists.{below, sum, All, Distinct}
+use Rattle.livelock.specs.Cycles.{Walk}
+use Rattle.livelock.proofs.ListLaws.{all-append, all-front, all-back, all-below, all-weaken}
+use Rattle.livelock.proofs.SumLaws.{sum-append, greatest-bound, greatest-attained, greatest-equal, greatest-below}
+use Rattle.livelock.proofs.Differences.{Difference, difference-minus, not-negative-iff}
+use Rattle.livelock.proofs.Pigeonhole.{left-once}
+use Rattle.livelock.proofs.Walks.{visited, walk-append, HasCycle, distinct-or-cycle}
+use Rattle.livelock.proofs.Graphs.{Graph, IsEdge, Within, Cycle, via, via-edge, Leads, via-leads, via-bound}
+use Rattle.livelock.proofs.Rounds.{via-equal}
+use Rattle.deciding.specs.Rounds.{edgeGraph, EdgesIn, SomeZeroOrMore}
+use Rattle.searching.specs.Searches.{origin, heaviest, Closes, Halves, entry, Low, Cleared, Round, Exactly, FirstEdge, FirstEdges, LeastFrom, Noted, Least, Written}
+use Rattle.deciding.proofs.DecisionLaws.{edges-within}
+use Rattle.searching.proofs.RoundLaws.{halves-swap, cleared-other}
+
+-- What the search asks of a graph: at most 64 states, and no edge that weighs more than 65,535.
+pub record Searchable (g : Graph) (states : ℕ) : Type 0 where
+  pub within : Within g states
+  pub states-in : states ≤ 64
+  pub light : (e : ℕ) → IsEdge g e → g .plus e ≤ 65535
+
+-- An edge list makes such a graph.
+pub edges-searchable : {count states : ℕ} {from to : List ℕ} {weight : List ℤ} → EdgesIn states count from to weight
+    → Searchable (edgeGraph count from to weight) states
+edges-searchable {count} {states} {from} {to} {weight} ok =
+    record { within = edges-within count states from to weight ok; states-in = ok .states-in; light = λ e u. ok .rise-in e (u .0) }
+
+-- A closed walk of edges, from the state a back to it, that weighs zero or more.
+pub record ClosedWalk (g : Graph) (a : ℕ) (es : List ℕ) : Type 0 where
+  pub edges : All (IsEdge g) es
+  pub closed : Walk (g .src) (g .dst) a es a
+  pub weighs : sum (g .minus) es ≤ sum (g .plus) es
+
+-- ---- walks of exactly k edges
+
+module _ (g : Graph) (start : ℕ) where
+  -- No walk to the start with as many edges is heavier:
+  -- the first edge leads to a state from which the rest of the walk is no heavier than the heaviest with one edge less.
+  heaviest-upper : (s : ℕ) (es : List ℕ) → All (IsEdge g) es → Walk (g .src) (g .dst) s es start
+      → origin + sum (g .plus) es ≤ heaviest g start (length es) s + sum (g .minus) es
+  unfolding heaviest sum All Walk
+  heaviest-upper s [] u w = rw (eq-eqb s start w) (omega arith)
+  heaviest-upper s (e ∷ es) u w =
+      omega (
+        arith,
+        heaviest-upper (g .dst e) es (u .1) (w .1),
+        greatest-below (via g (heaviest g start (length es)) s) (g .size) e (u .0 .0),
+        via-edge g (heaviest g start (length es)) s e (u .0 .1) (w .0),
+      )
+
+  -- A walk of exactly k edges from s to the start that weighs as much as the heaviest.
+  pub record ExactWalk (k s : ℕ) : Type 0 where
+    pub walk : List ℕ
+    pub long : length walk ≡ k
+    pub edges : All (IsEdge g) walk
+    pub joined : Walk (g .src) (g .dst) s walk start
+    pub worth : heaviest g start k s + sum (g .minus) walk ≡ origin + sum (g .plus) walk
+
+  module _ (light : (e : ℕ) → IsEdge g e → g .plus e ≤ 65535) where
+    -- Each edge adds 65,535 at most.
+    heaviest-bound : (k s : ℕ) → heaviest g start k s ≤ origin + k * 65535
+    unfolding heaviest
+    heaviest-bound zero s = go (eqb s start)
+      where
+        go : (b : Bool) → cond b origin 0 ≤ origin + zero * 65535
+        go true = omega arith
+        go false = omega arith
+    heaviest-bound (suc k) s =
+        greatest-bound (via g (heaviest g start k) s) (origin + suc k * 65535) (below (g .size)) (all-below _ (g .size) (each (heaviest-bound k)))
+      where
+        each : ((t : ℕ) → heaviest g start k t ≤ origin + k * 65535) → (e : ℕ) → e < g .size → via g (heaviest g start k) s e ≤ origin + suc k * 65535
+        each r e l = via-bound g (heaviest g start k) s e (origin + suc k * 65535) (λ c. omega (arith, light e (l, c), r (g .dst e)))
+
+    -- The number for k edges is low, as what began without a walk and rose along k edges, or a walk of exactly k edges attains it.
+    abbrev LowOrAttained : ℕ → ℕ → Type 0
+    LowOrAttained k s = (heaviest g start k s ≤ k * 65535) ⊎ ExactWalk k s
+
+    -- By induction on k. With one edge more the number is 0, which is low, or that of going along some edge and on from its end.
+    -- If the number at that end is low, so is this one, since the edge adds 65,535 at most;
+    -- if a walk attains the number at that end, the edge and that walk attain this one.
+    low-or-attained : (k s : ℕ) → LowOrAttained k s
+    unfolding heaviest sum All Walk
+    low-or-attained zero s = go (eqb s start) refl
+      where
+        go : (b : Bool) → eqb s start ≡ b → LowOrAttained zero s
+        go true q = inr (record { walk = []; long = refl; edges = tt; joined = eqb-true s start q; worth = rw q (omega arith) })
+        go false q = inl (rw q (omega arith))
+    low-or-attained (suc k) s =
+        go
+        (greatest-attained (λ e. e < g .size) (via g (heaviest g start k) s) (below (g .size)) (all-below _ (g .size) (λ e l. l)))
+        (λ e. low-or-attained k (g .dst e))
+      where
+        along : (e : ℕ) → e < g .size → heaviest g start (suc k) s ≡ via g (heaviest g start k) s e → LowOrAttained k (g .dst e)
+            → (via g (heaviest g start k) s e ≡ 0) ⊎ Leads g (heaviest g start k) s e (via g (heaviest g start k) s e) → LowOrAttained (suc k) s
+        along e l q a (inl z) = inl (omega arith)
+        along e l q (inl low) (inr d) = inl (omega (arith, light e (l, d .counted), d .long))
+        along e l q (inr a) (inr d) =
+            inr (record {
+              walk = e ∷ a .walk;
+              long = ap suc (a .long);
+              edges = ((l, d .counted), a .edges);
+              joined = (d .from, a .joined);
+              worth = omega (arith, a .worth, d .long);
+            })
+
+        go : (heaviest g start (suc k) s ≡ 0) ⊎ ((e : ℕ) × (e < g .size) × (heaviest g start (suc k) s ≡ via g (heaviest g start k) s e))
+            → ((e : ℕ) → LowOrAttained k (g .dst e)) → LowOrAttained (suc k) s
+        go (inl z) next = inl (omega arith)
+        go (inr x) next = along (x .0) (x .1) (x .2) (next (x .0)) (via-leads g (heaviest g start k) s (x .0))
+
+-- A closed walk that weighs zero or more closes.
+walk-closes : {g : Graph} {a : ℕ} {es : List ℕ} → ClosedWalk g a es → Closes g a (length es)
+walk-closes {g} {a} {es} w = omega (arith, heaviest-upper g a a es (w .edges) (w .closed), w .weighs)
+
+-- So `Closes` says what it is meant to say.
+pub closes-iff : {g : Graph} {states : ℕ} → Searchable g states
+    → (a k : ℕ) → k ≤ 64 → Closes g a k ↔ ((es : List ℕ) × (length es ≡ k) × ClosedWalk g a es)
+closes-iff {g} ok a k few = (λ h. go h (low-or-attained g a (ok .light) k a), λ w. subst (Closes g a) (w .1) (walk-closes (w .2)))
+  where
+    go : Closes g a k → (heaviest g a k a ≤ k * 65535) ⊎ ExactWalk g a k a → (es : List ℕ) × (length es ≡ k) × ClosedWalk g a es
+    go h (inl low) = absurd (omega arith)
+    go h (inr x) = (x .walk, x .long, record { edges = x .edges; closed = x .joined; weighs = omega (arith, x .worth) })
+
+-- ---- a shortest closed walk is simple
+
+-- No closed walk of fewer than k edges, and at least one, weighs zero or more.
+abbrev pub NoneShorter : Graph → ℕ → Type 0
+NoneShorter g k = (a : ℕ) (es : List ℕ) → 0 < length es → length es < k → ClosedWalk g a es → ⊥
+
+-- The states that a walk comes to are those that it leaves, and its end.
+visited-end : (src : ℕ → ℕ) (F : ℕ → Type 0) (es : List ℕ) (t : ℕ) → All F (visited src es t) → All F (map src es) × F t
+unfolding visited All
+visited-end src F [] t h = (tt, h .0)
+visited-end src F (e ∷ es) t h = let r = visited-end src F es t (h .1) in ((h .0, r .0), r .1)
+
+-- If they are distinct, the walk never leaves the state t that it ends in, and leaves no state twice.
+visited-once : (src : ℕ → ℕ) (es : List ℕ) (t : ℕ) → Distinct (visited src es t) → All (λ y. t ≢ y) (map src es) × Distinct (map src es)
+unfolding visited Distinct All
+visited-once src [] t d = (tt, tt)
+visited-once src (e ∷ es) t d =
+    let r = visited-once src es t (d .1) in
+    let v = visited-end src (λ y. src e ≢ y) es t (d .0) in
+    ((λ q. v .1 (sym q), r .0), (v .0, r .1))
+
+-- A shortest closed walk among those that weigh zero or more is a simple cycle.
+-- Look at the walk after its first edge, back to the state a that this edge leaves. If it comes to each state once at most,
+-- then it leaves no state twice, and never a, so the whole walk leaves no state twice. Else there is a simple cycle in it.
+-- That cycle, and the closed walk that is left without it (the first edge is still in it), both have fewer edges than the whole,
+-- and one of the two weighs zero or more.
+module _ (g : Graph) (a e : ℕ) (es : List ℕ) (w : ClosedWalk g a (e ∷ es)) (none : NoneShorter g (length (e ∷ es))) where
+  module _ (c : HasCycle (g .src) (g .dst) (g .dst e) a es) where
+    abbrev rest : List ℕ
+    rest = e ∷ (c .front ++ c .back)
+
+    edges-in-parts : All (IsEdge g) (c .front ++ (c .cycle ++ c .back))
+    unfolding All
+    edges-in-parts = subst (All (IsEdge g)) (c .parts) (w .edges .1)
+
+    edges-from-cycle : All (IsEdge g) (c .cycle ++ c .back)
+    edges-from-cycle = all-back (IsEdge g) (c .front) (c .cycle ++ c .back) edges-in-parts
+
+    edges-of-rest : All (IsEdge g) rest
+    unfolding All
+    edges-of-rest = (
+      w .edges .0,
+      all-append
+          (IsEdge g)
+          (c .front)
+          (c .back)
+          (all-front (IsEdge g) (c .front) (c .cycle ++ c .back) edges-in-parts)
+          (all-back (IsEdge g) (c .cycle) (c .back) edges-from-cycle),
+    )
+
+    rest-closed : Walk (g .src) (g .dst) a rest a
+    unfolding Walk
+    rest-closed = (w .closed .0, walk-append (g .src) (g .dst) (g .dst e) (c .at) a (c .front) (c .back) (c .arrives) (c .goes-on))
+
+    sum-parts : (f : ℕ → ℕ) → sum f (e ∷ es) ≡ sum f (c .cycle) + sum f rest
+    unfolding sum
+    sum-parts f =
+        omega (
+          arith,
+          ap (sum f) (c .parts),
+          sum-append f (c .front) (c .cycle ++ c .back),
+          sum-append f (c .cycle) (c .back),
+          sum-append f (c .front) (c .back),
+        )
+
+    length-parts : length es ≡ length (c .cycle) + length (c .front ++ c .back)
+    length-parts =
+        omega (
+          arith,
+          ap length (c .parts),
+          length-append (c .front) (c .cycle ++ c .back),
+          length-append (c .cycle) (c .back),
+          length-append (c .front) (c .back),
+        )
+
+    no-cycle-within : ⊥
+    no-cycle-within = go (decLe (sum (g .minus) (c .cycle)) (sum (g .plus) (c .cycle)))
+      where
+        go : Dec (sum (g .minus) (c .cycle) ≤ sum (g .plus) (c .cycle)) → ⊥
+        go (yes h) =
+            none
+            (c .at)
+            (c .cycle)
+            (c .non-empty)
+            (omega (arith, length-parts))
+            (record { edges = all-front (IsEdge g) (c .cycle) (c .back) edges-from-cycle; closed = c .closed; weighs = h })
+        go (no h) =
+            none
+            a
+            rest
+            (omega arith)
+            (omega (arith, length-parts, c .non-empty))
+            (record { edges = edges-of-rest; closed = rest-closed; weighs = omega (arith, w .weighs, sum-parts (g .minus), sum-parts (g .plus)) })
+
+  leaves-once : Distinct (map (g .src) (e ∷ es))
+  unfolding Distinct Walk
+  leaves-once = go (distinct-or-cycle (g .src) (g .dst) (g .dst e) a es (w .closed .1))
+    where
+      go : Distinct (visited (g .src) es a) ⊎ HasCycle (g .src) (g .dst) (g .dst e) a es → Distinct (map (g .src) (e ∷ es))
+      go (inl d) =
+          let r = visited-once (g .src) es a d in
+          (subst (λ (x : ℕ). All (λ y. x ≢ y) (map (g .src) es)) (sym (w .closed .0)) (r .0), r .1)
+      go (inr c) = absurd (no-cycle-within c)
+
+-- So it is a simple cycle.
+pub shortest-is-cycle : (g : Graph) (a : ℕ) (es : List ℕ) → 0 < length es → ClosedWalk g a es → NoneShorter g (length es) → Cycle g es
+shortest-is-cycle g a [] l w none = absurd (not-suc-le-zero l)
+shortest-is-cycle g a (e ∷ es) l w none = record { non-empty = l; edges = w .edges; at = a; closed = w .closed; once = leaves-once g a e es w none }
+
+-- ---- rounds
+
+-- The walks without edges.
+exactly-none : (g : Graph) (states start : ℕ) → states ≤ 64 → start < states → Exactly g states start 0 0 (set (replicate 128 0) start origin)
+unfolding heaviest
+exactly-none g states start few h s l = go (ℕ-discrete s start)
+  where
+    zeros : List ℕ
+    zeros = replicate 128 0
+
+    go : Dec (s ≡ start) → getD (set zeros start origin) (0 + s) 0 ≡ cond (eqb s start) origin 0
+    go (yes q) = rw (eq-eqb s start q, q, zero-add start) (getD-set-same zeros start origin 0 (omega arith))
+    go (no q) = rw (ne-eqb s start q, zero-add s) (getD-set-other zeros start s origin 0 q ∙ getD-replicate 128 s 0 0 (omega arith))
+
+-- There is room for one edge more.
+exactly-low : {g : Graph} {states : ℕ} → Searchable g states → (start k at : ℕ) (walks : List ℕ) → Exactly g states start k at walks → k ≤ 64
+    → Low states at walks
+exactly-low {g} ok start k at walks exact few s l = omega (arith, exact s l, heaviest-bound g start (ok .light) k s)
+
+module _ {g : Graph} {states k old new : ℕ} {before after edges-before edges : List ℕ} (ok : Searchable g states) (start : ℕ) (exact : Exactly g states start k old before)
+    (r : Round g (g .size) states old new k before after edges-before edges) where
+  -- One edge, and on as far as the table says: only its entries for the states matter.
+  along-equal : (s e : ℕ) → e < g .size → via g (entry before old) s e ≡ via g (heaviest g start k) s e
+  along-equal s e l = via-equal g (entry before old) (heaviest g start k) s e (λ c. exact (g .dst e) (ok .within e (l, c) .1))
+
+  -- A round leads from the walks of k edges to those of k + 1,
+  exactly-suc : Exactly g states start (suc k) new after
+  unfolding heaviest
+  exactly-suc s l =
+      r .relaxed s l ∙ greatest-equal (via g (entry before old) s) (via g (heaviest g start k) s) (below (g .size)) (all-below _ (g .size) (along-equal s))
+
+  -- that is, of one edge more,
+  exactly-next : Exactly g states start (k + 1) new after
+  exactly-next = rw (add-one k) exactly-suc
+
+  -- and notes their first edges.
+  noted-here : (s : ℕ) → s < states → 0 < heaviest g start (suc k) s → FirstEdge g start k s (entry edges (k * 64) s)
+  noted-here s l m = go (via-leads g (heaviest g start k) s e)
+    where
+      e : ℕ
+      e = entry edges (k * 64) s
+
+      some : 0 < entry after new s
+      some = omega (arith, exactly-suc s l)
+
+      e-in : e < g .size
+      e-in = r .noted-in s l some
+
+      worth : heaviest g start (suc k) s ≡ via g (heaviest g start k) s e
+      worth = sym (exactly-suc s l) ∙ r .attained s l some ∙ along-equal s e e-in
+
+      go : (via g (heaviest g start k) s e ≡ 0) ⊎ Leads g (heaviest g start k) s e (via g (heaviest g start k) s e) → FirstEdge g start k s e
+      go (inl z) = absurd (omega (arith, worth))
+      go (inr d) = record { there = (e-in, d .counted); leaves = d .from; worth = omega (arith, worth, d .long) }
+
+  -- So those of 1 to k + 1 edges are noted: this round's at places of their own, behind those of the rounds before, which it kept.
+  first-edges-next : FirstEdges g states start k edges-before → FirstEdges g states start (k + 1) edges
+  first-edges-next h j s x l m = go (ℕ-discrete j k)
+    where
+      go : Dec (j ≡ k) → FirstEdge g start j s (entry edges (j * 64) s)
+      go (yes e) = rw e (noted-here s l (rw e at m))
+      go (no e) = rw (r .edges-kept (j * 64 + s) (omega (arith, ok .states-in))) (h j s (omega arith) l m)
+
+-- After k rounds from `start` the table at `old` has the walks of exactly k edges, and the first edges of the walks of 1 to k edges are noted.
+pub record Searched (g : Graph) (states start k old : ℕ) (walks noted : List ℕ) : Type 0 where
+  pub halves : Halves old (64 - old)
+  pub room : length walks ≡ 128
+  pub edge-room : length noted ≡ 4096
+  pub exact : Exactly g states start k old walks
+  pub first-edges : FirstEdges g states start k noted
+
+-- Before the first round.
+pub searched-first : (g : Graph) (states start : ℕ) (noted : List ℕ) → states ≤ 64 → start < states → length noted ≡ 4096
+    → Searched g states start 0 0 (set (replicate 128 0) start origin) noted
+searched-first g states start noted few h room =
+    record {
+      halves = inl (refl, refl);
+      room = length-set (replicate 128 0) start origin;
+      edge-room = room;
+      exact = exactly-none g states start few h;
+      first-edges = λ j s x l m. absurd (not-suc-le-zero x);
+    }
+
+module _ {g : Graph} {states start k old : ℕ} {walks noted cleared : List ℕ} (ok : Searchable g states) (h : Searched g states start k old walks noted)
+    (c : Cleared states (64 - old) walks cleared) where
+  -- The table for the next round is cleared, and the walks of k edges are kept,
+  exact-kept : Exactly g states start k old cleared
+  exact-kept s l = cleared-other (h .halves) c s (omega (arith, ok .states-in)) ∙ h .exact s l
+
+  -- with room for one edge more.
+  pub searched-low : k ≤ 64 → Low states old cleared
+  searched-low = exactly-low ok start k old cleared exact-kept
+
+  module _ {after edges : List ℕ} (r : Round g (g .size) states old (64 - old) k cleared after noted edges) where
+    -- One round more.
+    pub searched-next : Searched g states start (k + 1) (64 - old) after edges
+    searched-next =
+        record {
+          halves = halves-swap old (h .halves);
+          room = r .same-length ∙ c .same-length ∙ h .room;
+          edge-room = r .same-edges ∙ h .edge-room;
+          exact = exactly-next ok start exact-kept r;
+          first-edges = first-edges-next ok start exact-kept r (h .first-edges);
+        }
+
+-- A walk of the table is worth no more than a round takes.
+pub searched-worth : {g : Graph} {states start k old : ℕ} {walks noted : List ℕ} → Searchable g states → Searched g states start k old walks noted
+    → start < states → k ≤ 64 → entry walks old start ≤ 2199023255552
+searched-worth {start = start} {k = k} {old = old} {walks = walks} ok h l few = exactly-low ok start k old walks (h .exact) few start l
+
+-- ---- the sign of a walk's weight
+
+-- The code's signed number z is the weight of the heaviest closed walk of k edges from the start.
+module _ {g : Graph} {states start k old : ℕ} {walks noted : List ℕ} (h : Searched g states start k old walks noted) (l : start < states)
+    (z : ℤ) (fits : SFits w64 z) (is-weight : z ≡ pos (entry walks old start) -ℤ pos origin) where
+  is-difference : Difference (toZ w64 (ofZ w64 z)) (entry walks old start) origin
+  is-difference = rw (toZ-ofZ fits, is-weight) (difference-minus (entry walks old start) origin)
+
+  -- It is zero or more,
+  pub closed-zero-or-more : leZ (pos 0) (toZ w64 (ofZ w64 z)) ≡ true → Closes g start k
+  closed-zero-or-more test =
+      omega (arith, h .exact start l, not-negative-iff (toZ w64 (ofZ w64 z)) (entry walks old start) origin is-difference .0 (leZ-yes (rw test tt)))
+
+  -- or below zero.
+  pub closed-below-zero : leZ (pos 0) (toZ w64 (ofZ w64 z)) ≡ false → heaviest g start k start < origin
+  closed-below-zero test =
+      elim (decLt (entry walks old start) origin) [
+        | yes less ↦ omega (arith, h .exact start l)
+        | no enough ↦ absurd (rw test at (not-negative-iff (toZ w64 (ofZ w64 z)) (entry walks old start) origin is-difference .1 (omega arith) .le))
+      ]
+
+-- ---- the least number of edges from one start
+
+-- No number of edges from 1 to k closes.
+abbrev pub NoneUpTo : Graph → ℕ → ℕ → Type 0
+NoneUpTo g start k = (j : ℕ) → 1 ≤ j → j ≤ k → Closes g start j → ⊥
+
+-- Up to 0 there is none.
+pub none-at-first : (g : Graph) (start : ℕ) → NoneUpTo g start 0
+none-at-first g start j x y q = omega arith
+
+module _ (g : Graph) (start k : ℕ) (none : NoneUpTo g start k) where
+  -- k + 1 edges close,
+  pub closes-now : (limit : ℕ) → k < limit → Closes g start (k + 1) → LeastFrom g start limit (k + 1)
+  closes-now limit l h = record { some-edge = omega arith; few = omega arith; closes = λ x. h; least = λ j x y q. none j x (omega arith) q }
+
+  -- or they do not either,
+  pub not-yet : heaviest g start (k + 1) start < origin → NoneUpTo g start (k + 1)
+  not-yet h j x y q = go (ℕ-discrete j (k + 1))
+    where
+      go : Dec (j ≡ k + 1) → ⊥
+      go (yes e) = let closes : Closes g start (k + 1) = subst (Closes g start) e q in omega arith
+      go (no e) = none j x (omega arith) q
+
+  -- up to the limit.
+  pub never : (limit : ℕ) → limit ≤ k → LeastFrom g start limit (limit + 1)
+  never limit h = record { some-edge = omega arith; few = omega arith; closes = λ x. absurd (omega arith); least = λ j x y q. none j x (omega arith) q }
+
+-- ---- the least number of edges from any start
+
+-- From the first s states no fewer than k edges close; k edges do from `start`, unless k is one more than the number of states.
+pub record Sought (g : Graph) (states start k s : ℕ) : Type 0 where
+  pub passed : s ≤ states
+  pub some-edge : 1 ≤ k
+  pub few : k ≤ states + 1
+  pub none : (a j : ℕ) → a < s → 1 ≤ j → j < k → Closes g a j → ⊥
+  pub closes : k ≤ states → (start < states) × Closes g start k
+
+-- Before the first state.
+pub sought-none : (g : Graph) (states : ℕ) → Sought g states 0 (states + 1) 0
+sought-none g states =
+    record { passed = omega arith; some-edge = omega arith; few = omega arith; none = λ a j x y z q. omega arith; closes = λ x. absurd (omega arith) }
+
+module _ {g : Graph} {states start k s r : ℕ} (h : Sought g states start k s) (l : s < states) (f : LeastFrom g s (k - 1) r) where
+  none-more : (a j : ℕ) → a < s + 1 → 1 ≤ j → j < r → Closes g a j → ⊥
+  none-more a j x y z q = go (ℕ-discrete a s)
+    where
+      go : Dec (a ≡ s) → ⊥
+      go (yes e) = f .least j y z (subst (λ (i : ℕ). Closes g i j) e q)
+      go (no e) = h .none a j (omega arith) y (omega (arith, f .few, h .some-edge)) q
+
+  -- From s fewer edges close,
+  pub sought-fewer : r < k → Sought g states s r (s + 1)
+  sought-fewer m =
+      record { passed = omega arith; some-edge = f .some-edge; few = omega (arith, h .few); none = none-more; closes = λ x. (l, f .closes (omega arith)) }
+
+  -- or not.
+  pub sought-same : k ≤ r → Sought g states start r (s + 1)
+  sought-same m =
+      let e : k ≡ r = omega (arith, f .few, h .some-edge) in
+      record {
+        passed = omega arith;
+        some-edge = f .some-edge;
+        few = omega (arith, h .few);
+        none = none-more;
+        closes = subst (λ (i : ℕ). i ≤ states → (start < states) × Closes g start i) e (h .closes);
+      }
+
+-- A walk with an edge begins at one of the states.
+begins-in : {g : Graph} {states : ℕ} → Searchable g states
+    → (a t : ℕ) (es : List ℕ) → 0 < length es → All (IsEdge g) es → Walk (g .src) (g .dst) a es t → a < states
+unfolding All Walk
+begins-in ok a t [] l u w = absurd (not-suc-le-zero l)
+begins-in {states = states} ok a t (e ∷ es) l u w = subst (λ (x : ℕ). x < states) (w .0) (ok .within e (u .0) .0)
+
+-- Where some simple cycle weighs zero or more, the search ends with the least number of edges:
+-- the cycle has at most as many edges as there are states, so the number is no more than that.
+pub sought-all : {g : Graph} {states start k s : ℕ} → Searchable g states → SomeZeroOrMore g → states ≤ s
+    → Sought g states start k s → Least g states start k
+sought-all {g} {states} {start} {k} ok some e h = go (decLe k states)
+  where
+    es : List ℕ
+    es = some .0
+
+    c : Cycle g es
+    c = some .1
+
+    cycle-few : length es ≤ states
+    cycle-few = left-once (g .src) states es (c .once) (all-weaken (IsEdge g) (λ e. g .src e < states) (λ e u. ok .within e u .0) es (c .edges))
+
+    cycle-closes : Closes g (c .at) (length es)
+    cycle-closes = walk-closes (record { edges = c .edges; closed = c .closed; weighs = some .2 })
+
+    least : (a j : ℕ) → a < states → 1 ≤ j → j < k → Closes g a j → ⊥
+    least a j x y z q = h .none a j (omega arith) y z q
+
+    go : Dec (k ≤ states) → Least g states start k
+    go (yes x) = record { start-in = h .closes x .0; some-edge = h .some-edge; few = x; closes = h .closes x .1; least = least }
+    go (no x) =
+        absurd (least
+        (c .at)
+        (length es)
+        (begins-in ok (c .at) (c .at) es (c .non-empty) (c .edges) (c .closed))
+        (c .non-empty)
+        (omega (arith, cycle-few))
+        cycle-closes)
+
+-- A search from the start that was found, up to the length that was found, finds this length again.
+pub least-again : {g : Graph} {states start k r : ℕ} → Least g states start k → LeastFrom g start k r → r ≡ k
+least-again {g} {states} {start} {k} {r} h f = go (decLt k r)
+  where
+    go : Dec (k < r) → r ≡ k
+    go (yes l) = absurd (f .least k (h .some-edge) l (h .closes))
+    go (no l) = elim (decLt r k) [ yes m ↦ absurd (h .least start r (h .start-in) (f .some-edge) m (f .closes (omega arith))) | no m ↦ omega arith ]
+
+-- ---- the walk that is written
+
+-- The first i edges of a walk from the start are written. They lead to s, and with a heaviest walk of the k − i edges from s back to the start
+-- they weigh zero or more.
+pub record Walking (g : Graph) (row : List ℕ) (start k : ℕ) (before : List ℕ) (s i : ℕ) (after : List ℕ) : Type 0 where
+  pub within : i ≤ k
+  pub walk : List ℕ
+  pub long : length walk ≡ i
+  pub edges : All (IsEdge g) walk
+  pub joined : Walk (g .src) (g .dst) start walk s
+  pub weighs : origin + sum (g .minus) walk ≤ heaviest g start (k - i) s + sum (g .plus) walk
+  pub written : after ≡ map (λ e. getD row e 0) walk ++ drop i before
+  pub kept : length after ≡ length before
+
+-- The edges of a walk together weigh no more than 65,535 each.
+sum-light : {g : Graph} {states : ℕ} → Searchable g states → (es : List ℕ) → All (IsEdge g) es → sum (g .plus) es ≤ length es * 65535
+unfolding sum All
+sum-light ok [] u = omega arith
+sum-light ok (e ∷ es) u = omega (arith, ok .light e (u .0), sum-light ok es (u .1))
+
+-- A walk from one of the states ends in one of them.
+walk-end-in : {g : Graph} {states : ℕ} → Searchable g states
+    → (a t : ℕ) (es : List ℕ) → a < states → All (IsEdge g) es → Walk (g .src) (g .dst) a es t → t < states
+unfolding All Walk
+walk-end-in {states = states} ok a t [] l u w = subst (λ (x : ℕ). x < states) w l
+walk-end-in ok a t (e ∷ es) l u w = walk-end-in ok _ t es (ok .within e (u .0) .1) (u .1) (w .1)
+
+module _ {g : Graph} {states start k : ℕ} (ok : Searchable g states) (least : Least g states start k) where
+  -- Nothing is written yet.
+  pub walk-begins : (row before : List ℕ) → Walking g row start k before start 0 before
+  unfolding All Walk sum
+  walk-begins row before =
+      let z : k - 0 ≡ k = omega arith in
+      record {
+        within = omega arith;
+        walk = [];
+        long = refl;
+        edges = tt;
+        joined = refl;
+        weighs = rw z (omega (arith, least .closes));
+        written = refl;
+        kept = refl;
+      }
+
+  module _ {row before : List ℕ} {s i : ℕ} {after : List ℕ} (w : Walking g row start k before s i after) where
+    -- There is a walk on from s,
+    walk-alive : 0 < heaviest g start (k - i) s
+    walk-alive = omega (arith, w .weighs, sum-light ok (w .walk) (w .edges), w .long, w .within, least .few, ok .states-in)
+
+    -- s is one of the states,
+    pub walk-in : s < states
+    walk-in = walk-end-in ok start s (w .walk) (least .start-in) (w .edges) (w .joined)
+
+    -- and the first edge of the walk on is noted.
+    pub walk-leads : {limit : ℕ} {noted : List ℕ} → i < k → Noted g states start limit k noted → k ≤ limit
+        → FirstEdge g start (k - i - 1) s (entry noted ((k - i - 1) * 64) s)
+    walk-leads l n few =
+        let q : k - i ≡ suc (k - i - 1) = omega arith in
+        n .first-edges few (k - i - 1) s (omega arith) walk-in (rw q at walk-alive)
+
+    module _ (l : i < k) (room : 64 ≤ length before) (e : ℕ) (h : FirstEdge g start (k - i - 1) s e) where
+      abbrev shown : List ℕ → List ℕ
+      shown es = map (λ x. getD row x 0) es
+
+      written-next : set after i (getD row e 0) ≡ shown (w .walk ++ (e ∷ [])) ++ drop (i + 1) before
+      written-next =
+          ap
+          (λ (x : List ℕ). set x i (getD row e 0))
+          (w .written ∙ ap (λ (x : List ℕ). shown (w .walk) ++ x) (drop-cons before i 0 (omega (arith, least .few, ok .states-in))))
+          ∙ set-at
+          (shown (w .walk))
+          (getD before i 0)
+          (drop (suc i) before)
+          (getD row e 0)
+          i
+          (length-map (w .walk) (λ x. getD row x 0) ∙ w .long)
+          ∙ sym (append-assoc (shown (w .walk)) (getD row e 0 ∷ []) (drop (suc i) before))
+          ∙ rw (add-one i, map-append (λ x. getD row x 0) (w .walk) (e ∷ []))
+
+      -- One edge more.
+      pub walk-goes-on : Walking g row start k before (g .dst e) (i + 1) (set after i (getD row e 0))
+      unfolding All Walk sum
+      walk-goes-on =
+          let z : k - (i + 1) ≡ k - i - 1 = omega arith in
+          let q : k - i ≡ suc (k - i - 1) = omega arith in
+          let weighs = rw q at (w .weighs) in
+          record {
+            within = omega arith;
+            walk = w .walk ++ (e ∷ []);
+            long = rw length-append (omega (arith, w .long));
+            edges = all-append (IsEdge g) (w .walk) (e ∷ []) (w .edges) (h .there, tt);
+            joined = walk-append (g .src) (g .dst) start s (g .dst e) (w .walk) (e ∷ []) (w .joined) (h .leaves, refl);
+            weighs = rw z (omega (arith, weighs, h .worth, sum-append (g .plus) (w .walk) (e ∷ []), sum-append (g .minus) (w .walk) (e ∷ [])));
+            written = written-next;
+            kept = rw length-set (w .kept);
+          }
+
+    none-shorter : i ≡ k → NoneShorter g (length (w .walk))
+    none-shorter all a es x y c =
+        least .least a (length es) (begins-in ok a a es x (c .edges) (c .closed)) x (omega (arith, w .long)) (walk-closes c)
+
+    -- All k edges are written. No edges lead on from s, and yet there is a walk to the start: so s is the start, and the walk is closed.
+    -- It is a shortest one that weighs zero or more, so it is a simple cycle.
+    pub walk-ends : k ≤ i → Written g row k before after
+    unfolding heaviest
+    walk-ends h = go (eqb s start) refl
+      where
+        all : i ≡ k
+        all = omega (arith, w .within)
+
+        z : k - i ≡ 0
+        z = omega arith
+
+        go : (b : Bool) → eqb s start ≡ b → Written g row k before after
+        go true t =
+            let weighs = rw (z, t) at (w .weighs) in
+            let closed : ClosedWalk g start (w .walk) =
+            record {
+              edges = w .edges;
+              closed = subst (Walk (g .src) (g .dst) start (w .walk)) (eqb-true s start t) (w .joined);
+              weighs = omega (arith, weighs);
+            } in
+            record {
+              cycle = w .walk;
+              long = w .long ∙ all;
+              simple = shortest-is-cycle g start (w .walk) (omega (arith, w .long, least .some-edge)) closed (none-shorter all);
+              weighs = closed .weighs;
+              shown = rw (← all) (w .written);
+            }
+        go false t = absurd (omega (arith, rw (z, t) at walk-alive))

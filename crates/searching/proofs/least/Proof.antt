@@ -1,0 +1,64 @@
+-- `least` meets its contract: after s turns the number is the least from the first s states.
+use borrow.Author.Needs.{needs}
+use mathlib.Core.Path.{_≡_}
+use mathlib.Core.Logic.{⊎-elim}
+use Prim.Native.Nat.{_-_}
+use native.Mathlib.Omega.{arith}
+use lib.ListN as List
+use Rattle.deciding.specs.Rounds.{edgeGraph}
+use Rattle.searching.proofs.SearchLaws.{edges-searchable, Sought, sought-none, sought-fewer, sought-same, sought-all}
+use Rattle.searching.proofs.least.Statement.{statement}
+use Rattle.searching.proofs.least.Tie as tie
+
+abbrev Inv-loop : tie.InvT-loop
+Inv-loop from to weight count states noted₀ start₀ length₀ s₀ noted start length s =
+    Sought (edgeGraph count from to weight) states start length s × (List.length noted ≡ 4096)
+
+abbrev μ-loop : tie.MeasureT-loop
+μ-loop from to weight count states noted₀ start₀ length₀ s₀ noted start length s = states - s
+
+add-length : tie.Need-add-length Inv-loop μ-loop
+add-length c = record { fits = omega (arith, c .pre .0 .states-in) }
+
+loop-holds : tie.Need-loop-holds Inv-loop μ-loop
+loop-holds c = (sought-none _ _, c .pre .2)
+
+sub-least-from : tie.Need-sub-least-from Inv-loop μ-loop
+sub-least-from c = c .before .loop .inv .0 .some-edge
+
+least-from-requires : tie.Need-least-from-requires Inv-loop μ-loop
+least-from-requires c κs =
+    let ok = c .before .before .before .pre .0 in
+    let l = c .before .before .loop in
+    (ok, omega (arith, c .before .loop-test .taken), omega (arith, l .inv .0 .few, ok .states-in), l .inv .1)
+
+add-s : tie.Need-add-s Inv-loop μ-loop
+add-s c = search needs
+
+loop-less : tie.Need-loop-less Inv-loop μ-loop
+loop-less c = search needs
+
+loop-again : tie.Need-loop-again Inv-loop μ-loop
+loop-again c =
+    let h = c .before .before .before .before .loop .inv .0 in
+    let here = c .before .before .before .loop-test .taken in
+    let from-s = c .before .least-from .ensures .0 in
+    (⊎-elim (λ w. rw (w .1) (sought-fewer h here from-s (w .0 .taken))) (λ w. rw (w .1) (sought-same h here from-s (w .0 .left))) (c .if1 .came), c .before .least-from .ensures .1 .same-edges)
+
+returns : tie.Need-returns Inv-loop μ-loop
+returns c = let p = c .before .before .pre in (sought-all (edges-searchable (p .0)) (p .1) (c .loop-test .left) (c .before .loop .inv .0), c .before .loop .inv .1)
+
+pub least-spec : {M : Type 1} → statement M
+least-spec =
+    tie.close
+    (tie.spec
+    Inv-loop
+    μ-loop
+    add-length
+    loop-holds
+    sub-least-from
+    least-from-requires
+    add-s
+    loop-less
+    loop-again
+    returns)

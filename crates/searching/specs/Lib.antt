@@ -1,0 +1,2 @@
+-- What the search for a cycle says.
+pub mod Searches

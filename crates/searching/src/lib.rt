@@ -1,0 +1,192 @@
+// A quiet cycle to show: the closed walk with the fewest edges that weighs zero or more.
+//
+// `walks` has two tables, from 0 and from 64 on: for each state, the greatest weight of a walk of exactly k edges to the start, and of k + 1 edges.
+// `noted` has, from 64 × k on, the first edge of a heaviest walk of k + 1 edges from each state, so that the walk found can be written without a search.
+ghost use mathlib.Core.Path.{_≡_};
+ghost use Prim.Native.Nat.{_≤_, _<_};
+ghost use lib.ListN.{length};
+ghost use lib.IntN.{pos, _-ℤ_};
+ghost use lib.Signed.{leZ};
+ghost use Rattle.deciding.specs.Rounds.{edgeGraph, EdgesIn, SomeZeroOrMore};
+ghost use Rattle.searching.specs.Searches.{origin, Halves, Low, Zeros, Cleared, Round, Noted, LeastFrom, Least, ShownRows};
+use deciding::relaxing::raised;
+use deciding::relaxing::rises;
+use deciding::wide;
+
+// The number that stands for the weight 0 in a table of walks; 0 stands for no walk.
+const ORIGIN: u64 = 1099511627776;
+
+// The weight of a walk of the table.
+fn walk_weight(value: u64) -> i64
+    requires { ⌜ value ≤ 2199023255552 ⌝ }
+    ensures { λ r. ⌜ r ≡ pos value -ℤ pos origin ⌝ }
+{
+    value as i64 - ORIGIN as i64
+}
+
+// Whether a weight is zero or more.
+fn zero_or_more(weight: i64) -> bool
+    ensures { λ r. ⌜ r ≡ leZ (pos 0) weight ⌝ }
+{
+    weight >= 0
+}
+
+// Stores 0 for each state in the table that begins at `at`.
+fn clear(walks: &mut [u64; 128], at: usize, states: usize)
+    requires { ⌜ (length (now walks) ≡ 128) × (at ≤ 64) × (states ≤ 64) ⌝ }
+    ensures { λ r. ⌜ Cleared states at (now (walks .entry)) (now (walks .exit)) ⌝ }
+{
+    let mut s = 0;
+    while s < states {
+        walks[at + s] = 0;
+        s += 1;
+    }
+}
+
+// One edge, and on as far as the table at `old` says, from each state, into the table at `new`; the edge is noted in the first edges from 64 × k on.
+// The number of a is read first: read just before the test, the compiler would store it at every edge, raised or not.
+fn round(
+    from: &[u8; 256],
+    to: &[u8; 256],
+    weight: &[i64; 256],
+    count: usize,
+    states: usize,
+    walks: &mut [u64; 128],
+    old: usize,
+    new: usize,
+    noted: &mut [u8; 4096],
+    k: usize,
+)
+    requires { ⌜ EdgesIn states count (now from) (now to) (now weight) × Halves old new × Low states old (now walks) × Zeros states new (now walks) × (k < 64) × (length (now walks) ≡ 128) × (length (now noted) ≡ 4096) ⌝ }
+    ensures { λ r. ⌜ Round (edgeGraph count (now (from .entry)) (now (to .entry)) (now (weight .entry))) count states old new k (now (walks .entry)) (now (walks .exit)) (now (noted .entry)) (now (noted .exit)) ⌝ }
+{
+    let mut i = 0;
+    while i < count {
+        let a = wide(from[i]);
+        let at = new + a;
+        let here = walks[at];
+        let b = wide(to[i]);
+        let next = walks[old + b];
+        let w = weight[i];
+        if rises(here, next, w) {
+            walks[at] = raised(here, next, w);
+            noted[k * 64 + a] = i as u8;
+        }
+        i += 1;
+    }
+}
+
+// The least number of edges up to `limit` with which a closed walk from the start weighs zero or more, or one more than the limit.
+fn least_from(
+    from: &[u8; 256],
+    to: &[u8; 256],
+    weight: &[i64; 256],
+    count: usize,
+    states: usize,
+    start: usize,
+    limit: usize,
+    noted: &mut [u8; 4096],
+) -> usize
+    requires { ⌜ EdgesIn states count (now from) (now to) (now weight) × (start < states) × (limit ≤ 64) × (length (now noted) ≡ 4096) ⌝ }
+    ensures { λ r. ⌜ LeastFrom (edgeGraph count (now (from .entry)) (now (to .entry)) (now (weight .entry))) start limit r ⌝ }
+    ensures { λ r. ⌜ Noted (edgeGraph count (now (from .entry)) (now (to .entry)) (now (weight .entry))) states start limit r (now (noted .exit)) ⌝ }
+{
+    let mut walks = [0; 128];
+    walks[start] = ORIGIN;
+    let mut old = 0;
+    let mut k = 0;
+    while k < limit {
+        let new = 64 - old;
+        clear(&mut walks, new, states);
+        round(
+            from,
+            to,
+            weight,
+            count,
+            states,
+            &mut walks,
+            old,
+            new,
+            noted,
+            k,
+        );
+        old = new;
+        k += 1;
+        let closed = walk_weight(walks[old + start]);
+        if zero_or_more(closed) {
+            return k;
+        }
+    }
+    limit + 1
+}
+
+// A state, and how many edges a closed walk from it has.
+struct Start {
+    start: usize,
+    length: usize,
+}
+
+// Where such a walk with the fewest edges begins, and how many it has.
+fn least(
+    from: &[u8; 256],
+    to: &[u8; 256],
+    weight: &[i64; 256],
+    count: usize,
+    states: usize,
+    noted: &mut [u8; 4096],
+) -> Start
+    requires { ⌜ EdgesIn states count (now from) (now to) (now weight) × SomeZeroOrMore (edgeGraph count (now from) (now to) (now weight)) × (length (now noted) ≡ 4096) ⌝ }
+    ensures { λ r. ⌜ Least (edgeGraph count (now (from .entry)) (now (to .entry)) (now (weight .entry))) states (r .start) (r .length) ⌝ }
+    ensures { λ r. ⌜ length (now (noted .exit)) ≡ 4096 ⌝ }
+{
+    let mut start = 0;
+    let mut length = states + 1;
+    let mut s = 0;
+    while s < states {
+        let k = least_from(from, to, weight, count, states, s, length - 1, noted);
+        if k < length {
+            start = s;
+        }
+        length = k;
+        s += 1;
+    }
+    Start { start, length }
+}
+
+// Finds a cycle with the fewest edges and writes its rows to the front of the list, in running order; hands back how many they are.
+// The rounds from its start are made once more, for later starts have overwritten the first edges.
+pub fn show(
+    from: &[u8; 256],
+    to: &[u8; 256],
+    weight: &[i64; 256],
+    row: &[u16; 256],
+    count: usize,
+    states: usize,
+    cycle: &mut [u16],
+) -> usize
+    requires { ⌜ EdgesIn states count (now from) (now to) (now weight) × SomeZeroOrMore (edgeGraph count (now from) (now to) (now weight)) × (64 ≤ length (now cycle)) ⌝ }
+    ensures { λ r. ⌜ ShownRows (edgeGraph count (now (from .entry)) (now (to .entry)) (now (weight .entry))) states (now (row .entry)) r (now (cycle .entry)) (now (cycle .exit)) ⌝ }
+{
+    let mut noted = [0; 4096];
+    let found = least(from, to, weight, count, states, &mut noted);
+    let start = found.start;
+    let k = least_from(
+        from,
+        to,
+        weight,
+        count,
+        states,
+        start,
+        found.length,
+        &mut noted,
+    );
+    let mut s = start;
+    let mut i = 0;
+    while i < k {
+        let e = wide(noted[(k - i - 1) * 64 + s]);
+        cycle[i] = row[e];
+        s = wide(to[e]);
+        i += 1;
+    }
+    k
+}

@@ -1,0 +1,2 @@
+-- Definitions that only the contracts of functions cite which our crates call.
+pub mod Steps

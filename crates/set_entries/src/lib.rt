@@ -1,0 +1,232 @@
+// The entries of a cycle set: every number is judged as it is read, and the first fault met decides.
+ghost use mathlib.Core.Path.{_≡_};
+ghost use mathlib.Core.Bool.{false};
+ghost use Prim.Native.Nat.{_+_, _-_, _^_, _≤_, _<_, min};
+ghost use lib.ListN.{length, getD, replicate};
+ghost use Rattle.set_entries.specs.Sets.{numberIn, rowsAt, entryBegins};
+ghost use Rattle.set_entries.specs.Inner.Steps.{valueFound, part, NumbersBelow, goesOn, leads, firstNumbers, JudgedEnd, JudgedEntry};
+use plant::End;
+use plant::Fault;
+
+// What is judged where an entry begins: whether the list has it, and whether fewer than 256 came before.
+pub fn entry_begins(set: &[u32], at: usize, before: usize) -> End
+    requires { ⌜ before ≤ 256 ⌝ }
+    ensures { λ r. ⌜ valueFound tt r ≡ entryBegins (256 - before) (now (set .entry)) at ⌝ }
+{
+    if at >= set.len() {
+        return End::Fault(Fault {
+            number: 18,
+            place: at,
+        });
+    }
+    if before >= 256 {
+        return End::Fault(Fault {
+            number: 18,
+            place: at,
+        });
+    }
+    End::At(at)
+}
+
+// The number at `at`, at least `low` and below `end`.
+fn number_in(set: &[u32], at: usize, low: u32, end: u32) -> End
+    ensures { λ r. ⌜ valueFound (getD (now (set .entry)) at 0) r ≡ numberIn low end (now (set .entry)) at ⌝ }
+{
+    if at >= set.len() {
+        return End::Fault(Fault {
+            number: 15,
+            place: set.len(),
+        });
+    }
+    let number = set[at];
+    if number < low {
+        return End::Fault(Fault {
+            number: 16,
+            place: at,
+        });
+    }
+    if number >= end {
+        return End::Fault(Fault {
+            number: 16,
+            place: at,
+        });
+    }
+    End::At(at + 1)
+}
+
+// The lesser of two numbers.
+fn lesser(a: usize, b: usize) -> usize
+    ensures { λ r. ⌜ r ≡ min a b ⌝ }
+{
+    if a < b {
+        return a;
+    }
+    b
+}
+
+// The row numbers from `at` up to `end`, each below `rows`. The loop goes up to the lesser of `end` and the list's length, so that the
+// compiler leaves out the comparison with the length in `number_in`.
+fn rows_in(set: &[u32], at: usize, end: usize, rows: u32) -> End
+    requires { ⌜ at ≤ end ⌝ }
+    ensures { λ r. ⌜ valueFound (part (now (set .entry)) at end) r ≡ rowsAt (end - at) rows (now (set .entry)) at ⌝ }
+{
+    let length = set.len();
+    let stop = lesser(end, length);
+    let mut i = at;
+    let judged = 'rows: loop {
+        if i >= stop {
+            if i < end {
+                break 'rows End::Fault(Fault {
+                    number: 15,
+                    place: length,
+                });
+            }
+            break 'rows End::At(i);
+        }
+        let step = number_in(set, i, 0, rows);
+        match step {
+            End::Fault(fault) => break 'rows End::Fault(fault),
+            End::At(next) => i = next,
+        }
+    };
+    judged
+}
+
+// Whether row k is a quiet row of machine m that leaves state `at`, which no row before it has left.
+fn goes_on<'a>(
+    machine: &'a [u8; 1024],
+    left: &'a [u8; 1024],
+    progress: &'a [bool; 1024],
+    k: usize,
+    m: u8,
+    at: u8,
+    seen: &[bool; 256],
+) -> bool
+    requires { ⌜ k < 1024 ⌝ }
+    ensures { λ r. ⌜ r ≡ goesOn (now (machine .entry)) (now (left .entry)) (now (progress .entry)) k m at (now (seen .entry)) ⌝ }
+{
+    if machine[k] != m {
+        return false;
+    }
+    if progress[k] {
+        return false;
+    }
+    if left[k] != at {
+        return false;
+    }
+    !seen[at as usize]
+}
+
+// The state of row k in a column of states.
+fn state_of(column: &[u8; 1024], k: usize) -> u8
+    requires { ⌜ k < 1024 ⌝ }
+    ensures { λ r. ⌜ r ≡ getD (now (column .entry)) k 0 ⌝ }
+{
+    column[k]
+}
+
+// Whether the rows at `at` up to `end` are a quiet simple cycle of machine m.
+fn is_quiet_cycle<'a>(
+    machine: &'a [u8; 1024],
+    left: &'a [u8; 1024],
+    entered: &'a [u8; 1024],
+    progress: &'a [bool; 1024],
+    set: &[u32],
+    at: usize,
+    end: usize,
+    m: u8,
+) -> bool
+    requires { ⌜ (at < end) × NumbersBelow 1024 (now set) at end ⌝ }
+    ensures { λ r. ⌜ r ≡ leads (record { machine = now (machine .entry); left = now (left .entry); entered = now (entered .entry); progress = now (progress .entry) }) m (getD (now (left .entry)) (getD (now (set .entry)) at 0) 0) (getD (now (left .entry)) (getD (now (set .entry)) at 0) 0) (replicate 256 false) (part (now (set .entry)) at end) ⌝ }
+{
+    let start = state_of(left, set[at] as usize);
+    let mut state = start;
+    let mut seen = [false; 256];
+    let mut i = at;
+    while i < end {
+        let k = set[i] as usize;
+        if !goes_on(machine, left, progress, k, m, state, &seen) {
+            return false;
+        }
+        seen[state as usize] = true;
+        state = state_of(entered, k);
+        i += 1;
+    }
+    state == start
+}
+
+// The repeats at `at`, 1 to 1,000,000.
+fn repeats_in(set: &[u32], at: usize) -> End
+    ensures { λ r. ⌜ valueFound (getD (now (set .entry)) at 0) r ≡ numberIn 1 1000001 (now (set .entry)) at ⌝ }
+{
+    number_in(set, at, 1, 1_000_001)
+}
+
+// The first three numbers of the entry that begins at `first`: machine, repeats and row count.
+fn first_numbers(set: &[u32], first: usize, machines: u32) -> End
+    requires { ⌜ first ≤ 2 ^ 32 ⌝ }
+    ensures { λ r. ⌜ valueFound (getD (now (set .entry)) (first + 2) 0) r ≡ firstNumbers machines (now (set .entry)) first ⌝ }
+{
+    let machine_read = number_in(set, first, 0, machines);
+    match machine_read {
+        End::Fault(fault) => return End::Fault(fault),
+        End::At(_) => {}
+    }
+    let repeats_read = repeats_in(set, first + 1);
+    match repeats_read {
+        End::Fault(fault) => return End::Fault(fault),
+        End::At(_) => {}
+    }
+    number_in(set, first + 2, 1, 65)
+}
+
+// What is judged where the entry that begins at `first` ends: whether its rows, up to `end`, are a quiet simple cycle of its machine.
+fn entry_ends<'a>(
+    machine: &'a [u8; 1024],
+    left: &'a [u8; 1024],
+    entered: &'a [u8; 1024],
+    progress: &'a [bool; 1024],
+    set: &[u32],
+    first: usize,
+    end: usize,
+) -> End
+    requires { ⌜ (first + 3 < end) × NumbersBelow 1024 (now set) (first + 3) end × (getD (now set) first 0 < 256) ⌝ }
+    ensures { λ r. ⌜ JudgedEnd (record { machine = now (machine .entry); left = now (left .entry); entered = now (entered .entry); progress = now (progress .entry) }) (now (set .entry)) first end r ⌝ }
+{
+    let m = set[first] as u8;
+    if is_quiet_cycle(machine, left, entered, progress, set, first + 3, end, m) {
+        return End::At(end);
+    }
+    End::Fault(Fault {
+        number: 17,
+        place: first,
+    })
+}
+
+// The entry that begins at `first`: its numbers, one by one, and what is judged where it ends.
+pub fn judge_entry<'a>(
+    machine: &'a [u8; 1024],
+    left: &'a [u8; 1024],
+    entered: &'a [u8; 1024],
+    progress: &'a [bool; 1024],
+    set: &[u32],
+    first: usize,
+    machines: u32,
+    rows: u32,
+) -> End
+    requires { ⌜ (first ≤ 2 ^ 32) × (machines ≤ 16) × (rows ≤ 1024) ⌝ }
+    ensures { λ r. ⌜ JudgedEntry (record { machine = now (machine .entry); left = now (left .entry); entered = now (entered .entry); progress = now (progress .entry) }) rows machines (now (set .entry)) first r ⌝ }
+{
+    let numbers_read = first_numbers(set, first, machines);
+    match numbers_read {
+        End::Fault(fault) => return End::Fault(fault),
+        End::At(_) => {}
+    }
+    let end = first + 3 + set[first + 2] as usize;
+    let rows_read = rows_in(set, first + 3, end, rows);
+    match rows_read {
+        End::Fault(fault) => return End::Fault(fault),
+        End::At(_) => {}
+    }
+    entry_ends(machine, left, entered, progress, set, first, end)
+}
