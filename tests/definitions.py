@@ -50,13 +50,14 @@ def random_plant(rng):
 # ---- runs
 
 def simulate(plant, states, contents, events):
-    """The quiet rows, the progress rows, and the states after the events."""
+    """The events that happen, in their order, and the states and contents after them."""
     state, content = dict(enumerate(states)), dict(enumerate(contents))
-    quiet = progress = 0
+    happened = []
     for kind, number in events:
         if kind == 'loss':
-            if content.get(number, 0) > 0:
+            if number < plant.types and content[number] > 0:
                 content[number] -= 1
+                happened.append((kind, number))
             continue
         if number >= len(plant.rows):
             continue
@@ -68,11 +69,14 @@ def simulate(plant, states, contents, events):
             content[r.taken] -= 1
         if r.sent is not None:
             content[r.sent] += 1
-        if r.progress:
-            progress += 1
-        else:
-            quiet += 1
-    return quiet, progress, [state[m] for m in range(len(states))]
+        happened.append((kind, number))
+    return happened, [state[m] for m in range(len(states))], [content[t] for t in range(len(contents))]
+
+
+def rows_counted(plant, happened):
+    """The quiet rows and the progress rows among events that happened."""
+    marks = [plant.rows[number].progress for kind, number in happened if kind == 'row']
+    return marks.count(False), marks.count(True)
 
 
 def random_events(rng, plant, count):
@@ -186,12 +190,17 @@ use Rattle.livelock.specs.Runs.{isQuietRow, isProgressRow, quietRows, progressR
 use Rattle.livelock.specs.Weights.{cycleWeight}
 use Rattle.livelock.specs.Figures.{mostStates, base, perProgress, ceilingOf}
 use Rattle.livelock.specs.CycleSets.{Entry, setEffect}
-use Rattle.livelock.proofs.Tests.{every, isDistinct, isWalk, isSimpleCycle, isQuietCycle, isWellFormed}
+use Rattle.livelock.specs.Tests.{every, isDistinct, isWalk, isSimpleCycle, isQuietCycle}
+use Rattle.livelock.proofs.Tests.{isWellFormed}
 use Rattle.livelock.proofs.Graphs.{via, longest}
 use Rattle.livelock.proofs.Decision.{statePotential, isPassing}
 '''
 UNFOLD = ('below sum sumℤ greatest hasProgress canHappen changed after afterAll run isQuietRow isProgressRow '
           'cycleWeight setEffect every isDistinct isWalk via longest statePotential')
+
+
+def events_text(events):
+    return ''.join('%s %d ∷ ' % e for e in events) + '[]'
 
 
 class Theorems:
@@ -220,15 +229,18 @@ def state(theorems, rng, i, plant):
                                      ('isPassing %s %s' % (p, ws), truth(passes(plant, weights)))], p)
 
     states = [rng.randrange(count) for count in plant.states]
-    contents = [rng.randint(0, 3) for _ in range(plant.types)]
+    contents = [rng.randint(0, 3) for _ in range(plant.types + 2)]    # also messages of two types that the plant lacks
     events = random_events(rng, plant, 25)
-    quiet, progress, end = simulate(plant, states, contents, events)
+    happened, end, left = simulate(plant, states, contents, events)
+    quiet, progress = rows_counted(plant, happened)
     theorems.define(c, 'Configuration', 'record { state = λ m. getD %s m 0; content = λ t. getD %s t 0 }' % (numbers(states), numbers(contents)))
-    theorems.define('events%d' % i, 'List Event', ''.join('%s %d ∷ ' % e for e in events) + '[]')
+    theorems.define('events%d' % i, 'List Event', events_text(events))
     bound = f + n * sum(w * x for w, x in zip(weights, contents)) + g * progress
     theorems.equal('run%d' % i, [('quietRows %s %s events%d' % (p, c, i), str(quiet)), ('progressRows %s %s events%d' % (p, c, i), str(progress)),
                                  ('ceilingOf %s %s (%s .content) %d' % (p, ws, c, progress), str(bound))]
-                   + [('afterAll %s %s events%d .state %d' % (p, c, i, m), str(s)) for m, s in enumerate(end)], '%s %s events%d' % (p, c, i))
+                   + [('afterAll %s %s events%d .state %d' % (p, c, i, m), str(s)) for m, s in enumerate(end)]
+                   + [('afterAll %s %s events%d .content %d' % (p, c, i, t), str(x)) for t, x in enumerate(left)]
+                   + [('run %s %s events%d' % (p, c, i), events_text(happened))], '%s %s events%d' % (p, c, i))
 
     every = [(m, list(x)) for m in range(len(plant.states)) for x in simple_cycles(plant, m)]
     chosen = rng.sample(every, min(len(every), 4))
@@ -299,7 +311,7 @@ def hold_to_the_ceiling(rng, plant):
         states = [rng.randrange(count) for count in plant.states]
         contents = [rng.randint(0, 20) for _ in range(plant.types)]
         events = random_events(rng, plant, LONG_RUN) if attempt == 0 else delay_progress(rng, plant, states, contents, 50)
-        quiet, progress, _ = simulate(plant, states, contents, events)
+        quiet, progress = rows_counted(plant, simulate(plant, states, contents, events)[0])
         bound = f + n * sum(w * x for w, x in zip(weights, contents)) + g * progress
         if quiet > bound:
             sys.exit('definitions.py: %d quiet rows, but the ceiling is %d: %s' % (quiet, bound, plant_text(plant)))

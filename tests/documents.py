@@ -4,7 +4,7 @@
 - Each name in the definition and theorem columns of docs/map.md is declared in the file that the row names,
   each must-fail edit that it names exists, and each must-fail edit has a row.
 - The plant files in examples/ have the bytes that the worked examples are proved of and run with.
-- The header of the C interface names every fault number of the table, and each once.
+- The header of the C interface names every fault number of the table, and each once; its kinds are those of the computed examples of crate cabinet.
 
     python3 tests/documents.py
 """
@@ -107,9 +107,22 @@ def hold_header(path):
         faults.append('%s: the fault numbers are %s' % (path, numbers))
 
 
+def hold_kinds(path, examples):
+    """The kinds of the header are those that the computed examples state: the comment names them, and the statement has the numbers in that order."""
+    kinds = re.findall(r'(HEMTALUQ_[A-Z_]+) = (\d+)', read(path).split('enum hemtaluq_kind')[1].split('};')[0])
+    named = re.findall(r'(HEMTALUQ_[A-Z]+)(?: is)? (\d+)', read(examples))
+    if kinds != named:
+        faults.append('%s: the kinds %s are not those of %s' % (examples, named, path))
+    text = read(examples)
+    stated = re.findall(r'\.kind ≡ (\d+)', text[text.index('\nkinds :'):text.index('\nkinds =')])
+    if stated != [number for name, number in kinds[1:]]:
+        faults.append('%s: `kinds` states %s' % (examples, stated))
+
+
 def main():
     hold_examples()
     hold_header('include/hemtaluq.h')
+    hold_kinds('include/hemtaluq.h', 'crates/cabinet/proofs/StructsDiffer.antt')
     hold_excerpts('docs/ceiling.md')
     hold_map('docs/map.md')
     if faults:

@@ -15,7 +15,7 @@ use Rattle.plant.proofs.FileBounds.{within-limits}
 use Rattle.plant.proofs.FirstBytes.{first-bytes}
 use Rattle.weighing.specs.Answers.{Answer}
 use Rattle.weighing.specs.Weighing.{Owed}
-use Rattle.answer_line.specs.Files.{weightsOf, checkedBytes, judgedFiles, Printed}
+use Rattle.answer_line.specs.Files.{weightsOf, checkedBytes, judgedFiles, Printed, PrintedOf}
 use Rattle.answer_line.proofs.WeightLaws.{weights-length}
 use Rattle.answer_line.proofs.OwedLaws.{too-many, any-weights, both-refused, odd-checked, even-checked}
 
@@ -59,3 +59,11 @@ same-line plant weights line n k h room p =
         subst (λ (ws : List ℕ). Owed (weightsOf ws) (replicate 64 0) (p .after) (p .answer) (judgedFiles plant ws)) (take-all k weights l) part
     go (no l) =
         part-refused weights (replicate 64 0) (p .after) (p .answer) k room (omega arith) (readPlant plant) (λ P end e. within-limits plant P end e .few-types) part
+
+-- The line of what two buffers of so many bytes hold is that of the two files.
+pub held-line : (plant weights line : List ℕ) (n m : ℕ) → 4131 ≤ length plant → 130 ≤ length weights → Printed (take n plant) (take m weights) line
+    → PrintedOf plant n weights m line
+held-line plant weights line n m long long′ p plantFile weightsFile holds holds′ =
+    same-line plantFile weightsFile line (length plant) (length weights) long long′
+    (subst (λ (s : List ℕ). Printed s (take (length weights) weightsFile) line) holds
+    (subst (λ (s : List ℕ). Printed (take n plant) s line) holds′ p))

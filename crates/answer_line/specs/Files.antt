@@ -3,7 +3,7 @@ use mathlib.Core.Path.{_≡_}
 use mathlib.Core.Bool.{cond}
 use mathlib.Core.List.{List, [], _∷_}
 use Prim.Native.Nat.{ℕ, _+_, _*_, _%_}
-use lib.ListN.{length, replicate}
+use lib.ListN.{length, take, replicate}
 use lib.Dec.{eqb}
 use Rattle.livelock.specs.Plants.{Plant}
 use Rattle.plant.specs.Found.{Found, fault, andThen}
@@ -32,3 +32,11 @@ pub record Printed (plant weights line : List ℕ) : Type 0 where
   pub after : List ℕ
   pub owed : Owed (weightsOf weights) (replicate 64 0) after answer (judgedFiles plant weights)
   pub line-is : line ≡ lineOf answer after
+
+-- The first n bytes of a buffer are a file, or as many of its first bytes as the buffer holds.
+abbrev pub Holds : List ℕ → ℕ → List ℕ → Type 0
+Holds buffer n file = take n buffer ≡ take (length buffer) file
+
+-- The line is that of the two files, whatever files they are whose first bytes the two buffers hold.
+abbrev pub PrintedOf : List ℕ → ℕ → List ℕ → ℕ → List ℕ → Type 0
+PrintedOf plant n weights m line = (plantFile weightsFile : List ℕ) → Holds plant n plantFile → Holds weights m weightsFile → Printed plantFile weightsFile line

@@ -1,2 +1,4 @@
 -- Laws of the C interface.
 pub mod StructLaws
+pub mod StructsDiffer
+pub mod StructBound

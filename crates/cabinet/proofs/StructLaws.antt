@@ -1,5 +1,6 @@
 -- The struct of a call's result, once it is known which answer that is.
-use mathlib.Core.Path.{_≡_, sym, ap, _∙_}
+use mathlib.Core.Path.{_≡_, refl, sym, ap, _∙_}
+use mathlib.Core.Logic.{_↔_}
 use mathlib.Core.List.{List}
 use Prim.Native.Nat.{ℕ}
 use native.Mathlib.Omega.{arith}
@@ -9,6 +10,7 @@ use mir.Val.{toZ, ofZ}
 use mir.Facts.{toZ-ofZ}
 use Rattle.livelock.specs.Plants.{Plant}
 use Rattle.plant.specs.Found.{Found}
+use Rattle.plant.specs.declared.Fault.{Fault}
 use Rattle.plant.specs.Reading.{readPlant}
 use Rattle.reading.specs.Answers as Reading
 use Rattle.reading.specs.declared.Reading as ReadingResult
@@ -19,9 +21,11 @@ use Rattle.quoting.specs.Answers as QuotingAnswers
 use Rattle.quoting.specs.Quoting as Quoting
 use Rattle.quoting.specs.declared.Quoted.{Quoted}
 use Rattle.listing.specs.Answers as ListingAnswers
+use Rattle.listing.specs.Listing.{ListsCycles, Means}
 use Rattle.listing.specs.declared.Listed.{Listed}
+use Rattle.listing.specs.declared.Listed.the-variants as Listeds
 use Rattle.cycle_sets.specs.Answers as ConfirmingAnswers
-use Rattle.cycle_sets.specs.Confirming.{owed}
+use Rattle.cycle_sets.specs.Confirming.{owed, ReadsBalanced}
 use Rattle.cycle_sets.specs.declared.Confirmation.{Confirmation}
 use Rattle.cycle_sets.specs.declared.Confirmation.the-variants as Variants
 use Rattle.cycle_sets.proofs.SizeLaws.{size-fits}
@@ -58,3 +62,21 @@ negative-told file set {r} message sum is e =
     let answer : ConfirmingAnswers.negative message sum ≡ owed (readPlant file) set = ap ConfirmingAnswers.answerOf (sym e) ∙ is in
     let fits = toZ-ofZ {w = w64} {z = sum} (size-fits sum (omega (arith, negative-bounded file set message sum (sym answer)))) in
     ap (λ (z : ℤ). confirmStruct (ConfirmingAnswers.negative message z)) fits ∙ ap confirmStruct answer
+
+-- What entries mean, in the struct's words; a refusal is no entries.
+pub lists-told : {file after : List ℕ} {m : ℕ} {r : Listed} (used : ℕ) → Means file m (ListingAnswers.answerOf r) after → r ≡ Listeds.Entries used
+    → _≡_ {A = ℕ} 5 5 → ListsCycles file m used after
+lists-told used means e k = means used (ap ListingAnswers.answerOf e)
+
+-- What confirming means, in the struct's words.
+pub confirms-told : {file set : List ℕ} {r : Confirmation} → (ConfirmingAnswers.answerOf r ≡ ConfirmingAnswers.confirmed) ↔ ReadsBalanced file set → r ≡ Variants.Confirmed
+    → (_≡_ {A = ℕ} 6 6) ↔ ReadsBalanced file set
+confirms-told iff e = (λ k. iff .0 (ap ConfirmingAnswers.answerOf e), λ b. refl)
+
+pub negative-means : {file set : List ℕ} {r : Confirmation} (message : ℕ) (sum : ℤ) → (ConfirmingAnswers.answerOf r ≡ ConfirmingAnswers.confirmed) ↔ ReadsBalanced file set
+    → r ≡ Variants.Negative message sum → (_≡_ {A = ℕ} 7 6) ↔ ReadsBalanced file set
+negative-means message sum iff e = (λ k. absurd (omega arith), λ b. let h = sym (ap ConfirmingAnswers.answerOf e) ∙ iff .1 b in cc)
+
+pub refused-means : {file set : List ℕ} {r : Confirmation} (g : Fault) → (ConfirmingAnswers.answerOf r ≡ ConfirmingAnswers.confirmed) ↔ ReadsBalanced file set
+    → r ≡ Variants.Refused g → (_≡_ {A = ℕ} 0 6) ↔ ReadsBalanced file set
+refused-means g iff e = (λ k. absurd (omega arith), λ b. let h = sym (ap ConfirmingAnswers.answerOf e) ∙ iff .1 b in cc)

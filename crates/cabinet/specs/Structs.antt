@@ -11,6 +11,7 @@ use Rattle.weighing.specs.Weighing as Weighing
 use Rattle.quoting.specs.Answers as QuotingAnswers
 use Rattle.quoting.specs.Quoting as Quoting
 use Rattle.listing.specs.Answers as ListingAnswers
+use Rattle.listing.specs.Listing.{ListsCycles}
 use Rattle.cycle_sets.specs.Answers as ConfirmingAnswers
 use Rattle.cabinet.specs.declared.ReadAnswer.{ReadAnswer}
 use Rattle.cabinet.specs.declared.WeighAnswer.{WeighAnswer}
@@ -58,3 +59,7 @@ pub record QuotedAs (ws contents : List ℕ) (g : ℕ) (r : QuoteAnswer) (x : Fo
   pub answer : QuotingAnswers.Answer
   pub struct : r ≡ quoteStruct answer
   pub owed : Quoting.Owed ws contents g answer x
+
+-- Where the struct hands back entries, the front of the lent list is every simple cycle of the machine, once.
+abbrev pub Lists : List ℕ → ℕ → ListAnswer → List ℕ → Type 0
+Lists file machine r after = r .kind ≡ 5 → ListsCycles file machine (r .entries) after

@@ -1,13 +1,14 @@
 // The C interface: the five calls, with answers as structs. include/hemtaluq.h declares them for C and C++.
 ghost use mathlib.Core.Path.{_≡_};
+ghost use mathlib.Core.Logic.{_↔_};
 ghost use lib.ListN.{length};
 ghost use Rattle.plant.specs.Reading.{readPlant};
 ghost use Rattle.reading.specs.Answers.{countsOf};
 ghost use Rattle.weighing.specs.Weighing as Weighing;
 ghost use Rattle.quoting.specs.Quoting as Quoting;
 ghost use Rattle.listing.specs.Listing as Listing;
-ghost use Rattle.cycle_sets.specs.Confirming.{owed};
-ghost use Rattle.cabinet.specs.Structs.{readStruct, listStruct, confirmStruct, WeighedAs, QuotedAs};
+ghost use Rattle.cycle_sets.specs.Confirming.{owed, ReadsBalanced};
+ghost use Rattle.cabinet.specs.Structs.{readStruct, listStruct, confirmStruct, WeighedAs, QuotedAs, Lists};
 use cycle_sets::Confirmation;
 use listing::Listed;
 use quoting::Quoted;
@@ -167,6 +168,7 @@ pub extern "C" fn hemtaluq_quote(
 pub extern "C" fn hemtaluq_list(file: &[u8], machine: u32, out: &mut [u16]) -> ListAnswer
     ensures { λ r. ⌜ r ≡ listStruct (Listing.answered (Listing.judged (now (file .entry)) machine (length (now (out .entry))))) ⌝ }
     ensures { λ r. ⌜ now (out .exit) ≡ Listing.filled (Listing.judged (now (file .entry)) machine (length (now (out .entry)))) (now (out .entry)) ⌝ }
+    ensures { λ r. ⌜ Lists (now (file .entry)) machine r (now (out .exit)) ⌝ }
 {
     let answer = listing::list(file, machine, out);
     match answer {
@@ -188,6 +190,7 @@ pub extern "C" fn hemtaluq_list(file: &[u8], machine: u32, out: &mut [u16]) -> L
 #[no_mangle]
 pub extern "C" fn hemtaluq_confirm(file: &[u8], set: &[u32]) -> ConfirmAnswer
     ensures { λ r. ⌜ r ≡ confirmStruct (owed (readPlant (now (file .entry))) (now (set .entry))) ⌝ }
+    ensures { λ r. ⌜ (r .kind ≡ 6) ↔ ReadsBalanced (now (file .entry)) (now (set .entry)) ⌝ }
 {
     let answer = cycle_sets::confirm(file, set);
     match answer {

@@ -1,9 +1,11 @@
 // The work of the program `ceiling`: reads its two files by name and prints one line. Each stored run is a program whose main calls it.
 ghost use mathlib.Core.Path.{_≡_};
+ghost use Prim.Native.Nat.{_≤_};
+ghost use lib.ListN.{length};
 ghost use lib.IntN.{pos};
 ghost use lib.Signed.{_<ℤ_};
 ghost use Rattle.io.specs.Counts.{Counts};
-ghost use Rattle.answer_line.specs.Files.{Printed};
+ghost use Rattle.answer_line.specs.Files.{PrintedOf};
 use libc::STDOUT_FILENO;
 
 // The bytes of an opened file, as far as the buffer holds them; none where the descriptor is below zero, which stands for a file that cannot be opened.
@@ -26,25 +28,29 @@ fn read_named(path: &[u8], buf: &mut [u8]) -> usize
     read_opened(fd, buf)
 }
 
-// Writes a line to standard output. Only the line that is owed for the bytes of the two files may be handed over.
-fn write_owed(plant: &[u8], weights: &[u8], line: &[u8])
-    requires { ⌜ Printed (now plant) (now weights) (now line) ⌝ }
+// Writes a line to standard output. Only the line that is owed for the two files may be handed over: for every two files of which
+// the first n and m bytes of the buffers are the whole, or as much as the buffers hold.
+fn write_owed(plant: &[u8], n: usize, weights: &[u8], m: usize, line: &[u8])
+    requires { ⌜ PrintedOf (now plant) n (now weights) m (now line) ⌝ }
 {
     io::write_all(STDOUT_FILENO, line);
 }
 
-// Prints the line for the bytes of the two files.
-fn print_line(plant: &[u8], weights: &[u8]) {
+// Prints the line for the two files, of which n and m bytes were read into the buffers. A plant has at most 4,130 bytes and its weights at most 128:
+// longer files are refused by what the buffers hold of them, if that is one byte more than a plant has, and two more than its weights.
+fn print_line(plant: &[u8], n: usize, weights: &[u8], m: usize)
+    requires { ⌜ Counts n (now plant) × Counts m (now weights) × (4131 ≤ length (now plant)) × (130 ≤ length (now weights)) ⌝ }
+{
     let mut line = [0u8; 512];
-    let end = answer_line::write_line(plant, weights, &mut line);
-    write_owed(plant, weights, &line[..end]);
+    let end = answer_line::write_line(&plant[..n], &weights[..m], &mut line);
+    write_owed(plant, n, weights, m, &line[..end]);
 }
 
-// Reads plant.bin and weights.bin, and prints the line. A plant has at most 4,130 bytes and its weights at most 128: longer files are refused by what the buffers hold of them.
+// Reads plant.bin and weights.bin, and prints the line.
 pub fn run() {
     let mut plant = io::large_buffer();
     let n = read_named(b"plant.bin", &mut plant);
     let mut weights = io::buffer();
     let m = read_named(b"weights.bin", &mut weights);
-    print_line(&plant[..n], &weights[..m]);
+    print_line(&plant, n, &weights, m);
 }

@@ -6,7 +6,7 @@ use lib.IntN.{negsuc}
 use Rattle.livelock.specs.Lists.{below, sum, sumℤ}
 use Rattle.livelock.specs.Plants.{Plant, hasProgress}
 use Rattle.livelock.specs.CycleSets.{setEffect}
-use Rattle.livelock.proofs.Tests.{every, isDistinct, isWalk}
+use Rattle.livelock.specs.Tests.{every, isDistinct, isWalk}
 use Rattle.livelock.proofs.BasicExamples.{panelAndProbe, plantA, plantB}
 use Rattle.plant.specs.Reading.{byteAt, byteThat, byteIn, mapByte, stateField, typeField, readRow, readRows, rowsByte, readMachine, readMachines, readPlant}
 use Rattle.plant.proofs.BasicExamples.{panelAndProbeFile}
@@ -102,6 +102,10 @@ repeats-1000001 = refl
 count-0 : answer plantB (0 ∷ 1 ∷ 0 ∷ []) ≡ refused 16 2
 unfolding panelAndProbe below sum sumℤ every isDistinct isWalk hasProgress numberIn rowsAt entryEnds entryAt entryBegins entriesAt setEffect lowestNegative
 count-0 = refl
+
+count-64 : answer plantB (0 ∷ 1 ∷ 64 ∷ []) ≡ refused 15 3
+unfolding panelAndProbe below sum sumℤ every isDistinct isWalk hasProgress numberIn rowsAt entryEnds entryAt entryBegins entriesAt setEffect lowestNegative
+count-64 = refl
 
 count-65 : answer plantB (0 ∷ 1 ∷ 65 ∷ 0 ∷ 1 ∷ []) ≡ refused 16 2
 unfolding panelAndProbe below sum sumℤ every isDistinct isWalk hasProgress numberIn rowsAt entryEnds entryAt entryBegins entriesAt setEffect lowestNegative

@@ -74,7 +74,7 @@ first-each : (s : List ℕ) (at : ℕ) (first : List ℕ) (p : Plant) → FirstR
     → Each (λ q next. FirstRows first (machineCount p + 1) q) (length s) (readMachine s at p)
 unfolding readMachine
 first-each s at first p f =
-    each-then (byteIn-each s at 1 _ 3 (omega arith)) λ states a ha.
+    each-then (byteIn-each s at 1 _ 3 (omega arith) (omega arith)) λ states a ha.
     each-then (rowsByte-each s a (rowCount p)) λ n b hb.
     each-moved s b (hb .0 .inside)
     (λ q next h. h .1)

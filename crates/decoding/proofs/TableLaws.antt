@@ -15,8 +15,7 @@ use Rattle.livelock.proofs.ListLaws.{all-below}
 use Rattle.livelock.proofs.Pigeonhole.{below-length}
 use Rattle.plant.specs.Reading.{withRow, withMachine}
 use Rattle.plant.specs.Steps.{typeOf}
-use Rattle.decoding.specs.Tables.{Columns, rowIn, plantIn, columnsOf, rowOf, plantOf, Sound}
-use Rattle.decoding.specs.Inner.Steps.{columns, Room}
+use Rattle.decoding.specs.Tables.{Columns, rowIn, plantIn, columnsOf, rowOf, plantOf, Sound, columns, Room}
 use Rattle.decoding.specs.declared.PlantTable.{PlantTable}
 
 -- ---- counts

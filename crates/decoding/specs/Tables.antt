@@ -21,6 +21,20 @@ pub record Columns : Type 0 where
   pub taken : List ℕ
   pub progress : List Bool
 
+-- The lent columns, as one value.
+abbrev pub columns : (machine left entered sent taken : List ℕ) → List Bool → Columns
+columns machine left entered sent taken progress =
+    record { machine = machine; left = left; entered = entered; sent = sent; taken = taken; progress = progress }
+
+-- Room for 1,024 rows.
+pub record Room (cs : Columns) : Type 0 where
+  pub machine : length (cs .machine) ≡ 1024
+  pub left : length (cs .left) ≡ 1024
+  pub entered : length (cs .entered) ≡ 1024
+  pub sent : length (cs .sent) ≡ 1024
+  pub taken : length (cs .taken) ≡ 1024
+  pub progress : length (cs .progress) ≡ 1024
+
 -- Row k of the columns.
 abbrev pub rowIn : Columns → ℕ → Row
 rowIn cs k =

@@ -82,6 +82,29 @@ states-after-loss : (afterAll plantA empty with-loss .state 0 ≡ 1) × (afterAl
 unfolding panelAndProbe empty with-loss canHappen changed after afterAll
 states-after-loss = (refl, refl)
 
+-- "The events that happen, in their order, are the run."
+run-itself : run plantA empty with-loss ≡ row 0 ∷ row 2 ∷ row 3 ∷ loss 1 ∷ []
+unfolding panelAndProbe empty with-loss run canHappen changed after
+run-itself = refl
+
+-- Three messages of every number, also of 7, which is no type of the plant. "A loss removes one message of a type that is present",
+-- and one "whose … type the plant lacks, changes nothing".
+three : Configuration
+three = record { state = λ m. 0; content = λ t. 3 }
+
+losses : List Event
+losses = loss 7 ∷ loss 0 ∷ []
+
+one-lost : (run plantA three losses ≡ loss 0 ∷ []) × (afterAll plantA three losses .content 0 ≡ 2) × (afterAll plantA three losses .content 1 ≡ 3) × (afterAll plantA three losses .content 7 ≡ 3)
+unfolding panelAndProbe three losses run canHappen changed after afterAll
+one-lost = (refl, refl, refl, refl)
+
+-- Of each type as many are lost as there are.
+all-lost : (run plantA three (loss 0 ∷ loss 0 ∷ loss 0 ∷ loss 0 ∷ []) ≡ loss 0 ∷ loss 0 ∷ loss 0 ∷ [])
+    × (afterAll plantA three (loss 0 ∷ loss 0 ∷ loss 0 ∷ loss 0 ∷ []) .content 0 ≡ 0)
+unfolding panelAndProbe three run canHappen changed after afterAll
+all-lost = (refl, refl)
+
 -- The same without loss 1.
 without-loss : List Event
 without-loss = row 2 ∷ row 0 ∷ row 2 ∷ row 9 ∷ loss 7 ∷ loss 0 ∷ row 3 ∷ row 1 ∷ []
@@ -167,6 +190,11 @@ progress-not-balanced : Balanced plantA (panel ∷ probe ∷ []) → ⊥
 unfolding All
 progress-not-balanced b = panel-not-quiet (b .no-progress .0)
 
+-- An entry repeats its cycle at least once.
+zero-repeats-not-balanced : Balanced plantB (record { machine = 0; repeats = 0; cycle = 0 ∷ 1 ∷ [] } ∷ panel ∷ probe ∷ []) → ⊥
+unfolding All
+zero-repeats-not-balanced b = not-suc-le-zero (b .repeated .0)
+
 -- In plant B, where it has none, both cycles together are balanced.
 pub both-balanced : Balanced plantB (panel ∷ probe ∷ [])
 unfolding panelAndProbe sum sumℤ setEffect All hasProgress
@@ -214,9 +242,6 @@ parallel-rows s = s .once .0 .0 refl
 tight-figures : (base tight (1 ∷ []) ≡ 0) × (mostStates tight ≡ 1) × (perProgress tight (1 ∷ []) ≡ 1)
 unfolding tight below sum greatest
 tight-figures = (refl, refl, refl)
-
-three : Configuration
-three = record { state = λ m. 0; content = λ t. 3 }
 
 tight-events : List Event
 tight-events = row 0 ∷ row 1 ∷ row 0 ∷ row 0 ∷ row 0 ∷ row 0 ∷ []

@@ -15,7 +15,8 @@ use Rattle.livelock.specs.Cycles.{SimpleCycle, Quiet}
 use Rattle.livelock.specs.Weights.{cycleWeight, Passes, FailingCycle}
 use Rattle.livelock.specs.Figures.{mostStates, largestWeight}
 use Rattle.livelock.proofs.ListLaws.{all-or-one}
-use Rattle.livelock.proofs.Tests.{every, every-below-iff}
+use Rattle.livelock.specs.Tests.{every}
+use Rattle.livelock.proofs.Tests.{every-below-iff}
 use Rattle.livelock.proofs.Graphs.{PositiveCycle, longest, longest-bound}
 use Rattle.livelock.proofs.Potentials.{Potential, isPotential, potential-iff, no-positive-cycle, potential-or-positive}
 use Rattle.livelock.proofs.CycleWeights.{sentWeight, takenWeight, below-zero-iff, zero-or-more-iff, sent-bound}

@@ -9,7 +9,8 @@ use Rattle.livelock.specs.Plants.{hasProgress, WellFormed}
 use Rattle.livelock.specs.Runs.{Configuration, Event, quietRows, progressRows}
 use Rattle.livelock.specs.Weights.{cycleWeight, Passes, FailingCycle}
 use Rattle.livelock.specs.Figures.{contentsWeight}
-use Rattle.livelock.proofs.Tests.{every, well-formed-iff}
+use Rattle.livelock.specs.Tests.{every}
+use Rattle.livelock.proofs.Tests.{well-formed-iff}
 use Rattle.livelock.proofs.Graphs.{via, longest}
 use Rattle.livelock.proofs.Decision.{statePotential, passing-iff}
 use Rattle.livelock.proofs.Ceiling.{ceiling}

@@ -13,7 +13,8 @@ use Rattle.livelock.specs.Cycles.{Walk}
 use Rattle.livelock.proofs.ListLaws.{all-append, all-front, all-back, all-or-one}
 use Rattle.livelock.proofs.SumLaws.{sum-append}
 use Rattle.livelock.proofs.Pigeonhole.{pigeonhole}
-use Rattle.livelock.proofs.Tests.{every, every-below-iff, implies-iff, at-most-iff}
+use Rattle.livelock.specs.Tests.{every}
+use Rattle.livelock.proofs.Tests.{every-below-iff, implies-iff, at-most-iff}
 use Rattle.livelock.proofs.Walks.{visited, visited-length, walk-append, HasCycle, distinct-or-cycle}
 use Rattle.livelock.proofs.Graphs.{Graph, IsEdge, Within, Cycle, Positive, PositiveCycle, longest, longest-upper, Attained, longest-attained}
 

@@ -1,4 +1,4 @@
--- Boolean tests for what the definitions say, each with the law that it is true exactly where that holds.
+-- The laws of the tests of specs/Tests, each of which is true exactly where what it tests holds; and tests of well-formedness with theirs.
 use mathlib.Core.Path.{_≡_, refl, ap}
 use mathlib.Core.Logic.{_≢_, _↔_, Iff·trans, Iff·and}
 use mathlib.Core.Bool.{Bool, true, false, _&&_, _||_, not, false≢true}
@@ -11,6 +11,7 @@ use borrow.Author.Tests.{ltb-true, lt-ltb, leb-true, le-leb, eqb-true, eqb-false
 use Rattle.livelock.specs.Lists.{below, All, Distinct}
 use Rattle.livelock.specs.Plants.{Row, Plant, rowAt, rowCount, hasProgress, isQuiet, TypeIn, RowFits, WellFormed}
 use Rattle.livelock.specs.Cycles.{Walk, leaves, enters, RowOf, firstLeft, SimpleCycle, Quiet}
+use Rattle.livelock.specs.Tests.{every, isDistinct, isWalk, isRowOf, isSimpleCycle, isQuietCycle}
 use Rattle.livelock.proofs.ListLaws.{all-below, all-below-at}
 
 -- ---- tests and their parts
@@ -50,12 +51,7 @@ differ-iff a b = (λ h. eqb-false a b (not-true (eqb a b) h), λ h. ap not (ne-e
 
 -- ---- lists
 
--- Whether each element of a list passes a test.
-unfoldable pub every : {A : Type 0} → (A → Bool) → List A → Bool
-every f [] = true
-every f (x ∷ xs) = f x && every f xs
-
--- Where the test is true exactly of the elements with a property, this is true exactly when each element has it.
+-- Where a test is true exactly of the elements with a property, it is true of every element exactly when each has it.
 pub every-iff : {A : Type 0} (f : A → Bool) (F : A → Type 0) → ((x : A) → (f x ≡ true) ↔ F x)
     → (xs : List A) → (every f xs ≡ true) ↔ All F xs
 unfolding every All
@@ -67,12 +63,7 @@ pub every-below-iff : (f : ℕ → Bool) (F : ℕ → Type 0) → ((k : ℕ) →
     → (n : ℕ) → (every f (below n) ≡ true) ↔ ((k : ℕ) → k < n → F k)
 every-below-iff f F h n = Iff·trans (every-iff f F h (below n)) (all-below-at F n, all-below F n)
 
--- Whether no two numbers of a list are equal.
-unfoldable pub isDistinct : List ℕ → Bool
-isDistinct [] = true
-isDistinct (x ∷ xs) = every (λ y. not (eqb x y)) xs && isDistinct xs
-
--- It is true exactly when the numbers are distinct.
+-- `isDistinct` is true exactly when the numbers are distinct.
 pub distinct-iff : (xs : List ℕ) → (isDistinct xs ≡ true) ↔ Distinct xs
 unfolding isDistinct Distinct
 distinct-iff [] = (λ e. tt, λ e. refl)
@@ -80,34 +71,17 @@ distinct-iff (x ∷ xs) = both-iff _ _ (every-iff (λ y. not (eqb x y)) _ (diffe
 
 -- ---- cycles
 
--- Whether the edges are a walk from s to t.
-unfoldable pub isWalk : (ℕ → ℕ) → (ℕ → ℕ) → ℕ → List ℕ → ℕ → Bool
-isWalk src dst s [] t = eqb s t
-isWalk src dst s (e ∷ es) t = eqb (src e) s && isWalk src dst (dst e) es t
-
--- It is true exactly when they are such a walk.
+-- `isWalk` is true exactly when the edges are such a walk,
 pub walk-iff : (src dst : ℕ → ℕ) (s : ℕ) (es : List ℕ) (t : ℕ) → (isWalk src dst s es t ≡ true) ↔ Walk src dst s es t
 unfolding isWalk Walk
 walk-iff src dst s [] t = equal-iff s t
 walk-iff src dst s (e ∷ es) t = both-iff _ _ (equal-iff (src e) s) (walk-iff src dst (dst e) es t)
 
--- Whether k is the number of a row of machine m.
-abbrev pub isRowOf : Plant → ℕ → ℕ → Bool
-isRowOf P m k = ltb k (rowCount P) && eqb (rowAt P k .machine) m
-
--- It is true exactly for the rows of that machine.
+-- `isRowOf` exactly for the rows of that machine,
 pub row-of-iff : (P : Plant) (m k : ℕ) → (isRowOf P m k ≡ true) ↔ RowOf P m k
 row-of-iff P m k = both-iff _ _ (less-iff k (rowCount P)) (equal-iff (rowAt P k .machine) m)
 
--- Whether the rows are a simple cycle of machine m.
-abbrev pub isSimpleCycle : Plant → ℕ → List ℕ → Bool
-isSimpleCycle P m c =
-    ltb 0 (length c)
-    && (every (isRowOf P m) c
-    && (isWalk (leaves P) (enters P) (firstLeft P c) c (firstLeft P c)
-    && isDistinct (map (leaves P) c)))
-
--- It is true exactly when they are such a cycle.
+-- `isSimpleCycle` exactly when the rows are such a cycle,
 pub simple-cycle-iff : (P : Plant) (m : ℕ) (c : List ℕ) → (isSimpleCycle P m c ≡ true) ↔ SimpleCycle P m c
 simple-cycle-iff P m c =
     Iff·trans
@@ -119,11 +93,7 @@ simple-cycle-iff P m c =
       λ s. (s .non-empty, (s .of-machine, (s .closed, s .once))),
     )
 
--- Whether none of the rows has progress.
-abbrev pub isQuietCycle : Plant → List ℕ → Bool
-isQuietCycle P c = every (λ k. isQuiet (rowAt P k)) c
-
--- It is true exactly when the cycle is quiet.
+-- and `isQuietCycle` exactly when the cycle is quiet.
 pub quiet-iff : (P : Plant) (c : List ℕ) → (isQuietCycle P c ≡ true) ↔ Quiet P c
 quiet-iff P c = every-iff (λ k. isQuiet (rowAt P k)) _ (λ k. not-iff (hasProgress (rowAt P k))) c
 

@@ -3,6 +3,7 @@ pub mod Lists
 pub mod Plants
 pub mod Runs
 pub mod Cycles
+pub mod Tests
 pub mod Weights
 pub mod Figures
 pub mod CycleSets

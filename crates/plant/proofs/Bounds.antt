@@ -1,5 +1,6 @@
 -- What holds of every byte, field and row that is read, and of every fault: one law for each definition of `Reading`.
 use mathlib.Core.Path.{_≡_, refl, subst}
+use mathlib.Core.Logic.{_⊎_, inl, inr}
 use mathlib.Core.Bool.{Bool, true, false, _&&_, cond, true≢false}
 use mathlib.Core.Option.{none, some}
 use mathlib.Core.List.{List}
@@ -13,7 +14,7 @@ use Rattle.livelock.proofs.Tests.{and-iff, both-iff, less-iff, at-most-iff}
 use Rattle.plant.specs.Found.{Found, found, fault, andThen}
 use Rattle.plant.specs.Reading.{byteAt, byteThat, inRange, byteIn, hasBit, isMap, mapByte, stateField, typeField, readRow}
 use Rattle.plant.specs.Reading.{withRow, readRows, rowsByte}
-use Rattle.plant.specs.Limits.{Placed, at-the-end, within}
+use Rattle.plant.specs.Limits.{OneMessage, Placed, at-the-end, within}
 
 -- P of a value and the offset after it, and of a fault that it is placed in a file of n bytes.
 pub data Each {A : Type 0} (P : A → ℕ → Type 0) (n : ℕ) : Found A → Type 0 where
@@ -62,24 +63,24 @@ module _ (s : List ℕ) (at : ℕ) where
   byteAt-each = each-cond (ltb at (length s)) (λ t. got (ltb-true at (length s) t, refl)) (λ t. stopped at-the-end)
 
   -- A byte that has to pass a test lies in the file, passes it, and the next offset is one further.
-  pub byteThat-each : (passes : ℕ → Bool) (number : ℕ) → 2 ≤ number
+  pub byteThat-each : (passes : ℕ → Bool) (number : ℕ) → 2 ≤ number → number ≤ 8
       → Each (λ b next. (at < length s) × (next ≡ at + 1) × (passes b ≡ true)) (length s) (byteThat passes number s at)
   unfolding byteThat
-  byteThat-each passes number l =
-      each-then byteAt-each (λ b next h. each-cond (passes b) (λ t. got (h .0, h .1, t)) (λ t. stopped (within l (h .0))))
+  byteThat-each passes number l u =
+      each-then byteAt-each (λ b next h. each-cond (passes b) (λ t. got (h .0, h .1, t)) (λ t. stopped (within l u (h .0))))
 
   -- A byte that has to be in a range takes at most one byte of the file and is in the range.
-  pub byteIn-each : (low end number : ℕ) → 2 ≤ number → Each (λ b next. Next (length s) (at + 1) next × ((low ≤ b) × (b < end))) (length s) (byteIn low end number s at)
+  pub byteIn-each : (low end number : ℕ) → 2 ≤ number → number ≤ 8 → Each (λ b next. Next (length s) (at + 1) next × ((low ≤ b) × (b < end))) (length s) (byteIn low end number s at)
   unfolding byteIn
-  byteIn-each low end number l =
+  byteIn-each low end number l u =
       each-weaken
       (λ b next h. (record { inside = omega (arith, h .0, h .1); near = omega (arith, h .1) }, both-iff _ _ (at-most-iff low b) (less-iff b end) .0 (h .2)))
-      (byteThat-each (inRange low end) number l)
+      (byteThat-each (inRange low end) number l u)
 
   -- A map byte takes at most one byte of the file and has only bits that may stand.
   pub mapByte-each : Each (λ map next. Next (length s) (at + 1) next × (isMap map ≡ true)) (length s) (mapByte s at)
   unfolding mapByte
-  mapByte-each = each-weaken (λ b next h. (record { inside = omega (arith, h .0, h .1); near = omega (arith, h .1) }, h .2)) (byteThat-each isMap 4 (omega arith))
+  mapByte-each = each-weaken (λ b next h. (record { inside = omega (arith, h .0, h .1); near = omega (arith, h .1) }, h .2)) (byteThat-each isMap 4 (omega arith) (omega arith))
 
   -- A count of rows takes at most one byte of the file and is at most 255, and at most 1,024 with the rows before it.
   pub rowsByte-each : (used : ℕ) → Each (λ n next. Next (length s) (at + 1) next × ((n ≤ 255) × (used + n ≤ 1024))) (length s) (rowsByte used s at)
@@ -89,21 +90,21 @@ module _ (s : List ℕ) (at : ℕ) where
       (λ n next h.
       let few = both-iff _ _ (at-most-iff n _) (at-most-iff (used + n) _) .0 (h .2) in
       (record { inside = omega (arith, h .0, h .1); near = omega (arith, h .1) }, (omega (arith, few .0), omega (arith, few .1))))
-      (byteThat-each _ 7 (omega arith))
+      (byteThat-each _ 7 (omega arith) (omega arith))
 
   -- A state field takes at most one byte, and none without its bit; it is a state of the machine.
   pub stateField-each : (stands : Bool) (absent states : ℕ) → absent < states → at ≤ length s
       → Each (λ b next. Next (length s) (at + cond stands 1 0) next × (b < states)) (length s) (stateField stands absent states s at)
   unfolding stateField
-  stateField-each true absent states a l = each-weaken (λ b next h. (h .0, h .1 .1)) (byteIn-each 0 states 5 (omega arith))
+  stateField-each true absent states a l = each-weaken (λ b next h. (h .0, h .1 .1)) (byteIn-each 0 states 5 (omega arith) (omega arith))
   stateField-each false absent states a l = got (record { inside = l; near = omega arith }, a)
 
-  -- A type field takes at most one byte, and none without its bit; it is a type of the plant or none.
+  -- A type field takes at most one byte; it is a type of the plant or none. Without its bit it takes no byte and is none.
   pub typeField-each : (stands : Bool) (types : ℕ) → at ≤ length s
-      → Each (λ o next. Next (length s) (at + cond stands 1 0) next × TypeIn types o) (length s) (typeField stands types s at)
+      → Each (λ o next. Next (length s) (at + cond stands 1 0) next × TypeIn types o × (stands ≡ false → o ≡ none)) (length s) (typeField stands types s at)
   unfolding typeField
-  typeField-each true types l = each-then (byteIn-each 0 types 6 (omega arith)) (λ b next h. got {a = some b} (h .0, h .1 .1))
-  typeField-each false types l = got {a = none} (record { inside = l; near = omega arith }, tt)
+  typeField-each true types l = each-then (byteIn-each 0 types 6 (omega arith) (omega arith)) (λ b next h. got {a = some b} (h .0, h .1 .1, λ e. absurd (true≢false e)))
+  typeField-each false types l = got {a = none} (record { inside = l; near = omega arith }, tt, λ e. refl)
 
 -- ---- rows
 
@@ -114,6 +115,7 @@ pub record RowIn (m states types : ℕ) (r : Row) : Type 0 where
   pub entered : r .entered < states
   pub sent : TypeIn types (r .sent)
   pub taken : TypeIn types (r .taken)
+  pub one-message : OneMessage r
 
 -- A row has at most four bytes: bits 2 and 3 never stand together.
 pub one-type : (map : ℕ) → isMap map ≡ true → cond (hasBit map 4) 1 0 + cond (hasBit map 8) 1 0 ≤ 1
@@ -124,6 +126,14 @@ one-type map h = go (hasBit map 4) (hasBit map 8) (not-true _ (and-iff (ltb map 
     go true false e = omega arith
     go false true e = omega arith
     go false false e = omega arith
+
+-- So where neither type stands without its bit, one of the two is none.
+one-stands : (map : ℕ) {A B : Type 0} → isMap map ≡ true → (hasBit map 4 ≡ false → A) → (hasBit map 8 ≡ false → B) → A ⊎ B
+one-stands map {A} {B} h f g = go (hasBit map 4) (hasBit map 8) (not-true _ (and-iff (ltb map 32) _ .0 h .1)) f g
+  where
+    go : (a b : Bool) → (a && b) ≡ false → (a ≡ false → A) → (b ≡ false → B) → A ⊎ B
+    go false b e f g = inl (f refl)
+    go true b e f g = inr (g e)
 
 -- A bit adds at most one.
 pub one-bit : (b : Bool) → cond b 1 0 ≤ 1
@@ -145,7 +155,7 @@ readRow-each s m states types implied at hi l =
         inside = he .0 .inside;
         near = omega (arith, ha .0 .near, hb .0 .near, hc .0 .near, hd .0 .near, he .0 .near, one-bit (hasBit map 1), one-bit (hasBit map 2), one-type map (ha .1));
       },
-      record { machine = refl; left = hb .1; entered = hc .1; sent = hd .1; taken = he .1 },
+      record { machine = refl; left = hb .1; entered = hc .1; sent = hd .1; taken = he .1; one-message = one-stands map (ha .1) (hd .2) (he .2) },
     )
 
 -- Rows keep what each row keeps. J speaks of the rows still to come, the offset and the plant so far.

@@ -14,7 +14,7 @@ use Rattle.livelock.proofs.ListLaws.{all-append, all-weaken}
 use Rattle.livelock.proofs.SumLaws.{sum-append, sum-equal, sum-zero}
 use Rattle.plant.specs.Found.{Found, found, fault, movedBy}
 use Rattle.plant.specs.Reading.{withRow, withMachine, readMachine, readMachines, noMachines, readPlant}
-use Rattle.plant.specs.Limits.{Ascending, rowsOf, WithinLimits, Placed, at-the-end, within}
+use Rattle.plant.specs.Limits.{Ascending, rowsOf, OneMessage, WithinLimits, Placed, at-the-end, within}
 use Rattle.plant.proofs.Bounds.{Each, got, stopped, each-found, each-fault, each-then, each-cond, byteIn-each, rowsByte-each, one-bit, RowIn, readRows-each}
 
 -- ---- the plant while it is read
@@ -27,6 +27,7 @@ pub record Formed (at : ℕ) (p : Plant) : Type 0 where
   pub rows-each : (m : ℕ) → rowsOf p m ≤ 255
   pub formed : WellFormed p
   pub ascending : Ascending (p .rows)
+  pub one-message : All OneMessage (p .rows)
   pub bytes : at ≤ 2 + 2 * machineCount p + 4 * rowCount p
 
 -- The plant while the rows of its last machine are read, of which k are to come.
@@ -60,6 +61,7 @@ with-row m states k at next p r g l i =
             rows-each = each;
             formed = all-append _ (p .rows) (r ∷ []) (g .so-far .formed) (fits, tt);
             ascending = ascending-snoc (p .rows) r (g .so-far .ascending) (all-weaken (RowFits (p .types) (p .states)) _ (λ q f. omega (arith, f .machine, i .machine, g .last)) (p .rows) (g .so-far .formed));
+            one-message = all-append _ (p .rows) (r ∷ []) (g .so-far .one-message) (i .one-message, tt);
             bytes = omega (arith, more, g .so-far .bytes);
           };
       last = g .last;
@@ -120,6 +122,7 @@ with-machine states n at next p f l hs hn =
             rows-each = f .rows-each;
             formed = all-weaken (RowFits (p .types) (p .states)) _ (row-kept (p .types) (p .states) states) (p .rows) (f .formed);
             ascending = f .ascending;
+            one-message = f .one-message;
             bytes = omega (arith, more, f .bytes);
           };
       last = more-suc;
@@ -144,7 +147,7 @@ each-moved s b l f (stopped h) = stopped (placed-moved h)
   where
     placed-moved : {number place : ℕ} → Placed (length (drop b s)) number place → Placed (length s) number (b + place)
     placed-moved at-the-end = let e : b + length (drop b s) ≡ length s = omega (arith, length-drop b s) in rw e at-the-end
-    placed-moved (within {number} {place} h i) = let g : b + place < length s = omega (arith, length-drop b s) in within h g
+    placed-moved (within {number} {place} h u i) = let g : b + place < length s = omega (arith, length-drop b s) in within h u g
 
 -- A plant of k machines.
 pub record Machines (k at : ℕ) (p : Plant) : Type 0 where
@@ -157,7 +160,7 @@ module _ (s : List ℕ) where
       → Each (λ q next. (next ≤ length s) × Machines (machineCount p + 1) next q) (length s) (readMachine s at p)
   unfolding readMachine
   readMachine-each at p f =
-      each-then (byteIn-each s at 1 _ 3 (omega arith)) λ states a ha.
+      each-then (byteIn-each s at 1 _ 3 (omega arith) (omega arith)) λ states a ha.
       each-then (rowsByte-each s a (rowCount p)) λ n b hb.
       each-moved s b (hb .0 .inside)
       (λ q next h. (omega (arith, h .0, hb .0 .inside, length-drop b s), record { so-far = h .1 .so-far; number = omega (arith, h .1 .last) }))
@@ -190,20 +193,20 @@ module _ (s : List ℕ) where
   unfolding All Ascending sum
   no-machines at types l h =
       record {
-        so-far = record { few-types = h; states = tt; rows-in-all = zero-le; rows-each = λ m. zero-le; formed = tt; ascending = tt; bytes = omega arith };
+        so-far = record { few-types = h; states = tt; rows-in-all = zero-le; rows-each = λ m. zero-le; formed = tt; ascending = tt; one-message = tt; bytes = omega arith };
         number = refl;
       }
 
-  -- Every plant that a file reads as is within the limits, and was read to the end of the file.
-  pub readPlant-each : Each (λ p next. WithinLimits p × (next ≡ length s)) (length s) (readPlant s)
+  -- Every plant that a file reads as is within the limits, and was read to the end of the file, which is not far.
+  pub readPlant-each : Each (λ p next. WithinLimits p × (next ≡ length s) × (next ≤ 2 + 2 * machineCount p + 4 * rowCount p)) (length s) (readPlant s)
   unfolding readPlant
   readPlant-each =
-      each-then (byteIn-each s 0 1 _ 2 (omega arith)) λ machines a ha.
-      each-then (byteIn-each s a 0 _ 2 (omega arith)) λ types b hb.
+      each-then (byteIn-each s 0 1 _ 2 (omega arith) (omega arith)) λ machines a ha.
+      each-then (byteIn-each s a 0 _ 2 (omega arith) (omega arith)) λ types b hb.
       each-then (readMachines-each machines 0 b (noMachines types) (hb .0 .inside) (no-machines b types (omega (arith, ha .0 .near, hb .0 .near)) (omega (arith, hb .1 .1)))) λ p end h.
       each-cond (ltb end (length s))
-      (λ t. stopped (within (omega arith) (ltb-true end (length s) t)))
-      (λ t. got (limits machines p end (ha .1 .0) (omega (arith, ha .1 .1)) (h .1), omega (arith, h .0, ltb-false end (length s) t)))
+      (λ t. stopped (within (omega arith) (omega arith) (ltb-true end (length s) t)))
+      (λ t. got (limits machines p end (ha .1 .0) (omega (arith, ha .1 .1)) (h .1), omega (arith, h .0, ltb-false end (length s) t), h .1 .so-far .bytes))
     where
       limits : (machines : ℕ) (p : Plant) (end : ℕ) → 1 ≤ machines → machines ≤ 16 → Machines (0 + machines) end p → WithinLimits p
       limits machines p end least most m =
@@ -216,11 +219,20 @@ module _ (s : List ℕ) where
             rows-each = m .so-far .rows-each;
             rows-in-all = m .so-far .rows-in-all;
             ascending = m .so-far .ascending;
+            one-message = m .so-far .one-message;
           }
 
   -- The laws for callers.
   pub within-limits : (p : Plant) (end : ℕ) → readPlant s ≡ found p end → WithinLimits p
   within-limits p end e = each-found p end readPlant-each e .0
+
+  -- A plant file has two bytes, two for each machine and at most four for each row,
+  pub length-of-file : (p : Plant) (end : ℕ) → readPlant s ≡ found p end → length s ≤ 2 + 2 * machineCount p + 4 * rowCount p
+  length-of-file p end e = let h = each-found p end readPlant-each e in omega (arith, h .1, h .2)
+
+  -- so at most 2 + 16 × 2 + 1,024 × 4.
+  pub longest-file : (p : Plant) (end : ℕ) → readPlant s ≡ found p end → length s ≤ 4130
+  longest-file p end e = let h = within-limits p end e in omega (arith, length-of-file p end e, h .few-machines, h .rows-in-all)
 
   -- Every fault is placed in the file.
   pub placed : (number place : ℕ) → readPlant s ≡ fault number place → Placed (length s) number place

@@ -96,7 +96,7 @@ module _ (s s′ : List ℕ) (N : ℕ) (g : Agree s s′ N) (enough : 4130 < N) 
   readMachine-same : (at : ℕ) (p : Plant) → Formed at p → machineCount p < 16 → readMachine s at p ≡ readMachine s′ at p
   unfolding readMachine
   readMachine-same at p f few =
-      rw (← byteIn-same s s′ N g 1 65 3 at (omega (arith, f .bytes, f .rows-in-all))) (same-then (byteIn-each s at 1 65 3 (omega arith)) λ states a ha.
+      rw (← byteIn-same s s′ N g 1 65 3 at (omega (arith, f .bytes, f .rows-in-all))) (same-then (byteIn-each s at 1 65 3 (omega arith) (omega arith)) λ states a ha.
       rw (← rowsByte-same s s′ N g (rowCount p) a (omega (arith, ha .0 .near, f .bytes, f .rows-in-all))) (same-then (rowsByte-each s a (rowCount p)) λ n b hb.
       let l : b + 4 * n ≤ N = omega (arith, ha .0 .near, hb .0 .near, hb .1 .1, f .bytes) in
       ap (movedBy b)
@@ -113,8 +113,8 @@ module _ (s s′ : List ℕ) (N : ℕ) (g : Agree s s′ N) (enough : 4130 < N) 
   readPlant-same : readPlant s ≡ readPlant s′
   unfolding readPlant
   readPlant-same =
-      rw (← byteIn-same s s′ N g 1 17 2 0 (omega arith)) (same-then (byteIn-each s 0 1 17 2 (omega arith)) λ machines a ha.
-      rw (← byteIn-same s s′ N g 0 65 2 a (omega (arith, ha .0 .near))) (same-then (byteIn-each s a 0 65 2 (omega arith)) λ types b hb.
+      rw (← byteIn-same s s′ N g 1 17 2 0 (omega arith)) (same-then (byteIn-each s 0 1 17 2 (omega arith) (omega arith)) λ machines a ha.
+      rw (← byteIn-same s s′ N g 0 65 2 a (omega (arith, ha .0 .near))) (same-then (byteIn-each s a 0 65 2 (omega arith) (omega arith)) λ types b hb.
       let start = no-machines s b types (omega (arith, ha .0 .near, hb .0 .near)) (omega (arith, hb .1 .1)) in
       rw (← readMachines-same machines 0 b (noMachines types) start (omega (arith, ha .1 .1))) (same-then (readMachines-each s machines 0 b (noMachines types) (hb .0 .inside) start) λ p end h.
       let l : end < N = omega (arith, h .1 .so-far .bytes, h .1 .so-far .rows-in-all, h .1 .number, ha .1 .1) in

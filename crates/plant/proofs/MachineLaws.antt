@@ -46,7 +46,7 @@ module _ (s : List ℕ) (at : ℕ) (p : Plant) where
 -- The place of a fault is at most the length of the file.
 pub place-within : (n number place : ℕ) → Placed n number place → place ≤ n
 place-within n number place at-the-end = le-refl n
-place-within n number place (within h l) = omega arith
+place-within n number place (within h u l) = omega arith
 
 end-within : (J : Plant → ℕ → Type 0) (n : ℕ) (p : Plant) (e : End) → Each (λ q next. (next ≤ n) × J q next) n (endFound e p) → offsetOf e ≤ n
 end-within J n p (Ends.At next) (got h) = h .0

@@ -20,6 +20,6 @@ type-itself b l = simp (lt-ltb b 64 l)
 pub type-of-byte : (types : ℕ) (s : List ℕ) (at : ℕ) (r : FieldStep) → types ≤ 64 → fieldFound r ≡ byteIn 0 types 6 s at
     → typeFound r ≡ andThen (byteIn 0 types 6 s at) (λ b next. found (some b) next)
 type-of-byte types s at (FieldSteps.Value f) l e =
-    let h = each-found (f .value) (f .next) (byteIn-each s at 0 types 6 (omega arith)) (sym e) in
+    let h = each-found (f .value) (f .next) (byteIn-each s at 0 types 6 (omega arith) (omega arith)) (sym e) in
     rw (← e, type-itself (f .value) (omega (arith, h .1 .1)))
 type-of-byte types s at (FieldSteps.Fault f) l e = rw (← e)

@@ -1,4 +1,7 @@
 -- What holds of every plant that a file reads as (document 01, "The plant file").
+use mathlib.Core.Path.{_≡_}
+use mathlib.Core.Logic.{_⊎_}
+use mathlib.Core.Option.{none}
 use mathlib.Core.List.{List, [], _∷_}
 use Prim.Native.Nat.{ℕ, _≤_, _<_}
 use lib.Dec.{eqb}
@@ -13,6 +16,10 @@ Ascending (r ∷ rs) = All (λ q. r .machine ≤ q .machine) rs × Ascending rs
 -- How many rows machine m has.
 abbrev pub rowsOf : Plant → ℕ → ℕ
 rowsOf p m = count (λ r. eqb (r .machine) m) (p .rows)
+
+-- "it sends one message, takes one, or does neither": not both.
+abbrev pub OneMessage : Row → Type 0
+OneMessage r = (r .sent ≡ none) ⊎ (r .taken ≡ none)
 
 -- A well-formed plant that keeps to the limits of the plant file.
 pub record WithinLimits (p : Plant) : Type 0 where
@@ -29,8 +36,10 @@ pub record WithinLimits (p : Plant) : Type 0 where
   -- "All machines together have at most 1,024 rows."
   pub rows-in-all : rowCount p ≤ 1024
   pub ascending : Ascending (p .rows)
+  -- "bits 2 and 3 never stand together"
+  pub one-message : All OneMessage (p .rows)
 
--- "the file ends before it: file length", and every other place is a byte of the file: the place of a fault in a file of n bytes.
+-- "the file ends before it: file length", and the place of every other fault, 2 to 8, is a byte of the file: a fault in a file of n bytes.
 pub data Placed (n : ℕ) : ℕ → ℕ → Type 0 where
   at-the-end : Placed n 1 n
-  within : {number place : ℕ} → 2 ≤ number → place < n → Placed n number place
+  within : {number place : ℕ} → 2 ≤ number → number ≤ 8 → place < n → Placed n number place

@@ -6,7 +6,7 @@ use lib.ListN.{length, getD}
 use lib.Dec.{ltb}
 use Rattle.livelock.specs.Plants.{Plant, rowCount, machineCount}
 use Rattle.livelock.specs.CycleSets.{Entry}
-use Rattle.livelock.proofs.Tests.{isSimpleCycle, isQuietCycle}
+use Rattle.livelock.specs.Tests.{isSimpleCycle, isQuietCycle}
 use Rattle.plant.specs.Found.{Found, found, fault, andThen}
 use Rattle.plant.specs.Reading.{inRange}
 

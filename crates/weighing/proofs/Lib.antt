@@ -2,3 +2,4 @@
 pub mod BasicExamples
 pub mod MachineLaws
 pub mod WeighingLaws
+pub mod PassedLaws

@@ -30,7 +30,7 @@ use Rattle.decoding.specs.declared.PlantTable.{PlantTable}
 use Rattle.plant.proofs.FileBounds.{within-limits}
 use Rattle.plant.proofs.OneToOne.{same-fault}
 use Rattle.decoding.proofs.TableLaws.{machines-counted}
-use Rattle.weighing.specs.Answers.{Answer, passed, cycle, refused, answerOf, Judgement, judgementOf}
+use Rattle.weighing.specs.Answers.{Answer, passed, cycle, refused, answerOf, HasFigures, Judgement, judgementOf}
 use Rattle.weighing.specs.Answers as Answers
 use Rattle.weighing.specs.Weighing.{firstAbove, checkedSizes, checkedWeights, judgedWeights, checkedRoom, checked, judged}
 use Rattle.weighing.specs.Weighing.{OnPassing, OnFailing, Owed, for-fault, for-plant, OnPassingVerdict, OwedVerdict, verdict-for-fault, verdict-for-plant}
@@ -314,10 +314,6 @@ checks-judged {t} ready file ws read reads weighed types weights types-are room 
     ∙ judged-room file ws room
 
 -- ---- what the answer says
-
--- The answer hands back figures.
-abbrev pub HasFigures : Answer → Type 0
-HasFigures a = (F : ℕ) × (n : ℕ) × (G : ℕ) × (a ≡ passed F n G)
 
 -- Whether an answer is one of passing.
 abbrev isPassed : Answer → Bool

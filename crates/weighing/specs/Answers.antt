@@ -1,4 +1,5 @@
 -- The answers of weighing, in document 01's numbers and values.
+use mathlib.Core.Path.{_≡_}
 use Prim.Native.Nat.{ℕ}
 use Rattle.weighing.specs.declared.Weighed.{Weighed}
 use Rattle.weighing.specs.declared.Weighed.the-variants as Variants
@@ -16,6 +17,10 @@ abbrev pub answerOf : Weighed → Answer
 answerOf (Variants.Passed base states progress) = passed base states progress
 answerOf (Variants.Cycle rows) = cycle rows
 answerOf (Variants.Refused f) = refused (f .number) (f .place)
+
+-- The answer hands back figures.
+abbrev pub HasFigures : Answer → Type 0
+HasFigures a = (F : ℕ) × (n : ℕ) × (G : ℕ) × (a ≡ passed F n G)
 
 -- Without a cycle: "Passing hands back F, n and G"; or that the weights do not pass; or "its number and a place".
 pub data Judgement : Type 0 where

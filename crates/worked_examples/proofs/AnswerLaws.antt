@@ -9,7 +9,7 @@ use Rattle.livelock.specs.Figures.{base, mostStates, perProgress}
 use Rattle.plant.specs.Found.{Found, found}
 use Rattle.plant.specs.Reading.{readPlant}
 use Rattle.weighing.specs.Answers.{Answer, passed}
-use Rattle.weighing.specs.Weighing.{firstAbove, judged, Owed, for-plant}
+use Rattle.weighing.specs.Weighing.{firstAbove, judged, OnFailing, Owed, for-plant}
 use Rattle.weighing.proofs.WeighingLaws.{owed-same, refuse-none, judged-plant}
 use Rattle.quoting.specs.Answers as QuotingAnswers
 use Rattle.quoting.specs.Classes.{classOf}
@@ -20,6 +20,10 @@ figures-of : {ws before after : List ℕ} {a : Answer} {P : Plant} {end : ℕ} �
     → a ≡ passed (base P ws) (mostStates P) (perProgress P ws)
 figures-of (for-plant passing failing) p = passing p .figures
 
+-- Where they do not pass, it shows a cycle.
+failing-of : {ws before after : List ℕ} {a : Answer} {P : Plant} {end : ℕ} → Owed ws before after a (found P end) → (Passes P ws → ⊥) → OnFailing P ws before after a
+failing-of (for-plant passing failing) f = failing f
+
 -- So has one that is owed for a file that reads as the plant, with good weights and a lent list of 64 entries or more.
 pub figures-owed : (file ws before after : List ℕ) (a : Answer) (P : Plant) (end : ℕ) → readPlant file ≡ found P end → length ws ≡ P .types
     → length ws ≤ firstAbove 1000 ws → Passes P ws → 64 ≤ length before → Owed ws before after a (judged file ws (length before))
@@ -27,6 +31,13 @@ pub figures-owed : (file ws before after : List ℕ) (a : Answer) (P : Plant) (e
 figures-owed file ws before after a P end reads one-each light p room owed =
     let is : found P end ≡ judged file ws (length before) = refuse-none ws (length before) P end one-each light room ∙ judged-plant file ws (length before) P end reads in
     figures-of (owed-same ws before after a (judged file ws (length before)) (found P end) (sym is) owed) p
+
+pub failing-owed : (file ws before after : List ℕ) (a : Answer) (P : Plant) (end : ℕ) → readPlant file ≡ found P end → length ws ≡ P .types
+    → length ws ≤ firstAbove 1000 ws → (Passes P ws → ⊥) → 64 ≤ length before → Owed ws before after a (judged file ws (length before))
+    → OnFailing P ws before after a
+failing-owed file ws before after a P end reads one-each light f room owed =
+    let is : found P end ≡ judged file ws (length before) = refuse-none ws (length before) P end one-each light room ∙ judged-plant file ws (length before) P end reads in
+    failing-of (owed-same ws before after a (judged file ws (length before)) (found P end) (sym is) owed) f
 
 -- An answer of quoting that is owed for such a plant has the ceiling and its class.
 pub quote-owed : (ws contents : List ℕ) (g : ℕ) (a : QuotingAnswers.Answer) (P : Plant) (end : ℕ) (x : Found Plant) → x ≡ found P end → Passes P ws

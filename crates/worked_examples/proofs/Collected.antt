@@ -1,5 +1,6 @@
 -- The collected theorem: every starred example of document 01 holds of the definitions.
 use mathlib.Core.Path.{_≡_, refl, ap}
+use mathlib.Core.Bool.{true}
 use mathlib.Core.List.{List, [], _∷_}
 use Prim.Native.Nat.{ℕ, _≤_}
 use native.Mathlib.Nat.{le-refl}
@@ -9,9 +10,9 @@ use Rattle.livelock.specs.Lists.{below, sum, sumℤ, greatest}
 use Rattle.livelock.specs.Plants.{hasProgress}
 use Rattle.livelock.specs.Weights.{cycleWeight}
 use Rattle.livelock.specs.CycleSets.{setEffect}
-use Rattle.livelock.proofs.Tests.{every, isWalk, isDistinct}
+use Rattle.livelock.specs.Tests.{every, isWalk, isDistinct}
 use Rattle.livelock.proofs.Decision.{not-both}
-use Rattle.livelock.proofs.BasicExamples.{panelAndProbe, plantA, plantB}
+use Rattle.livelock.proofs.BasicExamples.{panelAndProbe, plantA, plantB, probe-cycle, probe-quiet}
 use Rattle.livelock.proofs.PassingExamples.{passes-2-1, shown-1-1, none-pass-in-B}
 use Rattle.plant.specs.Found.{found}
 use Rattle.weighing.specs.Weighing.{firstAbove, checkedSizes, checkedWeights}
@@ -22,11 +23,11 @@ use Rattle.cycle_paths.specs.Cycles.{joined, selected, unleft, paths, cyclesThr
 use Rattle.listing.specs.Listing as Listing
 use Rattle.set_entries.specs.Sets.{numberIn, rowsAt, entryEnds, entryAt, entryBegins, entriesAt}
 use Rattle.cycle_sets.specs.Confirming.{lowestNegative}
-use Rattle.worked_examples.specs.Files.{fileA, oneState}
+use Rattle.worked_examples.specs.Files.{fileA, oneState, oneRow}
 use Rattle.worked_examples.specs.Table.{Examples}
 use Rattle.worked_examples.proofs.Plants.{onePlant, rowPlant, reads-A, reads-B, reads-one-state, reads-quiet-row, reads-progress-row}
 use Rattle.worked_examples.proofs.Plants.{passes-1-0, shown-1-2, one-state-passes, quiet-row-fails, progress-row-passes}
-use Rattle.worked_examples.proofs.AnswerLaws.{figures-owed, quote-owed}
+use Rattle.worked_examples.proofs.AnswerLaws.{figures-owed, failing-owed, quote-owed}
 
 -- The probe's cycle is the one of machine 1, and takes 3 entries.
 needs-3 : Listing.judged fileA 1 3 ≡ found (2 ∷ 2 ∷ 3 ∷ []) 20
@@ -39,10 +40,10 @@ fills-3 before e = let short : length before ≤ 3 = omega (arith, e) in rw (e, 
 
 -- The table holds. Each number of it is computed here from the definitions.
 pub examples : Examples
-unfolding panelAndProbe onePlant below sum sumℤ greatest cycleWeight setEffect every isWalk isDistinct hasProgress firstAbove checkedSizes checkedWeights edges classOf checkedAmounts checkedContents checked numberIn rowsAt entryEnds entryAt entryBegins entriesAt lowestNegative
+unfolding panelAndProbe onePlant rowPlant below sum sumℤ greatest cycleWeight setEffect every isWalk isDistinct hasProgress firstAbove checkedSizes checkedWeights edges classOf checkedAmounts checkedContents checked numberIn rowsAt entryEnds entryAt entryBegins entriesAt lowestNegative
 examples =
     record {
-      weights-2-1-cycle = record { plant = plantA; end = 20; reads = reads-A; weighs = refl };
+      weights-2-1-cycle = record { plant = plantA; end = 20; reads = reads-A; simple = probe-cycle true; quiet = probe-quiet; weighs = refl };
       weights-2-1 = λ before after a room owed. figures-owed fileA (2 ∷ 1 ∷ []) before after a plantA 20 reads-A refl (le-refl 2) passes-2-1 room owed;
       weights-1-0 = λ before after a room owed. figures-owed fileA (1 ∷ 0 ∷ []) before after a plantA 20 reads-A refl (le-refl 2) passes-1-0 room owed;
       weights-1-1 =
@@ -53,6 +54,9 @@ examples =
             rightful = shown-1-1;
             weighs = refl;
             not-passing = λ p. not-both plantA (1 ∷ 1 ∷ []) (2 ∷ 3 ∷ []) p shown-1-1;
+            answer =
+                λ before after a room owed.
+                failing-owed fileA (1 ∷ 1 ∷ []) before after a plantA 20 reads-A refl (le-refl 2) (λ p. not-both plantA (1 ∷ 1 ∷ []) (2 ∷ 3 ∷ []) p shown-1-1) room owed;
           };
       weights-1-2 =
           record {
@@ -62,6 +66,9 @@ examples =
             rightful = shown-1-2;
             weighs = refl;
             not-passing = λ p. not-both plantA (1 ∷ 2 ∷ []) (2 ∷ 3 ∷ []) p shown-1-2;
+            answer =
+                λ before after a room owed.
+                failing-owed fileA (1 ∷ 2 ∷ []) before after a plantA 20 reads-A refl (le-refl 2) (λ p. not-both plantA (1 ∷ 2 ∷ []) (2 ∷ 3 ∷ []) p shown-1-2) room owed;
           };
       quote-39 =
           record {
@@ -78,4 +85,5 @@ examples =
       one-state = λ before after a room owed. figures-owed oneState [] before after a onePlant 4 reads-one-state refl (le-refl 0) one-state-passes room owed;
       quiet-row = record { plant = rowPlant _; end = 5; reads = reads-quiet-row; none = λ ws long p. quiet-row-fails ws p };
       progress-row = record { plant = rowPlant _; end = 5; reads = reads-progress-row; all = λ ws long. progress-row-passes ws };
+      progress-row-figures = λ before after a room owed. figures-owed (oneRow 0x10) [] before after a (rowPlant _) 5 reads-progress-row refl (le-refl 0) (progress-row-passes []) room owed;
     }

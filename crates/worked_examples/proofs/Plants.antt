@@ -10,7 +10,8 @@ use Rattle.livelock.specs.Lists.{below, sum, sumℤ, greatest, All, Distinct}
 use Rattle.livelock.specs.Plants.{Plant, hasProgress}
 use Rattle.livelock.specs.Cycles.{Walk, SimpleCycle, Quiet}
 use Rattle.livelock.specs.Weights.{cycleWeight, Passes, FailingCycle}
-use Rattle.livelock.proofs.Tests.{every, well-formed-iff}
+use Rattle.livelock.specs.Tests.{every}
+use Rattle.livelock.proofs.Tests.{well-formed-iff}
 use Rattle.livelock.proofs.Graphs.{via, longest}
 use Rattle.livelock.proofs.Decision.{statePotential, passing-iff}
 use Rattle.livelock.proofs.BasicExamples.{panelAndProbe, plantA, plantB, probe-cycle, probe-quiet}

@@ -9,7 +9,8 @@ use Rattle.livelock.specs.Lists.{below, sum, sumℤ, greatest}
 use Rattle.livelock.specs.Plants.{Row, Plant, hasProgress}
 use Rattle.livelock.specs.Weights.{Passes}
 use Rattle.livelock.specs.CycleSets.{setEffect}
-use Rattle.livelock.proofs.Tests.{every, isWalk, isDistinct, well-formed-iff}
+use Rattle.livelock.specs.Tests.{every, isWalk, isDistinct}
+use Rattle.livelock.proofs.Tests.{well-formed-iff}
 use Rattle.livelock.proofs.Graphs.{via, longest}
 use Rattle.livelock.proofs.Decision.{statePotential, passing-iff}
 use Rattle.livelock.proofs.Exclusion.{exclusion}

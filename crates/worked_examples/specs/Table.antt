@@ -5,6 +5,7 @@ use Prim.Native.Nat.{ℕ, _≤_}
 use lib.ListN.{length}
 use lib.IntN.{ℤ, pos, negsuc}
 use Rattle.livelock.specs.Plants.{Plant}
+use Rattle.livelock.specs.Cycles.{SimpleCycle, Quiet}
 use Rattle.livelock.specs.Weights.{cycleWeight, Passes, FailingCycle}
 use Rattle.livelock.specs.Figures.{contentsWeight}
 use Rattle.plant.specs.Found.{found}
@@ -24,14 +25,17 @@ abbrev pub PassedWith : List ℕ → List ℕ → ℕ → ℕ → ℕ → Type 0
 PassedWith file ws F n G =
     (before after : List ℕ) (a : WeighingAnswers.Answer) → 64 ≤ length before → Weighing.Owed ws before after a (Weighing.judged file ws (length before)) → a ≡ WeighingAnswers.passed F n G
 
--- A cycle of the plant of a file, and its weight.
-pub record CycleWeighs (file ws rows : List ℕ) (z : ℤ) : Type 0 where
+-- A quiet simple cycle of a machine of the plant of a file, and its weight.
+pub record CycleWeighs (file ws : List ℕ) (m : ℕ) (rows : List ℕ) (z : ℤ) : Type 0 where
   pub plant : Plant
   pub end : ℕ
   pub reads : readPlant file ≡ found plant end
+  pub simple : SimpleCycle plant m rows
+  pub quiet : Quiet plant rows
   pub weighs : cycleWeight plant ws rows ≡ z
 
--- "shown": the rows are rightful to show, their weight is this number, and the weights do not pass.
+-- "shown": the rows are rightful to show, their weight is this number, and the weights do not pass; and every answer that meets the
+-- contract of `weigh`, for a lent list of 64 entries or more, shows a quiet simple cycle that weighs zero or more.
 pub record Shown (file ws rows : List ℕ) (z : ℤ) : Type 0 where
   pub plant : Plant
   pub end : ℕ
@@ -39,6 +43,8 @@ pub record Shown (file ws rows : List ℕ) (z : ℤ) : Type 0 where
   pub rightful : FailingCycle plant ws rows
   pub weighs : cycleWeight plant ws rows ≡ z
   pub not-passing : Passes plant ws → ⊥
+  pub answer : (before after : List ℕ) (a : WeighingAnswers.Answer) → 64 ≤ length before → Weighing.Owed ws before after a (Weighing.judged file ws (length before))
+      → Weighing.OnFailing plant ws before after a
 
 -- "no weights pass": none of the right count.
 pub record NoWeightsPass (file : List ℕ) : Type 0 where
@@ -74,7 +80,7 @@ SetGives file set a = Confirming.owed (readPlant file) set ≡ a
 -- The table.
 pub record Examples : Type 0 where
   -- "A, weights 2, 1: the probe's cycle weighs −1; F 10, n 2, G 9."
-  pub weights-2-1-cycle : CycleWeighs fileA (2 ∷ 1 ∷ []) (2 ∷ 3 ∷ []) (negsuc 0)
+  pub weights-2-1-cycle : CycleWeighs fileA (2 ∷ 1 ∷ []) 1 (2 ∷ 3 ∷ []) (negsuc 0)
   pub weights-2-1 : PassedWith fileA (2 ∷ 1 ∷ []) 10 2 9
   -- "A, weights 1, 0: F 6, n 2, G 5."
   pub weights-1-0 : PassedWith fileA (1 ∷ 0 ∷ []) 6 2 5
@@ -96,6 +102,7 @@ pub record Examples : Type 0 where
   -- "That machine with one row 00: no weights pass; with 10, they do."
   pub quiet-row : NoWeightsPass (oneRow 0x00)
   pub progress-row : AllWeightsPass (oneRow 0x10)
+  pub progress-row-figures : PassedWith (oneRow 0x10) [] 0 1 0
 
 -- The answers of the published test for its running example.
 pub record PublishedExample : Type 0 where

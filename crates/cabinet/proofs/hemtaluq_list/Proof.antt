@@ -1,6 +1,7 @@
 -- `hemtaluq_list` meets its contract: each answer of `list` becomes its struct, and the lent list is what `list` left.
 use borrow.Author.Needs.{needs}
-use Rattle.cabinet.proofs.StructLaws.{list-told}
+use native.Mathlib.Omega.{arith}
+use Rattle.cabinet.proofs.StructLaws.{list-told, lists-told}
 use Rattle.cabinet.proofs.hemtaluq_list.Statement.{statement}
 use Rattle.cabinet.proofs.hemtaluq_list.Tie as tie
 
@@ -17,13 +18,13 @@ same-length : tie.Need-same-length
 same-length c = search needs
 
 returns : tie.Need-returns
-returns c = let l = c .before .before .before .before .before .list .ensures in (list-told (l .0) (c .before .answer .given .1), l .1 .0)
+returns c = let l = c .before .before .before .before .before .list .ensures in (list-told (l .0) (c .before .answer .given .1), (l .1 .0, lists-told _ (l .1 .1) (c .before .answer .given .1)))
 
 same-length-2 : tie.Need-same-length-2
 same-length-2 c = search needs
 
 returns-2 : tie.Need-returns-2
-returns-2 c = let l = c .before .before .before .before .before .list .ensures in (list-told (l .0) (c .before .answer2 .given .1), l .1 .0)
+returns-2 c = let l = c .before .before .before .before .before .list .ensures in (list-told (l .0) (c .before .answer2 .given .1), (l .1 .0, λ k. absurd (omega arith)))
 
 pub hemtaluq-list-spec : {M : Type 1} → statement M
 hemtaluq-list-spec =

@@ -52,8 +52,8 @@ cast-read-machines c = search needs
 read-machines-requires : tie.Need-read-machines-requires
 read-machines-requires c κs =
     let p = c .before .before .before .before .before .before .before .before .before .before .before .before .before .before .before .before .before .before .pre in
-    let m = each-found _ _ (byteIn-each _ _ 1 17 2 (omega arith)) (told fieldFound (c .before .before .before .before .before .before .before .before .before .before .before .before .before .before .before .before .machines-byte .ensures) (c .before .before .before .before .before .before .before .before .before .before .before .before .before .before .one .given .1)) in
-    let t = each-found _ _ (byteIn-each _ _ 0 65 2 (omega arith)) (told fieldFound (c .before .before .before .before .before .before .before .before .before .before .before .before .types-byte .ensures) (c .before .before .before .before .before .before .before .before .before .before .two .given .1)) in
+    let m = each-found _ _ (byteIn-each _ _ 1 17 2 (omega arith) (omega arith)) (told fieldFound (c .before .before .before .before .before .before .before .before .before .before .before .before .before .before .before .before .machines-byte .ensures) (c .before .before .before .before .before .before .before .before .before .before .before .before .before .before .one .given .1)) in
+    let t = each-found _ _ (byteIn-each _ _ 0 65 2 (omega arith) (omega arith)) (told fieldFound (c .before .before .before .before .before .before .before .before .before .before .before .before .types-byte .ensures) (c .before .before .before .before .before .before .before .before .before .before .two .given .1)) in
     (p .0, p .1, p .2, omega (arith, t .1 .1), omega (arith, m .1 .1))
 
 fill-first-requires : tie.Need-fill-first-requires
@@ -66,7 +66,7 @@ returns-3 : tie.Need-returns-3
 returns-3 c =
     let file = c .before .before .before .before .before .before .before .before .before .before .before .before .before .before .before .before .before .before .before .before .before .before .args .file .now in
     let r = c .before .before .before .read-machines .ensures in
-    let t = each-found _ _ (byteIn-each _ _ 0 65 2 (omega arith)) (told fieldFound (c .before .before .before .before .before .before .before .before .before .before .before .before .before .before .before .before .types-byte .ensures) (c .before .before .before .before .before .before .before .before .before .before .before .before .before .before .two .given .1)) in (
+    let t = each-found _ _ (byteIn-each _ _ 0 65 2 (omega arith) (omega arith)) (told fieldFound (c .before .before .before .before .before .before .before .before .before .before .before .before .before .before .before .before .types-byte .ensures) (c .before .before .before .before .before .before .before .before .before .before .before .before .before .before .two .given .1)) in (
       c .at-file-end .ensures _ ∙ ap (λ (x : Found Plant). andThen x (fileEnd file)) (r .holds) ∙ file-read _ _ _ (told fieldFound (c .before .before .before .before .before .before .before .before .before .before .before .before .before .before .before .before .before .before .before .before .machines-byte .ensures) (c .before .before .before .before .before .before .before .before .before .before .before .before .before .before .before .before .before .before .one .given .1)) _ _ (told fieldFound (c .before .before .before .before .before .before .before .before .before .before .before .before .before .before .before .before .types-byte .ensures) (c .before .before .before .before .before .before .before .before .before .before .before .before .before .before .two .given .1)),
       table-ready (omega (arith, t .1 .1)) r (c .before .fill-first .ensures),
     )

@@ -7,7 +7,7 @@ use native.Mathlib.Omega.{arith}
 use lib.ListN.{length, take, set, length-set}
 use lib.Seq.{length-take-le}
 use Rattle.plant.specs.Steps.{fieldFound}
-use Rattle.decoding.specs.Inner.Steps.{columns}
+use Rattle.decoding.specs.Tables.{columns}
 use Rattle.plant.proofs.Told.{told}
 use Rattle.plant.proofs.Bounds.{each-found, byteIn-each, rowsByte-each}
 use Rattle.decoding.proofs.TableLaws.{rows-in, with-machine}
@@ -83,7 +83,7 @@ read-rows-requires c κs =
 moved-requires : tie.Need-moved-requires
 moved-requires c κs =
     let a = c .before .before .before .before .before .before .before .before .before .before .before .before .before .before .before .before .before .before .before in
-    let q = each-found _ _ (byteIn-each _ _ 1 65 3 (omega arith)) (told fieldFound (c .before .before .before .before .before .before .before .before .before .before .before .before .before .before .before .before .states-byte .ensures) (c .before .before .before .before .before .before .before .before .before .before .before .before .before .before .first .given .1)) in
+    let q = each-found _ _ (byteIn-each _ _ 1 65 3 (omega arith) (omega arith)) (told fieldFound (c .before .before .before .before .before .before .before .before .before .before .before .before .before .before .before .before .states-byte .ensures) (c .before .before .before .before .before .before .before .before .before .before .before .before .before .before .first .given .1)) in
     let r = each-found _ _ (rowsByte-each _ _ _) (told fieldFound (c .before .before .before .before .before .before .before .before .before .before .before .before .rows-byte .ensures) (c .before .before .before .before .before .before .before .before .before .before .second .given .1)) in
     let e = rows-end _ _ _ (c .before .before .before .before .before .before .before .before .before .before .second .given .0 .0 .next) (a .args .file .now) _ _ (c .read-rows .result) (q .1 .0) (c .read-rows .ensures .holds []) in
     omega (arith, r .0 .inside, a .good .0 .0)

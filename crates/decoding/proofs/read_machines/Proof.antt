@@ -10,8 +10,8 @@ use lib.Seq.{length-take-le}
 use Rattle.livelock.specs.Lists.{below}
 use Rattle.plant.specs.Found.{found}
 use Rattle.plant.specs.Reading.{noMachines, readMachines}
-use Rattle.decoding.specs.Tables.{Columns, plantIn}
-use Rattle.decoding.specs.Inner.Steps.{columns, Room, FirstRows}
+use Rattle.decoding.specs.Tables.{Columns, plantIn, columns, Room}
+use Rattle.decoding.specs.Inner.Steps.{FirstRows}
 use Rattle.decoding.proofs.TableLaws.{rows-in}
 use Rattle.decoding.proofs.FirstRowLaws.{first-none, first-stored}
 use Rattle.decoding.proofs.ReadLaws.{machine-fault, machine-found}

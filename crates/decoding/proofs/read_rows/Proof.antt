@@ -7,9 +7,8 @@ use native.Mathlib.Nat.{sub-zero, add-zero}
 use native.Mathlib.Omega.{arith}
 use Rattle.plant.specs.Found.{found}
 use Rattle.plant.specs.Reading.{readRows}
-use Rattle.decoding.specs.Tables.{Columns, plantIn}
+use Rattle.decoding.specs.Tables.{Columns, plantIn, columns, Room}
 use Rattle.plant.specs.Steps.{rowFound}
-use Rattle.decoding.specs.Inner.Steps.{columns, Room}
 use Rattle.plant.proofs.Told.{told}
 use Rattle.decoding.proofs.TableLaws.{room-kept, with-row}
 use Rattle.plant.proofs.RowLaws.{row-stops, row-goes-on, rows-done}

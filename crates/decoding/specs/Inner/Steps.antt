@@ -1,6 +1,5 @@
 -- What the private functions that fill columns give.
 use mathlib.Core.Path.{_≡_}
-use mathlib.Core.Bool.{Bool}
 use mathlib.Core.List.{List}
 use Prim.Native.Nat.{ℕ, _+_, _≤_, _<_}
 use lib.ListN.{length, getD, take}
@@ -8,25 +7,9 @@ use Rattle.livelock.specs.Lists.{All}
 use Rattle.livelock.specs.Plants.{Plant}
 use Rattle.plant.specs.Reading.{noMachines, readRows, readMachine, readMachines}
 use Rattle.plant.specs.Steps.{endFound}
-use Rattle.decoding.specs.Tables.{Columns, plantIn, rowsBefore}
+use Rattle.decoding.specs.Tables.{Columns, Room, plantIn, rowsBefore}
 use Rattle.plant.specs.declared.End.{End}
 use Rattle.decoding.specs.declared.Stored.{Stored}
-
--- ---- columns that are lent
-
--- The lent columns, as one value.
-abbrev pub columns : (machine left entered sent taken : List ℕ) → List Bool → Columns
-columns machine left entered sent taken progress =
-    record { machine = machine; left = left; entered = entered; sent = sent; taken = taken; progress = progress }
-
--- Room for 1,024 rows.
-pub record Room (cs : Columns) : Type 0 where
-  pub machine : length (cs .machine) ≡ 1024
-  pub left : length (cs .left) ≡ 1024
-  pub entered : length (cs .entered) ≡ 1024
-  pub sent : length (cs .sent) ≡ 1024
-  pub taken : length (cs .taken) ≡ 1024
-  pub progress : length (cs .progress) ≡ 1024
 
 -- n rows of machine m were read behind the `used` rows that the columns had, whatever the machines of the plant.
 pub record RowsRead (n m states types used : ℕ) (s : List ℕ) (before after : Columns) (e : End) : Type 0 where

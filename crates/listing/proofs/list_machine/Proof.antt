@@ -1,6 +1,9 @@
 -- `list_machine` meets its contract: the entries are counted over no room, and stored if they fit.
 use borrow.Author.Needs.{needs}
+use mathlib.Core.Path.{sym}
 use native.Mathlib.Omega.{arith}
+use lib.ListN.{length, length-take}
+use lib.Seq.{length-take-le}
 use Rattle.decoding.specs.Tables.{plantOf}
 use Rattle.listing.specs.Listing.{entriesNeeded}
 use Rattle.listing.proofs.AnswerLaws.{left-in, entered-in, entries-are, nothing-before, too-short, enough}
@@ -37,7 +40,7 @@ slice-relend-prefix-list-rows : tie.Need-slice-relend-prefix-list-rows
 slice-relend-prefix-list-rows c = search needs
 
 slice-aggregate-list-rows : tie.Need-slice-aggregate-list-rows
-slice-aggregate-list-rows c = search needs
+slice-aggregate-list-rows c = sym (length-take-le _ (c .before .before .before .before .before .before .before .before .before .before .before .before .before .before .before .args .out .now) (omega arith))
 
 list-rows-requires : tie.Need-list-rows-requires
 list-rows-requires c κs =
@@ -49,7 +52,7 @@ list-rows-requires c κs =
       left-in t m (b .pre) (low .result) (high .result) (low .ensures) (high .ensures),
       entered-in t m (b .pre) (low .result) (high .result) (low .ensures) (high .ensures),
       c .before .before .before .before .before .before .before .link .ensures,
-      search needs,
+      omega (arith, length-take (length (b .args .out .now)) (b .args .out .now)),
       search needs,
     )
 

@@ -59,7 +59,7 @@ check-rows-requires c κs = search needs
 moved-requires : tie.Need-moved-requires
 moved-requires c κs =
     let a = c .before .before .before .before .before .before .before .before .before .before .before .before in
-    let q = each-found _ _ (byteIn-each _ _ 1 65 3 (omega arith)) (told fieldFound (c .before .before .before .before .before .before .before .before .before .before .states-byte .ensures) (c .before .before .before .before .before .before .before .before .first .given .1)) in
+    let q = each-found _ _ (byteIn-each _ _ 1 65 3 (omega arith) (omega arith)) (told fieldFound (c .before .before .before .before .before .before .before .before .before .before .states-byte .ensures) (c .before .before .before .before .before .before .before .before .first .given .1)) in
     let r = each-found _ _ (rowsByte-each _ _ _) (told fieldFound (c .before .before .before .before .before .before .rows-byte .ensures) (c .before .before .before .before .second .given .1)) in
     let e = rows-within _ 0 _ _ _ _ (c .before .before .before .before .second .given .0 .0 .next) (a .args .file .now) _ _ (q .1 .0) (c .check-rows .ensures 0 (noMachines (a .args .types)) refl) in
     omega (arith, r .0 .inside, a .good .0 .0)

@@ -40,7 +40,7 @@ cast-n : tie.Need-cast-n
 cast-n c = search needs
 
 check-machines-requires : tie.Need-check-machines-requires
-check-machines-requires c κs = let r = each-found _ _ (byteIn-each _ _ 0 65 2 (omega arith)) (told fieldFound (c .before .before .before .before .types-byte .ensures) (c .before .before .second .given .1)) in omega (arith, r .1 .1)
+check-machines-requires c κs = let r = each-found _ _ (byteIn-each _ _ 0 65 2 (omega arith) (omega arith)) (told fieldFound (c .before .before .before .before .types-byte .ensures) (c .before .before .second .given .1)) in omega (arith, r .1 .1)
 
 at-file-end-requires : tie.Need-at-file-end-requires
 at-file-end-requires c κs = search needs

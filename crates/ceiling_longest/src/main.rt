@@ -1,0 +1,3 @@
+fn main() {
+    ceiling_run::run();
+}
