@@ -285,6 +285,7 @@ hemtaluq_quote_answer peer_quote(const uint8_t *file, size_t length, const uint1
 /* The rows of a machine by the state they leave, in order; a row's state entered and its number stand together. */
 struct listing {
     uint8_t begin[25], entered[48], number[48];
+    uint32_t into[24]; /* for each state the states with a row to it */
     unsigned start;
     unsigned path[24];
     unsigned first;
@@ -292,14 +293,31 @@ struct listing {
     uint16_t *out;
 };
 
+/* The marks with those states that do not lead back to the start over states not marked. */
+static uint32_t without_dead_ends(const struct listing *l, uint32_t marks) {
+    uint32_t unmarked = ~marks & 0xffffff, live = l->into[l->start] & unmarked, todo = live;
+    while (todo) {
+        uint32_t more = l->into[__builtin_ctz(todo)] & unmarked & ~live;
+        todo = (todo & (todo - 1)) | more;
+        live |= more;
+    }
+    return marks | (~live & 0xffffff);
+}
+
+/* The marks once a state is left: new dead ends only where a state not marked has a row to it. */
+INLINE uint32_t after_leaving(const struct listing *l, unsigned state, uint32_t marks) {
+    marks |= 1u << state;
+    return l->into[state] & ~marks ? without_dead_ends(l, marks) : marks;
+}
+
 static void count_from(struct listing *l, unsigned state, uint32_t marks, unsigned depth) {
     for (unsigned i = l->begin[state]; i < l->begin[state + 1]; i++) {
         unsigned entered = l->entered[i];
         if (entered == l->start) {
             l->used += depth + 2;
             if (l->used > l->limit) return;
-        } else if (entered > l->start && !(marks >> entered & 1)) {
-            count_from(l, entered, marks | 1u << entered, depth + 1);
+        } else if (!(marks >> entered & 1)) {
+            count_from(l, entered, after_leaving(l, entered, marks), depth + 1);
             if (l->used > l->limit) return;
         }
     }
@@ -314,8 +332,8 @@ static void fill_from(struct listing *l, unsigned state, uint32_t marks, unsigne
             *to++ = (uint16_t)(depth + 1);
             for (unsigned j = 0; j <= depth; j++) *to++ = (uint16_t)l->path[j];
             l->used += depth + 2;
-        } else if (entered > l->start && !(marks >> entered & 1)) {
-            fill_from(l, entered, marks | 1u << entered, depth + 1);
+        } else if (!(marks >> entered & 1)) {
+            fill_from(l, entered, after_leaving(l, entered, marks), depth + 1);
         }
     }
 }
@@ -334,7 +352,9 @@ INLINE void all_cycles(struct listing *l, const struct table *t, unsigned last, 
             }
             l->used += 2;
         } else if (entered > l->start) {
-            uint32_t marks = 1u << l->start | 1u << entered;
+            uint32_t marks = without_dead_ends(l, (2u << l->start) - 1);
+            if (marks >> entered & 1) continue;
+            marks = after_leaving(l, entered, marks);
             if (fill) fill_from(l, entered, marks, 1);
             else count_from(l, entered, marks, 1);
         }
@@ -360,6 +380,9 @@ hemtaluq_list_answer peer_list(const uint8_t *file, size_t length, uint32_t mach
     }
     for (unsigned s = 0; s < states; s++) {
         l.begin[s] = (uint8_t)i;
+        l.into[s] = 0;
+        for (unsigned k = first; k < last; k++)
+            if (t.entered[k] == s) l.into[s] |= 1u << t.left[k];
         for (unsigned k = first; k < last; k++)
             if (t.left[k] == s) {
                 l.entered[i] = t.entered[k];

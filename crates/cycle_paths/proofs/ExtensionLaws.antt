@@ -5,6 +5,7 @@
 -- same at a row and at the next one linked (`rest-to`); a row that leaves the state adds what its step says (`rest-step`). A turn of the
 -- loop is both together (`turn-step`), and `Extending` says of the loop what `Adding` says of a list of entries.
 use mathlib.Core.Path.{_≡_, refl, sym, ap, _∙_, subst}
+use mathlib.Core.Logic.{_⊎_, inl, inr}
 use mathlib.Core.Bool.{Bool, true, false, cond}
 use mathlib.Core.List.{List, [], _∷_, _++_, map, append-assoc, append-nil}
 use Prim.Native.Nat.{ℕ, zero, suc, _+_, _-_, _<_, _≤_}
@@ -14,14 +15,18 @@ use native.Mathlib.Numerals.{add-one}
 use native.Mathlib.Omega.{arith}
 use borrow.Author.Tests.{eqb-true, eq-eqb, ne-eqb}
 use lib.ListN.{length, getD, set, take, length-append}
-use lib.Seq.{take-suc-set, take-take, take-set-le}
+use lib.Seq.{take-suc-set, take-take, take-set-le, getD-set-other}
 use lib.Dec.{eqb, ltb}
 use Rattle.cycle_paths.specs.declared.Step.{Step}
 use Rattle.cycle_paths.specs.declared.Step.the-variants as Steps
 use Rattle.cycle_paths.specs.Cycles.{unleft, joined, pathsBy, paths, leftOnly, cyclesBy}
-use Rattle.cycle_paths.specs.Listings.{flattened}
+use Rattle.cycle_paths.specs.Listings.{In, flattened}
 use Rattle.cycle_paths.specs.Inner.Ranges.{upFrom, column}
-use Rattle.cycle_paths.specs.Inner.Filling.{Linked, stepOf, entryOf, entriesWith, extensions, Added, PathKept, Extended}
+use Rattle.cycle_paths.specs.Inner.Filling.{Linked, Sources, BelowOnly, Closed, marksOf, stepOf, entryOf, entriesWith, extensions, Added, PathKept, Extended}
+use Rattle.cycle_paths.proofs.ElementLaws.{up-from-in, in-up-from}
+use Rattle.cycle_paths.proofs.OrderLaws.{increasing-up-from}
+use Rattle.cycle_paths.proofs.MarkLaws.{marks-length, unleft-fewer, now-left, others-unleft, left-length}
+use Rattle.cycle_paths.proofs.PathLaws.{same-paths}
 use Rattle.cycle_paths.proofs.FillingLaws.{Adding, adding-begins, adding-named, adding-none, adding-part, adding-ends, adding-stops}
 
 -- ---- entries
@@ -223,33 +228,85 @@ module _ {left entered next head : List ℕ} {first last start : ℕ} {marks row
       (rest-longer left entered first last start marks rows at high s k u path depth rows-are room
       ∙ turn-begin s b begin begin-is (set marks s 1) (take (depth + 1) (set path depth k)))
 
+-- ---- marks of dead ends
+
+-- Where states are marked, too, from which no path leads back, the extensions are the same.
+pub extensions-closed : (left entered into : List ℕ) (first last start : ℕ) (marks after rows : List ℕ) (at low n : ℕ) → Sources left entered into first last
+    → Closed into start marks after → length marks ≡ 24 → length after ≡ 24 → first ≤ low → low + n ≤ last
+    → extensions left entered first last start after rows at low n ≡ extensions left entered first last start marks rows at low n
+unfolding extensions
+extensions-closed left entered into first last start marks after rows at low n from shut l m low-in high-in =
+    ap (entriesWith rows)
+    (same-paths (column left) (column entered) start (upFrom first (last - first)) 24 (λ k i. let r = in-range k i in from .enters-in k (r .0) (r .1)) marks after (shut .kept) spared l m
+    (increasing-up-from first (last - first)) at (upFrom low n) (increasing-up-from low n) among)
+  where
+    in-range : (k : ℕ) → In k (upFrom first (last - first)) → (first ≤ k) × (k < last)
+    in-range k i = let h = up-from-in first (last - first) k i in (h .0, omega (arith, h .0, h .1))
+
+    among : (k : ℕ) → In k (upFrom low n) → In k (upFrom first (last - first))
+    among k i = let h = up-from-in low n k i in in-up-from first (last - first) k (omega (arith, h .0)) (omega (arith, h .0, h .1))
+
+    spared : (k : ℕ) → In k (upFrom first (last - first)) → start < column left k → (column entered k ≡ start) ⊎ (getD after (column entered k) 0 ≡ 0)
+        → getD marks (column left k) 0 ≡ 0 → getD after (column left k) 0 ≡ 0
+    spared k i above (inl e) u =
+        let r = in-range k i in
+        shut .to-start (column left k) above (from .leaves-in k (r .0) (r .1))
+        (ap (λ (z : ℕ). getD (marksOf 24 (column into z)) (column left k) 0) (sym e) ∙ from .stands k (r .0) (r .1)) u
+    spared k i above (inr o) u =
+        let r = in-range k i in
+        shut .onward (column left k) (column entered k) above (from .leaves-in k (r .0) (r .1)) (from .enters-in k (r .0) (r .1)) (from .stands k (r .0) (r .1)) o u
+
+-- Marks of the states below `start`, of `start`, and of dead ends, against the mark of `start` alone: no path goes below `start`.
+pub closed-first : (into : List ℕ) (start low marked : ℕ) (after : List ℕ) → start < 24 → BelowOnly start (marksOf 24 low) → marksOf 24 marked ≡ set (marksOf 24 low) start 1
+    → Closed into start (marksOf 24 marked) after → Closed into start (leftOnly 24 start) after
+closed-first into start low marked after l below marked-is shut =
+    record {
+      kept = λ x i e. others-unleft 24 start x (λ p. now-left (marksOf 24 low) start (omega (arith, marks-length 24 low)) (was x i e p));
+      to-start = λ x a i f u. shut .to-start x a i f (free x a i);
+      onward = λ x y a i j f o u. shut .onward x y a i j f o (free x a i);
+    }
+  where
+    free : (x : ℕ) → start < x → x < 24 → getD (marksOf 24 marked) x 0 ≡ 0
+    free x a i =
+        ap (λ (z : List ℕ). getD z x 0) marked-is
+        ∙ getD-set-other (marksOf 24 low) start x 1 0 (λ p. omega (arith, p))
+        ∙ below .above x (omega (arith, a)) i
+
+    was : (x : ℕ) → x < 24 → getD after x 0 ≡ 0 → x ≡ start → getD (set (marksOf 24 low) start 1) start 0 ≡ 0
+    was x i e p = ap (λ (z : ℕ). getD (set (marksOf 24 low) start 1) z 0) (sym p) ∙ ap (λ (z : List ℕ). getD z x 0) (sym marked-is) ∙ shut .kept x i e
+
+-- No more states are not yet left than before.
+pub closed-unleft : (into : List ℕ) (start : ℕ) (marks after : ℕ) → Closed into start (marksOf 24 marks) (marksOf 24 after) → unleft (marksOf 24 after) ≤ unleft (marksOf 24 marks)
+closed-unleft into start marks after shut =
+    unleft-fewer (marksOf 24 after) (marksOf 24 marks) (marks-length 24 after ∙ sym (marks-length 24 marks)) (λ x l. shut .kept x (omega (arith, marks-length 24 marks)))
+
 -- ---- the loop over linked rows
 
 -- On the way from `low` to `high`, at row k, with `used` entries in `out`: whatever rows have these links, k leaves the same state as
 -- `low`, and the entries from row k on are left to be added.
-pub record Extending (entered next head : List ℕ) (last start : ℕ) (marks rows : List ℕ) (low high limit : ℕ) (before : List ℕ) (pos k used : ℕ) (out : List ℕ) : Type 0 where
+pub record Extending (entered next head into : List ℕ) (last start : ℕ) (marks rows : List ℕ) (low high limit : ℕ) (before : List ℕ) (pos k used : ℕ) (out : List ℕ) : Type 0 where
   pub leaves : (left : List ℕ) (first : ℕ) → Linked left next head first last → first ≤ low → k < high → column left k ≡ column left low
-  pub adds : (left : List ℕ) (first : ℕ) → Linked left next head first last → first ≤ low
+  pub adds : (left : List ℕ) (first : ℕ) → Linked left next head first last → Sources left entered into first last → first ≤ low
       → Adding limit before pos (rest left entered first last start marks rows (column left low) high low) used out (rest left entered first last start marks rows (column left low) high k)
 
-module _ {entered next head : List ℕ} {last start : ℕ} {marks rows : List ℕ} {low high limit : ℕ} {before : List ℕ} {pos : ℕ} where
+module _ {entered next head into : List ℕ} {last start : ℕ} {marks rows : List ℕ} {low high limit : ℕ} {before : List ℕ} {pos : ℕ} where
   -- At first all is left.
-  pub extending-begins : length before ≤ limit → pos ≤ suc limit → Extending entered next head last start marks rows low high limit before pos low pos before
-  extending-begins fits h = record { leaves = λ left first links l i. refl; adds = λ left first links l. adding-begins fits h }
+  pub extending-begins : length before ≤ limit → pos ≤ suc limit → Extending entered next head into last start marks rows low high limit before pos low pos before
+  extending-begins fits h = record { leaves = λ left first links l i. refl; adds = λ left first links from l. adding-begins fits h }
 
   -- What is kept under other names is the same.
   pub extending-named : {k used : ℕ} {out : List ℕ} (used′ : ℕ) (out′ : List ℕ) → used′ ≡ used → out′ ≡ out
-      → Extending entered next head last start marks rows low high limit before pos k used out → Extending entered next head last start marks rows low high limit before pos k used′ out′
-  extending-named used′ out′ u o g = record { leaves = g .leaves; adds = λ left first links l. adding-named used′ out′ u o (g .adds left first links l) }
+      → Extending entered next head into last start marks rows low high limit before pos k used out → Extending entered next head into last start marks rows low high limit before pos k used′ out′
+  extending-named used′ out′ u o g = record { leaves = g .leaves; adds = λ left first links from l. adding-named used′ out′ u o (g .adds left first links from l) }
 
-  module _ {k used : ℕ} {out : List ℕ} (g : Extending entered next head last start marks rows low high limit before pos k used out) where
+  module _ {k used : ℕ} {out : List ℕ} (g : Extending entered next head into last start marks rows low high limit before pos k used out) where
     -- The count is above the limit: all is added.
-    pub extending-stops : limit < used → Extended entered next head last start marks rows low high limit before pos used out
-    extending-stops h left first links l = adding-stops (g .adds left first links l) h
+    pub extending-stops : limit < used → Extended entered next head into last start marks rows low high limit before pos used out
+    extending-stops h left first links from l = adding-stops (g .adds left first links from l) h
 
     -- No row is left: all is added.
-    pub extending-ends : high ≤ k → Extended entered next head last start marks rows low high limit before pos used out
-    extending-ends h left first links l = adding-ends (g .adds left first links l) (rest-none left entered first last start marks rows (column left low) high k h)
+    pub extending-ends : high ≤ k → Extended entered next head into last start marks rows low high limit before pos used out
+    extending-ends h left first links from l = adding-ends (g .adds left first links from l) (rest-none left entered first last start marks rows (column left low) high k h)
 
     module _ (low-in : low ≤ k) (inside : k < high) (high-in : high ≤ last) {step : Step} (step-is : step ≡ stepOf entered start marks k) {n : ℕ} (next-is : n ≡ column next k) where
       -- For all rows that have these links it is such a turn.
@@ -259,43 +316,45 @@ module _ {entered next head : List ℕ} {last start : ℕ} {marks rows : List �
           record { links = links; low-in = omega arith; inside = inside; high-in = high-in; leaves = g .leaves left first links l inside; step-is = step-is; next-is = next-is }
 
       -- A row that does nothing is passed over,
-      pub extending-skip : step ≡ Steps.Skip → Extending entered next head last start marks rows low high limit before pos n used out
+      pub extending-skip : step ≡ Steps.Skip → Extending entered next head into last start marks rows low high limit before pos n used out
       extending-skip e =
           record {
             leaves = λ left first links l. turn-leaves (turn-of left first links l);
-            adds = λ left first links l. adding-none (g .adds left first links l) _ (turn-skip (turn-of left first links l) e);
+            adds = λ left first links from l. adding-none (g .adds left first links from l) _ (turn-skip (turn-of left first links l) e);
           }
 
       module _ {used′ : ℕ} {out′ : List ℕ} (same : length out′ ≡ length out) where
         -- one that closes the cycle adds it,
         pub extending-close : step ≡ Steps.Close → (path : List ℕ) (depth : ℕ) → take depth path ≡ rows → Added limit out used (entryOf (take depth path) k) used′ out′
-            → Extending entered next head last start marks rows low high limit before pos n used′ out′
+            → Extending entered next head into last start marks rows low high limit before pos n used′ out′
         extending-close e path depth rows-are f =
             record {
               leaves = λ left first links l. turn-leaves (turn-of left first links l);
-              adds = λ left first links l.
-                  adding-part (g .adds left first links l) _ _ (turn-close (turn-of left first links l) e) used′ out′ same
+              adds = λ left first links from l.
+                  adding-part (g .adds left first links from l) _ _ (turn-close (turn-of left first links l) e) used′ out′ same
                   (subst (λ (z : List ℕ). Added limit out used (entryOf z k) used′ out′) rows-are f);
             }
 
-        -- and one that enters a state adds the extensions of the longer path.
+        -- and one that enters a state adds the extensions of the longer path, though states that are dead ends are marked for them.
         pub extending-enter : (s : ℕ) → step ≡ Steps.Enter s → s < 24 → unleft marks ≡ suc (unleft (set marks s 1)) → (path : List ℕ) (depth : ℕ) → take depth path ≡ rows
-            → depth < length path → (begin : ℕ) → begin ≡ column head s → (marked : List ℕ) → marked ≡ set marks s 1
-            → Extended entered next head last start marked (take (depth + 1) (set path depth k)) begin last limit out used used′ out′
-            → Extending entered next head last start marks rows low high limit before pos n used′ out′
-        extending-enter s e b u path depth rows-are room begin begin-is marked marked-is f =
+            → depth < length path → (begin : ℕ) → begin ≡ column head s → (marked closed : List ℕ) → marked ≡ set marks s 1 → length marked ≡ 24 → length closed ≡ 24
+            → Closed into start marked closed
+            → Extended entered next head into last start closed (take (depth + 1) (set path depth k)) begin last limit out used used′ out′
+            → Extending entered next head into last start marks rows low high limit before pos n used′ out′
+        extending-enter s e b u path depth rows-are room begin begin-is marked closed marked-is marked-length closed-length shut f =
             record {
               leaves = λ left first links l. turn-leaves (turn-of left first links l);
-              adds = λ left first links l.
-                  adding-part (g .adds left first links l) _ _ (turn-enter (turn-of left first links l) s e b u path depth rows-are room begin begin-is) used′ out′ same
+              adds = λ left first links from l.
+                  let head-in = links .head-in s b in
+                  let longer = take (depth + 1) (set path depth k) in
+                  let low-in : first ≤ begin = omega (arith, begin-is, head-in .0) in
+                  let within : begin + (last - begin) ≤ last = omega (arith, begin-is, head-in .1) in
+                  adding-part (g .adds left first links from l) _ _ (turn-enter (turn-of left first links l) s e b u path depth rows-are room begin begin-is) used′ out′ same
                   (subst
-                  (λ (z : List ℕ). Extended entered next head last start z (take (depth + 1) (set path depth k)) begin last limit out used used′ out′)
-                  marked-is
-                  f
-                  left
-                  first
-                  links
-                  (omega (arith, begin-is, links .head-in s b .0)));
+                  (λ (z : List ℕ). Added limit out used z used′ out′)
+                  (extensions-closed left entered into first last start marked closed longer (column left begin) begin (last - begin) from shut marked-length closed-length low-in within
+                  ∙ ap (λ (z : List ℕ). extensions left entered first last start z longer (column left begin) begin (last - begin)) marked-is)
+                  (f left first links from low-in));
             }
 
 -- The first rows of a path are kept by a store behind them and by what keeps that store.
@@ -326,13 +385,22 @@ module _ (left entered : List ℕ) (first last : ℕ) where
   entriesFrom k = flattened (joined (upFrom k (last - k)) (cyclesBy 24 (column left) (column entered) (upFrom first (last - first))))
 
   -- The cycles that begin with row k come first.
-  pub entries-first : (k : ℕ) (path marks : List ℕ) → marks ≡ leftOnly 24 (column left k) → k < last
+  entries-first : (k : ℕ) (path marks : List ℕ) → marks ≡ leftOnly 24 (column left k) → k < last
       → entriesFrom k ≡ extensions left entered first last (column left k) marks (take 0 path) (column left k) k (k + 1 - k) ++ entriesFrom (k + 1)
   unfolding joined upFrom extensions
   entries-first k path marks marks-are h =
       let n : last - k ≡ suc (last - (k + 1)) = omega arith in
       let o : k + 1 - k ≡ 1 = omega arith in
       rw (marks-are, n, o, add-one k, entries-none) (flattened-append (cyclesBy 24 (column left) (column entered) (upFrom first (last - first)) k) _)
+
+  -- So it is where dead ends are marked, too.
+  pub entries-closed : (into : List ℕ) (k : ℕ) (path after : List ℕ) → Sources left entered into first last → Closed into (column left k) (leftOnly 24 (column left k)) after
+      → length after ≡ 24 → first ≤ k → k < last
+      → entriesFrom k ≡ extensions left entered first last (column left k) after (take 0 path) (column left k) k (k + 1 - k) ++ entriesFrom (k + 1)
+  entries-closed into k path after from shut l low-in h =
+      entries-first k path (leftOnly 24 (column left k)) refl h
+      ∙ ap (λ (z : List ℕ). z ++ entriesFrom (k + 1))
+      (sym (extensions-closed left entered into first last (column left k) (leftOnly 24 (column left k)) after (take 0 path) (column left k) k (k + 1 - k) from shut (left-length 24 (column left k)) l low-in (omega arith)))
 
   -- After the last row there are none.
   pub entries-end : (k : ℕ) → last ≤ k → entriesFrom k ≡ []

@@ -2,7 +2,7 @@
 use mathlib.Core.Path.{_≡_, refl, sym, ap, ap₂, _∙_}
 use mathlib.Core.Logic.{_≢_}
 use mathlib.Core.List.{List, [], _∷_}
-use Prim.Native.Nat.{ℕ, zero, suc, _*_, _/_, _%_, _^_, _<_, max}
+use Prim.Native.Nat.{ℕ, zero, suc, _*_, _/_, _%_, _^_, _<_, _≤_, max}
 use native.Mathlib.Nat.{not-suc-le-zero, le-of-suc-le-suc, div-one, div-div-eq-div-mul, mul-comm, pow-suc, zero-lt-suc, max-zero, mod-lt}
 use native.Mathlib.Decide.{ℕ-discrete, decLt}
 use native.Mathlib.Omega.{arith}
@@ -20,6 +20,15 @@ unfolding unleft
 unleft-falls [] s l e = absurd (not-suc-le-zero l)
 unleft-falls (x ∷ marks) zero l e = rw e (omega arith)
 unleft-falls (x ∷ marks) (suc s) l e = omega (arith, unleft-falls marks s (le-of-suc-le-suc l) e)
+
+-- Where more states are marked, no more are not yet left.
+pub unleft-fewer : (after marks : List ℕ) → length after ≡ length marks → ((x : ℕ) → x < length marks → getD after x 0 ≡ 0 → getD marks x 0 ≡ 0) → unleft after ≤ unleft marks
+unfolding unleft
+unleft-fewer [] marks l h = omega arith
+unleft-fewer (x ∷ after) [] l h = absurd (omega arith)
+unleft-fewer (zero ∷ after) (zero ∷ marks) l h = omega (arith, unleft-fewer after marks (omega arith) (λ s i. h (suc s) (omega arith)))
+unleft-fewer (zero ∷ after) (suc y ∷ marks) l h = let e : suc y ≡ 0 = h 0 (omega arith) refl in absurd (omega arith)
+unleft-fewer (suc x ∷ after) (y ∷ marks) l h = omega (arith, unleft-fewer after marks (omega arith) (λ s i. h (suc s) (omega arith)))
 
 -- The state marked is left,
 pub now-left : (marks : List ℕ) (s : ℕ) → s < length marks → getD (set marks s 1) s 0 ≢ 0
@@ -60,7 +69,7 @@ mark-bit (suc n) bits (suc s) l =
     ∙ ap (λ (x : ℕ). x % 2) (div-div-eq-div-mul bits 2 (2 ^ s) ∙ ap (λ (x : ℕ). bits / x) (mul-comm 2 (2 ^ s) ∙ sym (pow-suc 2 s)))
 
 -- Where no bit stands, no state is left.
-none-left : (n : ℕ) → marksOf n 0 ≡ replicate n 0
+pub none-left : (n : ℕ) → marksOf n 0 ≡ replicate n 0
 unfolding marksOf
 none-left zero = refl
 none-left (suc n) = ap (λ (z : List ℕ). 0 ∷ z) (none-left n)
@@ -90,10 +99,6 @@ marked (suc n) bits (suc s) l =
     (λ (x : ℕ) (ys : List ℕ). x ∷ ys)
     (or-lowest bits (1 * 2 ^ suc s) ∙ ap (max (bits % 2)) (shifted-even 1 s) ∙ max-zero (bits % 2))
     (ap (marksOf n) (or-half bits (1 * 2 ^ suc s) ∙ ap (bitOr (bits / 2)) (shifted-half 1 s)) ∙ marked n (bits / 2) s (le-of-suc-le-suc l))
-
--- State s alone is left.
-pub one-left : (n s marks : ℕ) → marksOf n marks ≡ set (marksOf n 0) s 1 → marksOf n marks ≡ leftOnly n s
-one-left n s marks e = e ∙ ap (λ (z : List ℕ). set z s 1) (none-left n)
 
 -- ---- the marks where one state is left
 

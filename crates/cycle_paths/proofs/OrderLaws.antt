@@ -93,7 +93,7 @@ increasing-selected test (k ∷ ks) a = go (test k) (increasing-selected test ks
 -- ---- cycles
 
 -- Of two cycles not each comes before the other.
-before-asymmetric : (c d : List ℕ) → Before c d → Before d c → ⊥
+pub before-asymmetric : (c d : List ℕ) → Before c d → Before d c → ⊥
 unfolding Before
 before-asymmetric c [] h k = h
 before-asymmetric [] (y ∷ d) h k = k

@@ -1,10 +1,11 @@
 -- The paths by extension are the paths back to the start over states above it, none of them twice.
 use mathlib.Core.Path.{_≡_, refl, sym, ap, _∙_, subst}
-use mathlib.Core.Logic.{_≢_, inl, inr}
+use mathlib.Core.Logic.{_≢_, _⊎_, inl, inr}
 use mathlib.Core.Bool.{Bool, true, false, cond}
 use mathlib.Core.List.{List, [], _∷_, map}
 use Prim.Native.Nat.{ℕ, zero, suc, _≤_, _<_}
 use native.Mathlib.Nat.{not-suc-le-zero}
+use native.Mathlib.Decide.{ℕ-discrete}
 use native.Mathlib.Omega.{arith}
 use lib.ListN.{length, getD, set, length-set}
 use lib.Seq.{getD-set-other}
@@ -16,7 +17,7 @@ use Rattle.livelock.proofs.ListLaws.{all-weaken, all-both, all-of-map, all-map-
 use Rattle.cycle_paths.specs.Listings.{In, Before}
 use Rattle.cycle_paths.specs.Cycles.{unleft, pathsBy, paths}
 use Rattle.cycle_paths.proofs.ElementLaws.{prefixed-in, in-prefixed, Given, joined-in, in-joined}
-use Rattle.cycle_paths.proofs.OrderLaws.{Ordered, Increasing, Begins, ordered-prefixed, ordered-joined}
+use Rattle.cycle_paths.proofs.OrderLaws.{Ordered, Increasing, Begins, ordered-same, before-asymmetric, ordered-prefixed, ordered-joined}
 use Rattle.cycle_paths.proofs.MarkLaws.{unleft-falls, now-left, still-left, was-unleft}
 
 module _ (src dst : ℕ → ℕ) (start : ℕ) where
@@ -137,6 +138,15 @@ module _ (src dst : ℕ → ℕ) (start : ℕ) where
         one j (inl e) there = subst (λ (x : ℕ). Begins x c) e (by-row-begins at marks (pathsFrom n marks) j c there)
         one j (inr e) there = absurd e
 
+    -- Each begins with one of the rows given for the first.
+    pub paths-first : (n at : ℕ) (marks ks c : List ℕ) → In c (paths n src dst all start at marks ks) → (k : ℕ) × (rest : List ℕ) × (c ≡ k ∷ rest) × In k ks
+    unfolding paths In
+    paths-first zero at marks ks c i = absurd i
+    paths-first (suc n) at marks ks c i =
+        let g = joined-in ks _ c i in
+        let b = by-row-begins at marks (pathsFrom n marks) (g .number) c (g .there) in
+        (g .number, b .0, b .1, g .of)
+
     module _ (states : ℕ) (within : (k : ℕ) → In k all → dst k < states) where
       -- And all such paths are there. By induction on the number n that limits their length: the first row is one of the rows given for it,
       -- and if the path goes on, then from the state entered, by rows of `all`. That state is then left, so the states not yet left are
@@ -222,3 +232,84 @@ module _ (src dst : ℕ → ℕ) (start : ℕ) where
             (all-both _ _ d (unleft .1) (all-map-of (λ s. src j ≢ s) src d (once .0))))
             (once .1)),
       )
+
+  -- ---- more marks
+
+  -- Where the first of two lists of marks has no mark only if the second has none, it stays so when one state more is left.
+  both-left : (marks after : List ℕ) (s x : ℕ) → s < length marks → (getD marks x 0 ≡ 0 → getD after x 0 ≡ 0) → getD (set marks s 1) x 0 ≡ 0 → getD (set after s 1) x 0 ≡ 0
+  both-left marks after s x l h e = go (ℕ-discrete x s)
+    where
+      go : Dec (x ≡ s) → getD (set after s 1) x 0 ≡ 0
+      go (yes p) = absurd (now-left marks s l (sym (ap (λ (z : ℕ). getD (set marks s 1) z 0) p) ∙ e))
+      go (no n) = getD-set-other after s x 1 0 n ∙ h (sym (getD-set-other marks s x 1 0 n) ∙ e)
+
+  -- `after` marks more states than `marks`, but none above `start` from which a row of `all` leads to `start` or to a state that it does not mark.
+  module _ (all : List ℕ) (states : ℕ) (within : (k : ℕ) → In k all → dst k < states) (marks after : List ℕ)
+      (kept : (x : ℕ) → x < states → getD after x 0 ≡ 0 → getD marks x 0 ≡ 0)
+      (spared : (k : ℕ) → In k all → start < src k → (dst k ≡ start) ⊎ (getD after (dst k) 0 ≡ 0) → getD marks (src k) 0 ≡ 0 → getD after (src k) 0 ≡ 0) where
+    -- A state above `start` with a path back is not marked: its last state is not, and so none before it.
+    path-spared : (s : ℕ) (now c : List ℕ) → ((x : ℕ) → x < states → getD now x 0 ≡ 0 → getD marks x 0 ≡ 0) → All (λ k. In k all) c → start < s → getD marks s 0 ≡ 0
+        → PathBack s now c → getD after s 0 ≡ 0
+    unfolding PathBack All
+    path-spared s now [] sub rows above u p = absurd p
+    path-spared s now (k ∷ rest) sub rows above u p =
+        subst (λ (z : ℕ). getD after z 0 ≡ 0) (p .0)
+        (spared k (rows .0) (subst (λ (z : ℕ). start < z) (sym (p .0)) above) (go (p .1) (path-spared (dst k) (set now (dst k) 1) rest)) (ap (λ (z : ℕ). getD marks z 0) (p .0) ∙ u))
+      where
+        go : Onward now k rest (Further now k rest)
+            → (((x : ℕ) → x < states → getD (set now (dst k) 1) x 0 ≡ 0 → getD marks x 0 ≡ 0) → All (λ j. In j all) rest → start < dst k → getD marks (dst k) 0 ≡ 0 → Further now k rest → getD after (dst k) 0 ≡ 0)
+            → (dst k ≡ start) ⊎ (getD after (dst k) 0 ≡ 0)
+        go (closes q e) later = inl q
+        go (extends q v b) later = inr (later (λ x l h. sub x l (was-unleft now (dst k) x v h)) (rows .1) q (sub (dst k) (within k (rows .0)) v) b)
+
+    -- So a path back among the states not marked at first is one among those not marked after,
+    path-after : (at : ℕ) (now then c : List ℕ) → length now ≡ states → ((x : ℕ) → x < states → getD now x 0 ≡ 0 → getD marks x 0 ≡ 0)
+        → ((x : ℕ) → x < states → getD after x 0 ≡ 0 → getD now x 0 ≡ 0 → getD then x 0 ≡ 0) → All (λ k. In k all) c → PathBack at now c → PathBack at then c
+    unfolding PathBack All
+    path-after at now then [] l sub still rows p = absurd p
+    path-after at now then (k ∷ rest) l sub still rows p = (p .0, go (p .1) (path-after (dst k) (set now (dst k) 1) (set then (dst k) 1) rest))
+      where
+        go : Onward now k rest (Further now k rest)
+            → (length (set now (dst k) 1) ≡ states → ((x : ℕ) → x < states → getD (set now (dst k) 1) x 0 ≡ 0 → getD marks x 0 ≡ 0)
+            → ((x : ℕ) → x < states → getD after x 0 ≡ 0 → getD (set now (dst k) 1) x 0 ≡ 0 → getD (set then (dst k) 1) x 0 ≡ 0) → All (λ j. In j all) rest → Further now k rest → Further then k rest)
+            → Onward then k rest (Further then k rest)
+        go (closes q e) later = closes q e
+        go (extends q u b) later =
+            let w = within k (rows .0) in
+            let sub′ : (x : ℕ) → x < states → getD (set now (dst k) 1) x 0 ≡ 0 → getD marks x 0 ≡ 0 = λ x i h. sub x i (was-unleft now (dst k) x u h) in
+            let v : getD after (dst k) 0 ≡ 0 = path-spared (dst k) (set now (dst k) 1) rest sub′ (rows .1) q (sub (dst k) w u) b in
+            extends q (still (dst k) w v u)
+            (later (length-set now (dst k) 1 ∙ l) sub′ (λ x i a. both-left now then (dst k) x (omega (arith, l)) (still x i a)) (rows .1) b)
+
+    -- and the other way.
+    path-before : (at : ℕ) (now then c : List ℕ) → length then ≡ states → ((x : ℕ) → x < states → getD then x 0 ≡ 0 → getD now x 0 ≡ 0) → All (λ k. In k all) c
+        → PathBack at then c → PathBack at now c
+    unfolding PathBack All
+    path-before at now then [] l sub rows p = absurd p
+    path-before at now then (k ∷ rest) l sub rows p = (p .0, go (p .1) (path-before (dst k) (set now (dst k) 1) (set then (dst k) 1) rest))
+      where
+        go : Onward then k rest (Further then k rest)
+            → (length (set then (dst k) 1) ≡ states → ((x : ℕ) → x < states → getD (set then (dst k) 1) x 0 ≡ 0 → getD (set now (dst k) 1) x 0 ≡ 0) → All (λ j. In j all) rest → Further then k rest → Further now k rest)
+            → Onward now k rest (Further now k rest)
+        go (closes q e) later = closes q e
+        go (extends q u b) later =
+            extends q (sub (dst k) (within k (rows .0)) u)
+            (later (length-set then (dst k) 1 ∙ l) (λ x i. both-left then now (dst k) x (omega (arith, l, within k (rows .0))) (sub x i)) (rows .1) b)
+
+    -- The paths are the same: both lists are in order and have the same elements.
+    pub same-paths : length marks ≡ states → length after ≡ states → Increasing all → (at : ℕ) (ks : List ℕ) → Increasing ks → ((k : ℕ) → In k ks → In k all)
+        → paths (suc (unleft after)) src dst all start at after ks ≡ paths (suc (unleft marks)) src dst all start at marks ks
+    same-paths l m up at ks u among =
+        ordered-same Before before-asymmetric _ _ (paths-ordered all (suc (unleft after)) at after ks u up) (paths-ordered all (suc (unleft marks)) at marks ks u up)
+        (λ c i.
+        let p = paths-only all (suc (unleft after)) at after ks c among i in
+        back marks l c (paths-first all (suc (unleft after)) at after ks c i) (record { path = path-before at marks after c m kept (p .rows) (p .path); rows = p .rows }))
+        (λ c i.
+        let p = paths-only all (suc (unleft marks)) at marks ks c among i in
+        back after m c (paths-first all (suc (unleft marks)) at marks ks c i) (record { path = path-after at marks after c l (λ x i h. h) (λ x i a h. a) (p .rows) (p .path); rows = p .rows }))
+      where
+        back : (now : List ℕ) → length now ≡ states → (c : List ℕ) → (k : ℕ) × (rest : List ℕ) × (c ≡ k ∷ rest) × In k ks → PathAmong all at now c
+            → In c (paths (suc (unleft now)) src dst all start at now ks)
+        back now e c f p =
+            subst (λ (z : List ℕ). In z (paths (suc (unleft now)) src dst all start at now ks)) (sym (f .2))
+            (paths-every all states within (suc (unleft now)) at now ks (f .0) (f .1) e (omega arith) (f .3) (subst (PathAmong all at now) (f .2) p))

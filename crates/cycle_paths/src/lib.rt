@@ -5,7 +5,7 @@ ghost use lib.ListN.{length, getD, take, set};
 ghost use lib.Dec.{eqb};
 ghost use lib.Seq.{sets};
 ghost use Rattle.cycle_paths.specs.Inner.Ranges.{column};
-ghost use Rattle.cycle_paths.specs.Inner.Filling.{marksOf, RowsBelow, Linked, stepOf, entryOf, Added, Extendable, PathKept, Extended, allEntries};
+ghost use Rattle.cycle_paths.specs.Inner.Filling.{marksOf, RowsBelow, Linked, Sources, BelowOnly, OthersKept, Closed, stepOf, entryOf, Added, Extendable, PathKept, Extended, allEntries};
 
 // The rows of a machine by the state they leave: head[s] is the first row that leaves state s, and next[k] the row after k that leaves
 // the same state. Where there is none, it is the number after the machine's last row.
@@ -13,6 +13,9 @@ pub struct Links {
     pub next: [u16; 1024],
     pub head: [u16; 24],
 }
+
+// The bits of 24 states.
+const ALL: u32 = 16_777_215;
 
 // What a row does for a path: nothing, it closes the cycle, or it enters a state not yet left.
 pub enum Step {
@@ -61,6 +64,76 @@ fn with_left(marks: u32, state: u8) -> u32
     ensures { λ r. ⌜ marksOf 24 r ≡ set (marksOf 24 marks) state 1 ⌝ }
 {
     marks | (1 << state)
+}
+
+// For each state the states that a row from `first` up to, and not including, `last` leaves to enter it: their bits stand.
+fn sources<'a>(
+    left: &'a [u8; 1024],
+    entered: &'a [u8; 1024],
+    first: usize,
+    last: usize,
+) -> [u32; 32]
+    requires { ⌜ RowsBelow (now left) first last × RowsBelow (now entered) first last ⌝ }
+    ensures { λ r. ⌜ Sources (now (left .entry)) (now (entered .entry)) r first last ⌝ }
+{
+    let mut into = [0; 32];
+    let mut k = first;
+    while k < last {
+        let state = entered[k] as usize;
+        into[state] = with_left(into[state], left[k]);
+        k += 1;
+    }
+    into
+}
+
+// The states below one: their bits stand, and no others.
+fn below(state: u8) -> u32
+    requires { ⌜ state < 24 ⌝ }
+    ensures { λ r. ⌜ BelowOnly state (marksOf 24 r) ⌝ }
+{
+    (1 << state) - 1
+}
+
+// The bits with one of them turned.
+fn turned(bits: u32, state: u32) -> u32
+    requires { ⌜ state < 32 ⌝ }
+    ensures { λ r. ⌜ OthersKept state (marksOf 24 bits) (marksOf 24 r) ⌝ }
+{
+    bits ^ (1 << state)
+}
+
+// The marks, with dead ends marked as well: the states from which no path over states that are not marked leads back to `start`. The
+// others, `live`, are found backward from `start`; `todo` has those of them whose sources are not yet in `live`. Each state is to do at most once.
+fn without_dead_ends(into: &[u32; 32], start: u8, marks: u32) -> u32
+    requires { ⌜ start < 24 ⌝ }
+    ensures { λ r. ⌜ Closed (now (into .entry)) start (marksOf 24 marks) (marksOf 24 r) ⌝ }
+{
+    let free = marks ^ ALL;
+    let mut live = into[start as usize] & free;
+    let mut todo = live;
+    let mut turns: u32 = 0;
+    while todo != 0 {
+        if turns >= 24 {
+            return marks;
+        }
+        let state = u32::trailing_zeros(todo);
+        let more = into[state as usize] & (free ^ live);
+        todo = turned(todo, state) | more;
+        live = live | more;
+        turns += 1;
+    }
+    marks | (live ^ ALL)
+}
+
+// The same once `state` is left, where the dead ends were marked before: if no state that is not marked has a row to it, there are no new ones.
+fn after_leaving(into: &[u32; 32], start: u8, state: u8, marks: u32) -> u32
+    requires { ⌜ (start < 24) × (state < 24) ⌝ }
+    ensures { λ r. ⌜ Closed (now (into .entry)) start (marksOf 24 marks) (marksOf 24 r) ⌝ }
+{
+    if into[state as usize] & (marks ^ ALL) == 0 {
+        return marks;
+    }
+    without_dead_ends(into, start, marks)
 }
 
 // What row k does for a path from `start` that stands at the state which the row leaves.
@@ -117,10 +190,12 @@ fn add_cycle(
 
 // Adds the cycles that begin with the first `depth` rows of a path and go on by one of the linked rows from `low` up to, and not
 // including, `high`: depth-first extension of the path. The states not yet left become fewer at each call, and no row is tried once the count is above the limit.
+// Dead ends are marked as if they were left, so that no path is extended in vain.
 fn extend<'a>(
     entered: &'a [u8; 1024],
     next: &'a [u16; 1024],
     head: &'a [u16; 24],
+    into: &'a [u32; 32],
     last: usize,
     start: u8,
     marks: u32,
@@ -132,9 +207,9 @@ fn extend<'a>(
     pos: usize,
     limit: usize,
 ) -> usize
-    requires { ⌜ Extendable (now entered) (now next) (now head) last (marksOf 24 marks) (now path) depth low high (length (now out)) pos limit ⌝ }
+    requires { ⌜ Extendable (now entered) (now next) (now head) (now into) last start (marksOf 24 marks) (now path) depth low high (length (now out)) pos limit ⌝ }
     ensures { λ r. ⌜ PathKept depth (now (path .entry)) (now (path .exit)) ⌝ }
-    ensures { λ r. ⌜ Extended (now (entered .entry)) (now (next .entry)) (now (head .entry)) last start (marksOf 24 marks) (take depth (now (path .entry))) low high limit (now (out .entry)) pos r (now (out .exit)) ⌝ }
+    ensures { λ r. ⌜ Extended (now (entered .entry)) (now (next .entry)) (now (head .entry)) (now (into .entry)) last start (marksOf 24 marks) (take depth (now (path .entry))) low high limit (now (out .entry)) pos r (now (out .exit)) ⌝ }
 {
     let mut used = pos;
     let mut k = low;
@@ -151,14 +226,16 @@ fn extend<'a>(
             Step::Enter(state) => {
                 let begin = wide(head[state as usize]);
                 let marked = with_left(marks, state);
+                let closed = after_leaving(into, start, state, marked);
                 path[depth] = k as u16;
                 used = extend(
                     entered,
                     next,
                     head,
+                    into,
                     last,
                     start,
-                    marked,
+                    closed,
                     path,
                     depth + 1,
                     begin,
@@ -189,19 +266,23 @@ pub fn list_rows<'a>(
     requires { ⌜ RowsBelow (now left) first last × RowsBelow (now entered) first last × Linked (now left) (now next) (now head) first last × (length (now out) ≤ limit) × (limit < 2 ^ 63) ⌝ }
     ensures { λ r. ⌜ Added limit (now (out .entry)) 0 (allEntries (now (left .entry)) (now (entered .entry)) first last) r (now (out .exit)) ⌝ }
 {
+    let into = sources(left, entered, first, last);
     let mut path = [0; 24];
     let mut used = 0;
     let mut row = first;
     while row < last {
         let start = left[row];
-        let marks = with_left(0, start);
+        let low = below(start);
+        let marked = with_left(low, start);
+        let closed = without_dead_ends(&into, start, marked);
         used = extend(
             entered,
             next,
             head,
+            &into,
             last,
             start,
-            marks,
+            closed,
             &mut path,
             0,
             row,

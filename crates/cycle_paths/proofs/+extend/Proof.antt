@@ -10,7 +10,7 @@ use Rattle.cycle_paths.specs.Cycles.{unleft}
 use Rattle.cycle_paths.specs.Inner.Ranges.{column}
 use Rattle.cycle_paths.specs.Inner.Filling.{marksOf, PathKept}
 use Rattle.cycle_paths.proofs.MarkLaws.{marks-length, unleft-falls}
-use Rattle.cycle_paths.proofs.ExtensionLaws.{enter-unleft, Extending, extending-begins, extending-named, extending-stops, extending-ends, extending-skip, extending-close, extending-enter, path-kept}
+use Rattle.cycle_paths.proofs.ExtensionLaws.{enter-unleft, Extending, extending-begins, extending-named, extending-stops, extending-ends, extending-skip, extending-close, extending-enter, closed-unleft, path-kept}
 use borrow.Fn.Kinds.{In}
 use borrow.Fn.PlainCycle.{Measures, is, falls, and}
 use Rattle.cycle_paths.proofs.extend.Reads as extend
@@ -20,11 +20,12 @@ use Rattle.cycle_paths.proofs.add_cycle.Reads as add-cycle-reads
 use Rattle.cycle_paths.proofs.step_of.Reads as step-of-reads
 use Rattle.cycle_paths.proofs.wide.Reads as wide-reads
 use Rattle.cycle_paths.proofs.with_left.Reads as with-left-reads
+use Rattle.cycle_paths.proofs.after_leaving.Reads as after-leaving-reads
 use Rattle.cycle_paths.proofs.+extend.{statement}
 use Rattle.cycle_paths.proofs.+extend.Tie.{close}
 
 abbrev μ-extend : Measures 3 extend-kinds.ps ℕ
-μ-extend κs a = unleft (marksOf 24 (a .1 .1 .1 .1 .1 .0))
+μ-extend κs a = unleft (marksOf 24 (a .1 .1 .1 .1 .1 .1 .0))
 
 abbrev extend-at : ℕ → In 3 extend-kinds.ps
 extend-at t = and 3 extend-kinds.ps (is 3 extend-kinds.ps μ-extend t) extend.Pre
@@ -35,14 +36,14 @@ extend-below t = and 3 extend-kinds.ps (falls 3 extend-kinds.ps _<_ μ-extend t)
 -- What the functions that are called, this one among them, ask and give.
 abbrev claims : ℕ → extend-lts.Claims
 claims t =
-    (step-of-reads.Asked, step-of-reads.Learnt, add-cycle-reads.Asked, add-cycle-reads.Learnt, wide-reads.Asked, wide-reads.Learnt, with-left-reads.Asked, with-left-reads.Learnt, extend-below t, extend.Post)
+    (step-of-reads.Asked, step-of-reads.Learnt, add-cycle-reads.Asked, add-cycle-reads.Learnt, wide-reads.Asked, wide-reads.Learnt, with-left-reads.Asked, with-left-reads.Learnt, after-leaving-reads.Asked, after-leaving-reads.Learnt, extend-below t, extend.Post)
 
 abbrev extend-Inv-loop : extend-lts.InvT-loop
-extend-Inv-loop entered next head last start marks path₀ depth low high out₀ pos limit used₀ k₀ path out used k =
-    (low ≤ k) × PathKept depth path₀ path × Extending entered next head last start (marksOf 24 marks) (take depth path₀) low high limit out₀ pos k used out
+extend-Inv-loop entered next head into last start marks path₀ depth low high out₀ pos limit used₀ k₀ path out used k =
+    (low ≤ k) × PathKept depth path₀ path × Extending entered next head into last start (marksOf 24 marks) (take depth path₀) low high limit out₀ pos k used out
 
 abbrev extend-μ-loop : extend-lts.MeasureT-loop
-extend-μ-loop entered next head last start marks path₀ depth low high out₀ pos limit used₀ k₀ path out used k =
+extend-μ-loop entered next head into last start marks path₀ depth low high out₀ pos limit used₀ k₀ path out used k =
     high - k
 
 -- Row k is one of the linked rows,
@@ -59,7 +60,7 @@ state-in t c = let r = row-in t c in c .before .before .before .pre .1 .enter .b
 so-far : (t : ℕ) (c : extend-lts.At-loop (claims t) (extend-at t) extend.Post extend-Inv-loop extend-μ-loop) → (length (c .loop .out) ≡ length (c .before .before .args .out .now)) × (c .loop .used ≤ suc (c .before .before .args .limit))
 so-far t c =
     let p = c .before .before .pre .1 in
-    let g = c .loop .inv .2 .adds (p .left) (p .first) (p .links) (p .low-in) in
+    let g = c .loop .inv .2 .adds (p .left) (p .first) (p .links) (p .from) (p .low-in) in
     (g .same-length, g .in-limit)
 
 extend-loop-holds : (t : ℕ) → extend-lts.Need-loop-holds (claims t) (extend-at t) extend.Post extend-Inv-loop extend-μ-loop
@@ -123,38 +124,44 @@ extend-wide-requires t c κs = search needs
 extend-with-left-requires : (t : ℕ) → extend-lts.Need-with-left-requires (claims t) (extend-at t) extend.Post extend-Inv-loop extend-μ-loop
 extend-with-left-requires t c κs = entering t (c .before .before) .0
 
+extend-after-leaving-requires : (t : ℕ) → extend-lts.Need-after-leaving-requires (claims t) (extend-at t) extend.Post extend-Inv-loop extend-μ-loop
+extend-after-leaving-requires t c κs = (c .before .before .before .before .before .before .before .before .before .before .before .pre .1 .start-in, entering t (c .before .before .before) .0)
+
 extend-cast-path : (t : ℕ) → extend-lts.Need-cast-path (claims t) (extend-at t) extend.Post extend-Inv-loop extend-μ-loop
-extend-cast-path t c = omega (arith, row-in t (c .before .before .before .before .before .before .before .before) .1, c .before .before .before .before .before .before .before .before .before .before .before .pre .1 .enter .few)
+extend-cast-path t c = omega (arith, row-in t (c .before .before .before .before .before .before .before .before .before) .1, c .before .before .before .before .before .before .before .before .before .before .before .before .pre .1 .enter .few)
 
 extend-mul-path : (t : ℕ) → extend-lts.Need-mul-path (claims t) (extend-at t) extend.Post extend-Inv-loop extend-μ-loop
-extend-mul-path t c = omega (arith, entering t (c .before .before .before) .1, c .before .before .before .before .before .before .before .before .before .before .before .pre .1 .fits)
+extend-mul-path t c = omega (arith, entering t (c .before .before .before .before) .1, c .before .before .before .before .before .before .before .before .before .before .before .before .pre .1 .fits)
 
 extend-element-write-path : (t : ℕ) → extend-lts.Need-element-write-path (claims t) (extend-at t) extend.Post extend-Inv-loop extend-μ-loop
-extend-element-write-path t c = omega (arith, entering t (c .before .before .before) .1, c .before .before .before .before .before .before .before .before .before .before .before .pre .1 .fits)
+extend-element-write-path t c = omega (arith, entering t (c .before .before .before .before) .1, c .before .before .before .before .before .before .before .before .before .before .before .before .pre .1 .fits)
 
 extend-add-extend : (t : ℕ) → extend-lts.Need-add-extend (claims t) (extend-at t) extend.Post extend-Inv-loop extend-μ-loop
-extend-add-extend t c = omega (arith, c .before .before .before .before .before .before .before .before .before .before .before .before .pre .1 .fits)
+extend-add-extend t c = omega (arith, c .before .before .before .before .before .before .before .before .before .before .before .before .before .pre .1 .fits)
 
 extend-extend-requires : (t : ℕ) → extend-lts.Need-extend-requires (claims t) (extend-at t) extend.Post extend-Inv-loop extend-μ-loop
 extend-extend-requires t c κs =
-    let b = c .before .before .before .before .before .before .before .before .before .before .before .before .before in
+    let b = c .before .before .before .before .before .before .before .before .before .before .before .before .before .before in
     let p = b .pre .1 in
-    let g = so-far t (c .before .before .before .before .before .before .before .before .before .before .before) in
-    let f = entering t (c .before .before .before .before .before) .1 in
-    let h = p .links .head-in (c .before .before .before .before .before .before .step .given .0 .0) (entering t (c .before .before .before .before .before) .0) in
-    let e = c .before .before .before .wide .ensures in
-    let marked = ap unleft (c .before .before .with-left .ensures) in (
-      omega (arith, b .pre .0, f, marked),
+    let g = so-far t (c .before .before .before .before .before .before .before .before .before .before .before .before) in
+    let f = entering t (c .before .before .before .before .before .before) .1 in
+    let h = p .links .head-in (c .before .before .before .before .before .before .before .step .given .0 .0) (entering t (c .before .before .before .before .before .before) .0) in
+    let e = c .before .before .before .before .wide .ensures in
+    let marked = ap unleft (c .before .before .before .with-left .ensures) in
+    let closed = closed-unleft _ _ (c .before .before .before .with-left .result) (c .before .before .after-leaving .result) (c .before .before .after-leaving .ensures) in (
+      omega (arith, b .pre .0, f, marked, closed),
       record {
         left = p .left;
         first = p .first;
         links = p .links;
         enter = p .enter;
+        from = p .from;
+        start-in = p .start-in;
         low-in = omega (arith, e, h .0);
         ordered = omega (arith, e, h .1);
         high-in = omega arith;
-        path-room = rw length-set (c .before .before .before .before .before .before .before .before .before .before .before .loop .inv .1 .path-room);
-        fits = omega (arith, p .fits, f, marked);
+        path-room = rw length-set (c .before .before .before .before .before .before .before .before .before .before .before .before .loop .inv .1 .path-room);
+        fits = omega (arith, p .fits, f, marked, closed);
         room-in = omega (arith, g .0, p .room-in);
         pos-in = g .1;
         limit-in = p .limit-in;
@@ -203,8 +210,8 @@ extend-loop-again t c =
     let g = entering t (record { before = record { before = record { before = c .before .before .before; match = w .0 }; step = w .1 }; known-told = w .2 }) in
     let deep : a .depth < 24 = omega (arith, p .fits, g .1) in (
       low,
-      subst (PathKept (a .depth) (a .path .now)) (sym (w .11)) (path-kept (a .depth) (l .k) (a .path .now) (l .path) _ kept (w .8 .ensures .0)),
-      extending-named _ _ (w .13) (w .12) (extending-enter (l .inv .2) (l .inv .0) h (p .high-in) step next (w .9 .given) (w .1 .given .0 .0) (w .1 .given .1) (g .0) (g .1) (l .path) (a .depth) (kept .same-rows) (omega (arith, deep, kept .path-room)) (w .4 .result) (w .4 .ensures) (marksOf 24 (w .5 .result)) (w .5 .ensures) (w .8 .ensures .1)),
+      subst (PathKept (a .depth) (a .path .now)) (sym (w .12)) (path-kept (a .depth) (l .k) (a .path .now) (l .path) _ kept (w .9 .ensures .0)),
+      extending-named _ _ (w .14) (w .13) (extending-enter (l .inv .2) (l .inv .0) h (p .high-in) step next (w .10 .given) (w .1 .given .0 .0) (w .1 .given .1) (g .0) (g .1) (l .path) (a .depth) (kept .same-rows) (omega (arith, deep, kept .path-room)) (w .4 .result) (w .4 .ensures) (marksOf 24 (w .5 .result)) (marksOf 24 (w .6 .result)) (w .5 .ensures) (marks-length 24 (w .5 .result)) (marks-length 24 (w .6 .result)) (w .6 .ensures) (w .9 .ensures .1)),
     )))
     (c .before .before .match .came)
 
@@ -234,6 +241,7 @@ pub +extend-spec : {M : Type 1} → statement M
     (extend-element-copy-out-wide t)
     (extend-wide-requires t)
     (extend-with-left-requires t)
+    (extend-after-leaving-requires t)
     (extend-cast-path t)
     (extend-mul-path t)
     (extend-element-write-path t)

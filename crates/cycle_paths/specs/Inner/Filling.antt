@@ -38,6 +38,27 @@ unfoldable pub marksOf : ℕ → ℕ → List ℕ
 marksOf zero bits = []
 marksOf (suc n) bits = (bits % 2) ∷ marksOf n (bits / 2)
 
+-- `into` has for each state the states that a row from `first` up to, and not including, `last` leaves to enter it; all are below 24.
+pub record Sources (left entered into : List ℕ) (first last : ℕ) : Type 0 where
+  pub leaves-in : (k : ℕ) → first ≤ k → k < last → column left k < 24
+  pub enters-in : (k : ℕ) → first ≤ k → k < last → column entered k < 24
+  pub stands : (k : ℕ) → first ≤ k → k < last → getD (marksOf 24 (column into (column entered k))) (column left k) 0 ≡ 1
+
+-- No state but those below `state` is marked.
+pub record BelowOnly (state : ℕ) (marks : List ℕ) : Type 0 where
+  pub above : (x : ℕ) → state ≤ x → x < 24 → getD marks x 0 ≡ 0
+
+-- The marks of states other than one are kept.
+pub record OthersKept (state : ℕ) (before after : List ℕ) : Type 0 where
+  pub same : (x : ℕ) → x < 24 → (x ≡ state → ⊥) → getD after x 0 ≡ getD before x 0
+
+-- Marks are kept, and a state above `start` is marked only if no row leads from it to `start` or to a state that is not marked. So no path
+-- back to `start` goes through a state that is marked only afterwards.
+pub record Closed (into : List ℕ) (start : ℕ) (marks after : List ℕ) : Type 0 where
+  pub kept : (x : ℕ) → x < 24 → getD after x 0 ≡ 0 → getD marks x 0 ≡ 0
+  pub to-start : (x : ℕ) → start < x → x < 24 → getD (marksOf 24 (column into start)) x 0 ≡ 1 → getD marks x 0 ≡ 0 → getD after x 0 ≡ 0
+  pub onward : (x y : ℕ) → start < x → x < 24 → y < 24 → getD (marksOf 24 (column into y)) x 0 ≡ 1 → getD after y 0 ≡ 0 → getD marks x 0 ≡ 0 → getD after x 0 ≡ 0
+
 -- What row k does for a path from `start` that stands at the state which the row leaves: it closes the cycle, or it enters a state above
 -- `start` that is not yet left.
 abbrev pub stepOf : List ℕ → ℕ → List ℕ → ℕ → Step
@@ -68,11 +89,13 @@ pub record Added (limit : ℕ) (before : List ℕ) (pos : ℕ) (entries : List �
 
 -- What `extend` asks: the links of some rows, room for a path through all states not yet left, and a count so far that is at most one
 -- above the limit.
-pub record Extendable (entered next head : List ℕ) (last : ℕ) (marks path : List ℕ) (depth low high room pos limit : ℕ) : Type 0 where
+pub record Extendable (entered next head into : List ℕ) (last start : ℕ) (marks path : List ℕ) (depth low high room pos limit : ℕ) : Type 0 where
   pub left : List ℕ
   pub first : ℕ
   pub links : Linked left next head first last
   pub enter : RowsBelow entered first last
+  pub from : Sources left entered into first last
+  pub start-in : start < 24
   pub low-in : first ≤ low
   pub ordered : low ≤ high
   pub high-in : high ≤ last
@@ -88,9 +111,9 @@ pub record PathKept (depth : ℕ) (before after : List ℕ) : Type 0 where
   pub same-rows : take depth after ≡ take depth before
 
 -- What `extend` gives, for all rows that have these links: the extensions of the path by the rows from `low` up to `high`.
-abbrev pub Extended : List ℕ → List ℕ → List ℕ → ℕ → ℕ → List ℕ → List ℕ → ℕ → ℕ → ℕ → List ℕ → ℕ → ℕ → List ℕ → Type 0
-Extended entered next head last start marks rows low high limit before pos used after =
-    (left : List ℕ) (first : ℕ) → Linked left next head first last → first ≤ low
+abbrev pub Extended : List ℕ → List ℕ → List ℕ → List ℕ → ℕ → ℕ → List ℕ → List ℕ → ℕ → ℕ → ℕ → List ℕ → ℕ → ℕ → List ℕ → Type 0
+Extended entered next head into last start marks rows low high limit before pos used after =
+    (left : List ℕ) (first : ℕ) → Linked left next head first last → Sources left entered into first last → first ≤ low
     → Added limit before pos (extensions left entered first last start marks rows (column left low) low (high - low)) used after
 
 -- The entries of all cycles of the rows from `first` up to `last`.
