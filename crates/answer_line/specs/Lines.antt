@@ -48,7 +48,7 @@ lineWith word numbers = word ++ figures numbers ++ lineEnd
 
 -- "`passed F n G`".
 abbrev pub passedLine : ℕ → ℕ → ℕ → List ℕ
-passedLine base states progress = lineWith passedWord (base ∷ states ∷ progress ∷ [])
+passedLine F n G = lineWith passedWord (F ∷ n ∷ G ∷ [])
 
 -- "`cycle` and the rows".
 abbrev pub cycleLine : List ℕ → List ℕ
@@ -60,6 +60,6 @@ refusedLine number place = lineWith refusedWord (number ∷ place ∷ [])
 
 -- "It prints one line": the rows are the front of the list after weighing.
 abbrev pub lineOf : Answer → List ℕ → List ℕ
-lineOf (passed base states progress) after = passedLine base states progress
+lineOf (passed F n G) after = passedLine F n G
 lineOf (cycle count) after = cycleLine (take count after)
 lineOf (refused number place) after = refusedLine number place

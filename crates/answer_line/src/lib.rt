@@ -63,13 +63,6 @@ fn write_line_with(word: &[u8], numbers: &[u64], line: &mut [u8]) -> usize
     copy(b"\n", line, end)
 }
 
-// A row's number, as a figure.
-fn wide(row: u16) -> u64
-    ensures { λ r. ⌜ (r ≡ row) × (r < 65536) ⌝ }
-{
-    row as u64
-}
-
 // The first rows of a list, as figures of at most six bytes each.
 fn widened(cycle: &[u16], rows: usize) -> [u64; 64]
     requires { ⌜ (rows ≤ 64) × (64 ≤ length (now cycle)) ⌝ }
@@ -78,7 +71,7 @@ fn widened(cycle: &[u16], rows: usize) -> [u64; 64]
     let mut numbers = [0u64; 64];
     let mut i = 0;
     while i < rows {
-        numbers[i] = wide(cycle[i]);
+        numbers[i] = casts::figure_u16(cycle[i]);
         i += 1;
     }
     numbers
@@ -137,9 +130,9 @@ fn write_answer(answer: Weighed, cycle: &[u16], line: &mut [u8]) -> usize
     match answer {
         Weighed::Passed {
             base,
-            states,
-            progress,
-        } => write_line_with(b"passed", &[base, states, progress], line),
+            most_states,
+            per_progress,
+        } => write_line_with(b"passed", &[base, most_states, per_progress], line),
         Weighed::Cycle { rows } => {
             let numbers = widened(cycle, rows);
             write_line_with(b"cycle", &numbers[..rows], line)

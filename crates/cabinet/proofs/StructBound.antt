@@ -19,7 +19,7 @@ use Rattle.cabinet.specs.Structs.{weighStruct, WeighedAs}
 abbrev pub BoundedBy : Plant → List ℕ → WeighAnswer → Type 0
 BoundedBy P ws r =
     (c : Configuration) (events : List Event)
-    → quietRows P c events ≤ r .base + r .states * contentsWeight P ws (c .content) + r .«per_progress» * progressRows P c events
+    → quietRows P c events ≤ r .base + r .«most_states» * contentsWeight P ws (c .content) + r .«per_progress» * progressRows P c events
 
 pub struct-bound : (file ws before after : List ℕ) (r : WeighAnswer) (P : Plant) (end : ℕ) → readPlant file ≡ found P end
     → WeighedAs ws before after r (judged file ws (length before)) → r .kind ≡ 2 → BoundedBy P ws r

@@ -46,7 +46,7 @@ read-one-to-one (Reading.refused n p) (Reading.refused n′ p′) e =
 pub weigh-one-to-one : (a b : Weighing.Answer) → weighStruct a ≡ weighStruct b → a ≡ b
 weigh-one-to-one (Weighing.passed F n G) (Weighing.passed F′ n′ G′) e =
     let p : F ≡ F′ = ap (λ (x : WeighAnswer). x .base) e in
-    let q : n ≡ n′ = ap (λ (x : WeighAnswer). x .states) e in
+    let q : n ≡ n′ = ap (λ (x : WeighAnswer). x .«most_states») e in
     let r : G ≡ G′ = ap (λ (x : WeighAnswer). x .«per_progress») e in
     cc
 weigh-one-to-one (Weighing.passed F n G) (Weighing.cycle k) e = absurd (omega (arith, ap (λ (x : WeighAnswer). x .kind) e))

@@ -26,11 +26,11 @@ readStruct (Reading.refused number place) = record { kind = 0; number = number; 
 
 -- "Passing hands back F, n and G": kind 2; a cycle shown, with the count of its rows: kind 3.
 abbrev pub weighStruct : WeighingAnswers.Answer → WeighAnswer
-weighStruct (WeighingAnswers.passed base states progress) =
-    record { kind = 2; number = 0; place = 0; base = base; states = states; «per_progress» = progress; rows = 0 }
-weighStruct (WeighingAnswers.cycle rows) = record { kind = 3; number = 0; place = 0; base = 0; states = 0; «per_progress» = 0; rows = rows }
+weighStruct (WeighingAnswers.passed F n G) =
+    record { kind = 2; number = 0; place = 0; base = F; «most_states» = n; «per_progress» = G; rows = 0 }
+weighStruct (WeighingAnswers.cycle rows) = record { kind = 3; number = 0; place = 0; base = 0; «most_states» = 0; «per_progress» = 0; rows = rows }
 weighStruct (WeighingAnswers.refused number place) =
-    record { kind = 0; number = number; place = place; base = 0; states = 0; «per_progress» = 0; rows = 0 }
+    record { kind = 0; number = number; place = place; base = 0; «most_states» = 0; «per_progress» = 0; rows = 0 }
 
 -- The ceiling and its price class: kind 4.
 abbrev pub quoteStruct : QuotingAnswers.Answer → QuoteAnswer

@@ -33,7 +33,7 @@ pub struct WeighAnswer {
     pub number: u8,
     pub place: usize,
     pub base: u64,
-    pub states: u64,
+    pub most_states: u64,
     pub per_progress: u64,
     pub rows: usize,
 }
@@ -104,15 +104,15 @@ pub extern "C" fn hemtaluq_weigh(file: &[u8], weights: &[u16], cycle: &mut [u16]
     match answer {
         Weighed::Passed {
             base,
-            states,
-            progress,
+            most_states,
+            per_progress,
         } => WeighAnswer {
             kind: 2,
             number: 0,
             place: 0,
             base,
-            states,
-            per_progress: progress,
+            most_states,
+            per_progress,
             rows: 0,
         },
         Weighed::Cycle { rows } => WeighAnswer {
@@ -120,7 +120,7 @@ pub extern "C" fn hemtaluq_weigh(file: &[u8], weights: &[u16], cycle: &mut [u16]
             number: 0,
             place: 0,
             base: 0,
-            states: 0,
+            most_states: 0,
             per_progress: 0,
             rows,
         },
@@ -129,7 +129,7 @@ pub extern "C" fn hemtaluq_weigh(file: &[u8], weights: &[u16], cycle: &mut [u16]
             number: fault.number,
             place: fault.place,
             base: 0,
-            states: 0,
+            most_states: 0,
             per_progress: 0,
             rows: 0,
         },

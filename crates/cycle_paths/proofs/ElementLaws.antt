@@ -10,7 +10,7 @@ use Rattle.livelock.specs.Lists.{below, All}
 use Rattle.livelock.proofs.ListLaws.{all-below-at}
 use Rattle.cycle_paths.specs.Listings.{In}
 use Rattle.cycle_paths.specs.Cycles.{joined, selected}
-use Rattle.cycle_paths.specs.Inner.Ranges.{upFrom}
+use Rattle.cycle_paths.specs.Rows.{upFrom}
 
 module _ {A : Type 0} where
   -- What all elements have, each element has,

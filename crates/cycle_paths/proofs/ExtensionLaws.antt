@@ -21,11 +21,16 @@ use Rattle.cycle_paths.specs.declared.Step.{Step}
 use Rattle.cycle_paths.specs.declared.Step.the-variants as Steps
 use Rattle.cycle_paths.specs.Cycles.{unleft, joined, pathsBy, paths, leftOnly, cyclesBy}
 use Rattle.cycle_paths.specs.Listings.{In, flattened}
-use Rattle.cycle_paths.specs.Inner.Ranges.{upFrom, column}
-use Rattle.cycle_paths.specs.Inner.Filling.{Linked, Sources, BelowOnly, Closed, marksOf, stepOf, entryOf, entriesWith, extensions, Added, PathKept, Extended}
+use Rattle.cycle_paths.specs.Rows.{upFrom}
+use Rattle.state_marks.specs.Marks.{column}
+use Rattle.cycle_paths.specs.Rows.{Linked}
+use Rattle.state_marks.specs.Marks.{Sources, BelowOnly, Closed, marksOf}
+use Rattle.cycle_paths.specs.Inner.Extending.{stepOf, entriesWith, extensions, PathKept, Extended}
+use Rattle.cycle_paths.specs.Entries.{entryOf, Added}
 use Rattle.cycle_paths.proofs.ElementLaws.{up-from-in, in-up-from}
 use Rattle.cycle_paths.proofs.OrderLaws.{increasing-up-from}
-use Rattle.cycle_paths.proofs.MarkLaws.{marks-length, unleft-fewer, now-left, others-unleft, left-length}
+use Rattle.state_marks.proofs.MarkLaws.{marks-length}
+use Rattle.cycle_paths.proofs.MarkLaws.{unleft-fewer, now-left, others-unleft, left-length}
 use Rattle.cycle_paths.proofs.PathLaws.{same-paths}
 use Rattle.cycle_paths.proofs.FillingLaws.{Adding, adding-begins, adding-named, adding-none, adding-part, adding-ends, adding-stops}
 

@@ -7,7 +7,7 @@ use native.Mathlib.Omega.{arith}
 use lib.ListN.{length, set, take, length-append}
 use lib.Seq.{sets, length-take-le}
 use Rattle.livelock.proofs.StoreLaws.{sets-append}
-use Rattle.cycle_paths.specs.Inner.Filling.{entryOf, Added}
+use Rattle.cycle_paths.specs.Entries.{entryOf, Added}
 
 -- ---- one cycle
 

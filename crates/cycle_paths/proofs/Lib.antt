@@ -2,10 +2,8 @@
 pub mod ElementLaws
 pub mod OrderLaws
 pub mod MarkLaws
-pub mod BitLaws
 pub mod PathLaws
 pub mod CycleLaws
 pub mod LinkLaws
-pub mod SourceLaws
 pub mod FillingLaws
 pub mod ExtensionLaws

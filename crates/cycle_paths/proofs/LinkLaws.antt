@@ -7,8 +7,8 @@ use native.Mathlib.Decide.{ℕ-discrete}
 use native.Mathlib.Omega.{arith}
 use lib.ListN.{length, set, length-set, replicate, getD-replicate, length-replicate}
 use lib.Seq.{getD-set-same, getD-set-other}
-use Rattle.cycle_paths.specs.Inner.Filling.{Linked}
-use Rattle.cycle_paths.specs.Inner.Ranges.{column}
+use Rattle.cycle_paths.specs.Rows.{Linked}
+use Rattle.state_marks.specs.Marks.{column}
 
 -- Links of no rows.
 pub linked-none : (left next : List ℕ) (last : ℕ) → last ≤ length next → Linked left next (replicate 24 last) last last

@@ -10,7 +10,7 @@ use Rattle.livelock.specs.Plants.{Plant}
 use Rattle.livelock.proofs.ListLaws.{all-below}
 use Rattle.cycle_paths.specs.Listings.{In, Before, Ascending, IsListing}
 use Rattle.cycle_paths.specs.Cycles.{joined, selected}
-use Rattle.cycle_paths.specs.Inner.Ranges.{upFrom}
+use Rattle.cycle_paths.specs.Rows.{upFrom}
 use Rattle.cycle_paths.proofs.ElementLaws.{all-in, in-all, in-either, prefixed-in, joined-in, all-selected, up-from-in}
 
 module _ {A : Type 0} (R : A → A → Type 0) where

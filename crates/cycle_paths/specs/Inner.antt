@@ -1,3 +1,2 @@
--- Definitions that only the contracts of functions cite which our crates call.
-pub mod Ranges
-pub mod Filling
+-- Definitions that only the contracts of private functions cite.
+pub mod Extending

@@ -1,4 +1,6 @@
--- What a listing is, and its cycles by extension of a path. `Inner` is for the functions that extend one.
+-- What a listing is, its cycles by extension of a path, and their entries. `Inner` is for the functions that extend a path.
 pub mod Listings
 pub mod Cycles
+pub mod Rows
+pub mod Entries
 pub mod Inner

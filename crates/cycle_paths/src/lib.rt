@@ -1,11 +1,12 @@
-// The simple cycles of some rows, by depth-first extension of a path.
+// The simple cycles of some rows, by depth-first extension of a path. No entry point: listing calls it, for the rows of a machine.
 ghost use mathlib.Core.Path.{_≡_};
 ghost use Prim.Native.Nat.{suc, _+_, _≤_, _<_, _^_};
-ghost use lib.ListN.{length, getD, take, set};
-ghost use lib.Dec.{eqb};
+ghost use lib.ListN.{length, take};
 ghost use lib.Seq.{sets};
-ghost use Rattle.cycle_paths.specs.Inner.Ranges.{column};
-ghost use Rattle.cycle_paths.specs.Inner.Filling.{marksOf, RowsBelow, Linked, Sources, BelowOnly, OthersKept, Closed, stepOf, entryOf, Added, Extendable, PathKept, Extended, allEntries};
+ghost use Rattle.state_marks.specs.Marks.{column, marksOf, RowsBelow};
+ghost use Rattle.cycle_paths.specs.Rows.{Linked};
+ghost use Rattle.cycle_paths.specs.Entries.{entryOf, Added, allEntries};
+ghost use Rattle.cycle_paths.specs.Inner.Extending.{stepOf, Extendable, PathKept, Extended};
 
 // The rows of a machine by the state they leave: head[s] is the first row that leaves state s, and next[k] the row after k that leaves
 // the same state. Where there is none, it is the number after the machine's last row.
@@ -14,21 +15,11 @@ pub struct Links {
     pub head: [u16; 24],
 }
 
-// The bits of 24 states.
-const ALL: u32 = 16_777_215;
-
 // What a row does for a path: nothing, it closes the cycle, or it enters a state not yet left.
 pub enum Step {
     Skip,
     Close,
     Enter(u8),
-}
-
-// A row number as an index.
-pub fn wide(x: u16) -> usize
-    ensures { λ r. ⌜ r ≡ x ⌝ }
-{
-    x as usize
 }
 
 // Links the rows from `first` up to, and not including, `last`; from the last row to the first, so that each is put before those that are linked.
@@ -50,92 +41,6 @@ pub fn link(left: &[u8; 1024], first: usize, last: usize) -> Links
     Links { next, head }
 }
 
-// Whether a state is not yet left: its bit does not stand.
-fn not_yet_left(marks: u32, state: u8) -> bool
-    requires { ⌜ state < 24 ⌝ }
-    ensures { λ r. ⌜ r ≡ eqb (getD (marksOf 24 marks) state 0) 0 ⌝ }
-{
-    (marks >> state) % 2 == 0
-}
-
-// The marks with one state more that is left: its bit is put.
-fn with_left(marks: u32, state: u8) -> u32
-    requires { ⌜ state < 24 ⌝ }
-    ensures { λ r. ⌜ marksOf 24 r ≡ set (marksOf 24 marks) state 1 ⌝ }
-{
-    marks | (1 << state)
-}
-
-// For each state the states that a row from `first` up to, and not including, `last` leaves to enter it: their bits stand.
-fn sources<'a>(
-    left: &'a [u8; 1024],
-    entered: &'a [u8; 1024],
-    first: usize,
-    last: usize,
-) -> [u32; 32]
-    requires { ⌜ RowsBelow (now left) first last × RowsBelow (now entered) first last ⌝ }
-    ensures { λ r. ⌜ Sources (now (left .entry)) (now (entered .entry)) r first last ⌝ }
-{
-    let mut into = [0; 32];
-    let mut k = first;
-    while k < last {
-        let state = entered[k] as usize;
-        into[state] = with_left(into[state], left[k]);
-        k += 1;
-    }
-    into
-}
-
-// The states below one: their bits stand, and no others.
-fn below(state: u8) -> u32
-    requires { ⌜ state < 24 ⌝ }
-    ensures { λ r. ⌜ BelowOnly state (marksOf 24 r) ⌝ }
-{
-    (1 << state) - 1
-}
-
-// The bits with one of them turned.
-fn turned(bits: u32, state: u32) -> u32
-    requires { ⌜ state < 32 ⌝ }
-    ensures { λ r. ⌜ OthersKept state (marksOf 24 bits) (marksOf 24 r) ⌝ }
-{
-    bits ^ (1 << state)
-}
-
-// The marks, with dead ends marked as well: the states from which no path over states that are not marked leads back to `start`. The
-// others, `live`, are found backward from `start`; `todo` has those of them whose sources are not yet in `live`. Each state is to do at most once.
-fn without_dead_ends(into: &[u32; 32], start: u8, marks: u32) -> u32
-    requires { ⌜ start < 24 ⌝ }
-    ensures { λ r. ⌜ Closed (now (into .entry)) start (marksOf 24 marks) (marksOf 24 r) ⌝ }
-{
-    let free = marks ^ ALL;
-    let mut live = into[start as usize] & free;
-    let mut todo = live;
-    let mut turns: u32 = 0;
-    while todo != 0 {
-        if turns >= 24 {
-            return marks;
-        }
-        let state = u32::trailing_zeros(todo);
-        let more = into[state as usize] & (free ^ live);
-        todo = turned(todo, state) | more;
-        live = live | more;
-        turns += 1;
-    }
-    marks | (live ^ ALL)
-}
-
-// The same once `state` is left, where the dead ends were marked before: if no state that is not marked has a row to it, there are no new ones.
-fn after_leaving(into: &[u32; 32], start: u8, state: u8, marks: u32) -> u32
-    requires { ⌜ (start < 24) × (state < 24) ⌝ }
-    ensures { λ r. ⌜ Closed (now (into .entry)) start (marksOf 24 marks) (marksOf 24 r) ⌝ }
-{
-    if into[state as usize] & (marks ^ ALL) == 0 {
-        return marks;
-    }
-    without_dead_ends(into, start, marks)
-}
-
 // What row k does for a path from `start` that stands at the state which the row leaves.
 fn step_of(entered: &[u8; 1024], start: u8, marks: u32, k: usize) -> Step
     requires { ⌜ (k < 1024) × (column (now entered) k < 24) ⌝ }
@@ -148,7 +53,7 @@ fn step_of(entered: &[u8; 1024], start: u8, marks: u32, k: usize) -> Step
     if state < start {
         return Step::Skip;
     }
-    if not_yet_left(marks, state) {
+    if state_marks::not_yet_left(marks, state) {
         return Step::Enter(state);
     }
     Step::Skip
@@ -224,9 +129,9 @@ fn extend<'a>(
                 used = add_cycle(out, used, path, depth, k as u16, limit);
             }
             Step::Enter(state) => {
-                let begin = wide(head[state as usize]);
-                let marked = with_left(marks, state);
-                let closed = after_leaving(into, start, state, marked);
+                let begin = casts::index_u16(head[state as usize]);
+                let marked = state_marks::with_left(marks, state);
+                let closed = state_marks::after_leaving(into, start, state, marked);
                 path[depth] = k as u16;
                 used = extend(
                     entered,
@@ -246,7 +151,7 @@ fn extend<'a>(
                 );
             }
         }
-        k = wide(next[k]);
+        k = casts::index_u16(next[k]);
     }
     used
 }
@@ -266,15 +171,15 @@ pub fn list_rows<'a>(
     requires { ⌜ RowsBelow (now left) first last × RowsBelow (now entered) first last × Linked (now left) (now next) (now head) first last × (length (now out) ≤ limit) × (limit < 2 ^ 63) ⌝ }
     ensures { λ r. ⌜ Added limit (now (out .entry)) 0 (allEntries (now (left .entry)) (now (entered .entry)) first last) r (now (out .exit)) ⌝ }
 {
-    let into = sources(left, entered, first, last);
+    let into = state_marks::sources(left, entered, first, last);
     let mut path = [0; 24];
     let mut used = 0;
     let mut row = first;
     while row < last {
         let start = left[row];
-        let low = below(start);
-        let marked = with_left(low, start);
-        let closed = without_dead_ends(&into, start, marked);
+        let low = state_marks::below(start);
+        let marked = state_marks::with_left(low, start);
+        let closed = state_marks::without_dead_ends(&into, start, marked);
         used = extend(
             entered,
             next,

@@ -23,7 +23,7 @@ use Rattle.plant.specs.declared.Fault.{Fault}
 use Rattle.plant.specs.declared.End.the-variants as Ends
 use Rattle.decoding.proofs.TableLaws.{rows-counted}
 use Rattle.set_entries.specs.Sets.{entryAt, entryBegins, entriesAt, readSet}
-use Rattle.set_entries.specs.Inner.Steps.{part, NumbersBelow, entryIn}
+use Rattle.set_entries.specs.Entries.{part, NumbersBelow, entryIn}
 use Rattle.cycle_sets.specs.Inner.Sums.{Within, having, Added, SumsOf, JudgedAs, entries-read, fault-met}
 use Rattle.set_entries.proofs.NumberLaws.{begins-within, part-length, part-below}
 use Rattle.set_entries.proofs.EntryLaws.{EntryRead, entry-read}

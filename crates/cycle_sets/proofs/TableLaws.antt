@@ -16,7 +16,7 @@ use Rattle.decoding.specs.Tables.{rowOf, plantOf, Ready}
 use Rattle.plant.specs.Limits.{WithinLimits}
 use Rattle.decoding.specs.declared.PlantTable.{PlantTable}
 use Rattle.decoding.proofs.TableLaws.{rows-counted, machines-counted, row-is}
-use Rattle.set_entries.specs.Inner.Steps.{Columns, ColumnsOf}
+use Rattle.set_entries.specs.Entries.{Columns, ColumnsOf}
 use Rattle.cycle_sets.specs.Inner.Sums.{having}
 
 -- The columns that tell whether rows are a quiet simple cycle.

@@ -10,7 +10,7 @@ ghost use Rattle.decoding.specs.Tables.{plantOf, Ready};
 ghost use Rattle.set_entries.specs.Sets.{readSet};
 ghost use Rattle.cycle_sets.specs.Answers.{answerOf, confirmed};
 ghost use Rattle.cycle_sets.specs.Confirming.{lowestNegative, owed, ReadsBalanced};
-ghost use Rattle.set_entries.specs.Inner.Steps.{part, NumbersBelow};
+ghost use Rattle.set_entries.specs.Entries.{part, NumbersBelow};
 ghost use Rattle.cycle_sets.specs.Inner.Sums.{raised, Within, Added, JudgedAs};
 use decoding::PlantTable;
 use plant::End;

@@ -11,13 +11,6 @@ use relaxing::rises;
 
 pub mod relaxing;
 
-// A state as an index.
-pub fn wide(x: u8) -> usize
-    ensures { λ r. ⌜ r ≡ x ⌝ }
-{
-    x as usize
-}
-
 // The length of a row: of a cycle of at most n rows it is above zero exactly when the cycle weighs zero or more.
 fn row_length(n: u64, weight: i64) -> i64
     requires { ⌜ (n ≤ 64) × (rise weight ≤ 65535) × (fall weight ≤ 65535) ⌝ }
@@ -43,9 +36,9 @@ fn relax(
     let mut last = count;
     let mut i = 0;
     while i < count {
-        let a = wide(from[i]);
+        let a = casts::index_u8(from[i]);
         let height = heights[a];
-        let b = wide(to[i]);
+        let b = casts::index_u8(to[i]);
         let length = row_length(n, weight[i]);
         let next = heights[b];
         if rises(height, next, length) {

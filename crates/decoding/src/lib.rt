@@ -11,7 +11,7 @@ ghost use Rattle.decoding.specs.Inner.Steps.{RowsRead, MachineRead, Mach
 use plant::End;
 use plant::Fault;
 use plant::FieldStep;
-use plant::RowStep;
+use plant_rows::RowStep;
 
 // A decoded plant, in columns: entry k of a column belongs to row k, and 64 stands for no type. Entries past the counts are unused.
 // Machine m has the rows from first[m] up to, and not including, first[m + 1].
@@ -73,7 +73,7 @@ fn read_rows(
     let mut implied = 0;
     let mut i = 0;
     while i < n {
-        let step = plant::row_at(s, at, states, types, implied);
+        let step = plant_rows::row_at(s, at, states, types, implied);
         match step {
             RowStep::Fault(fault) => return End::Fault(fault),
             RowStep::Value(row) => {

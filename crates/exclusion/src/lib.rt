@@ -21,8 +21,8 @@ fn is_passed(answer: Weighed) -> bool
     match answer {
         Weighed::Passed {
             base,
-            states,
-            progress,
+            most_states,
+            per_progress,
         } => true,
         Weighed::Cycle { rows } => false,
         Weighed::Refused(fault) => false,

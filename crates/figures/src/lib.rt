@@ -12,20 +12,6 @@ pub struct Figures {
     pub per_progress: u64,
 }
 
-// A count of states as a figure.
-fn byte(x: u8) -> u64
-    ensures { λ r. ⌜ r ≡ x ⌝ }
-{
-    x as u64
-}
-
-// A weight as a figure.
-fn word(x: u16) -> u64
-    ensures { λ r. ⌜ r ≡ x ⌝ }
-{
-    x as u64
-}
-
 fn larger(a: u64, b: u64) -> u64
     ensures { λ r. ⌜ r ≡ max a b ⌝ }
 {
@@ -49,7 +35,7 @@ pub fn most_states(states: &[u8]) -> u64
     let mut most = 0;
     let mut m = 0;
     while m < states.len() {
-        most = larger(most, byte(states[m]));
+        most = larger(most, casts::figure_u8(states[m]));
         m += 1;
     }
     most
@@ -76,7 +62,7 @@ fn largest_weight(weights: &[u16]) -> u64
     let mut largest = 0;
     let mut t = 0;
     while t < weights.len() {
-        largest = larger(largest, word(weights[t]));
+        largest = larger(largest, casts::figure_u16(weights[t]));
         t += 1;
     }
     largest

@@ -18,7 +18,8 @@ use Rattle.decoding.specs.declared.PlantTable.{PlantTable}
 use Rattle.listing.specs.Answers.{entries, refused, answerOf}
 use Rattle.listing.specs.Listing.{entriesNeeded, checkedRoom, checkedSize, checked, judged, answered, filled, Means}
 use Rattle.cycle_paths.specs.Listings.{flattened}
-use Rattle.cycle_paths.specs.Inner.Filling.{RowsBelow, Added, allEntries}
+use Rattle.state_marks.specs.Marks.{RowsBelow}
+use Rattle.cycle_paths.specs.Entries.{Added, allEntries}
 use Rattle.listing.specs.Inner.Machines.{Listable, Answers}
 use Rattle.listing.specs.declared.Listed.{Listed}
 use Rattle.listing.specs.declared.Listed.the-variants as Variants

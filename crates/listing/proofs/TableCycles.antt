@@ -13,7 +13,8 @@ use Rattle.decoding.proofs.TableLaws.{row-is, rows-counted}
 use Rattle.decoding.proofs.FirstRowLaws.{row-of-machine, machine-rows}
 use Rattle.cycle_paths.specs.Listings.{In}
 use Rattle.cycle_paths.specs.Cycles.{cyclesThrough, rowNumbers, cyclesOf}
-use Rattle.cycle_paths.specs.Inner.Ranges.{upFrom, column}
+use Rattle.cycle_paths.specs.Rows.{upFrom}
+use Rattle.state_marks.specs.Marks.{column}
 use Rattle.cycle_paths.proofs.ElementLaws.{in-all, up-from-in, in-up-from}
 use Rattle.cycle_paths.proofs.OrderLaws.{increasing-same, increasing-up-from}
 use Rattle.cycle_paths.proofs.CycleLaws.{number-row, row-number, numbers-increasing, same-cycles, through-same}

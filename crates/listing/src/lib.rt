@@ -6,7 +6,6 @@ ghost use Rattle.decoding.specs.Tables.{plantOf, Ready};
 ghost use Rattle.listing.specs.Answers.{answerOf, refused};
 ghost use Rattle.listing.specs.Listing.{judged, answered, filled, Means};
 ghost use Rattle.listing.specs.Inner.Machines.{Listable, AnswersMachine, AnswersChecked};
-use cycle_paths::wide;
 use decoding::PlantTable;
 use plant::End;
 use plant::Fault;
@@ -29,8 +28,8 @@ fn list_machine(table: PlantTable, m: usize, out: &mut [u16]) -> Listed
     requires { ⌜ Listable table m ⌝ }
     ensures { λ r. ⌜ AnswersMachine table m (now (out .entry)) (now (out .exit)) r ⌝ }
 {
-    let first = wide(table.first[m]);
-    let last = wide(table.first[m + 1]);
+    let first = casts::index_u16(table.first[m]);
+    let last = casts::index_u16(table.first[m + 1]);
     let links = cycle_paths::link(&table.left, first, last);
     let room = out.len();
     let needed = cycle_paths::list_rows(
@@ -71,8 +70,8 @@ fn list_checked(table: PlantTable, machine: u32, out: &mut [u16]) -> Listed
     if table.states[m] > 24 {
         return refused(13);
     }
-    let first = wide(table.first[m]);
-    let last = wide(table.first[m + 1]);
+    let first = casts::index_u16(table.first[m]);
+    let last = casts::index_u16(table.first[m + 1]);
     if last - first > 48 {
         return refused(13);
     }

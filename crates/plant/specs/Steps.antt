@@ -1,15 +1,13 @@
--- What the answers of the functions that read bytes, fields and rows mean.
+-- What the answers of the functions that read bytes and fields mean.
 use mathlib.Core.Bool.{cond}
 use mathlib.Core.Option.{Option, none, some}
 use Prim.Native.Nat.{ℕ}
 use lib.Dec.{ltb}
-use Rattle.livelock.specs.Plants.{Row, Plant}
+use Rattle.livelock.specs.Plants.{Plant}
 use Rattle.plant.specs.Found.{Found, found, fault}
 use Rattle.plant.specs.declared.Fault.{Fault}
 use Rattle.plant.specs.declared.FieldStep.{FieldStep}
 use Rattle.plant.specs.declared.FieldStep.the-variants as FieldSteps
-use Rattle.plant.specs.declared.RowStep.{RowStep}
-use Rattle.plant.specs.declared.RowStep.the-variants as RowSteps
 use Rattle.plant.specs.declared.End.{End}
 use Rattle.plant.specs.declared.End.the-variants as Ends
 
@@ -29,12 +27,6 @@ fieldFound (FieldSteps.Fault f) = faultFound f
 abbrev pub typeFound : FieldStep → Found (Option ℕ)
 typeFound (FieldSteps.Value f) = found (typeOf (f .value)) (f .next)
 typeFound (FieldSteps.Fault f) = faultFound f
-
--- A row of machine m.
-abbrev pub rowFound : ℕ → RowStep → Found Row
-rowFound m (RowSteps.Value r) =
-    found (record { machine = m; left = r .left; entered = r .entered; sent = typeOf (r .sent); taken = typeOf (r .taken); progress = r .progress }) (r .next)
-rowFound m (RowSteps.Fault f) = faultFound f
 
 -- The offset of an end: after what was read, or the fault's place.
 abbrev pub offsetOf : End → ℕ

@@ -1,11 +1,12 @@
-// The bytes of a plant file, its fields and its rows: each byte is judged when it is read, and the first fault met decides.
+// The bytes of a plant file and the fields of its rows: each byte is judged when it is read, and the first fault met decides. No entry
+// point: `plant_rows`, `reading` and `decoding` call it.
 ghost use mathlib.Core.Path.{_≡_};
-ghost use Prim.Native.Nat.{ℕ, _+_, _^_, _≤_, _<_};
+ghost use Prim.Native.Nat.{_+_, _^_, _≤_, _<_};
 ghost use Rattle.livelock.specs.Plants.{Plant};
 ghost use Rattle.plant.specs.Found.{andThen, movedBy};
-ghost use Rattle.plant.specs.Reading.{byteAt, inRange, byteIn, countByte, hasBit, isMap, mapByte, stateField, typeField, readRow};
+ghost use Rattle.plant.specs.Reading.{byteAt, inRange, byteIn, countByte, hasBit, isMap, mapByte, stateField, typeField};
 ghost use Rattle.plant.specs.Reading.{rowsByte, fileEnd};
-ghost use Rattle.plant.specs.Steps.{fieldFound, typeFound, rowFound, offsetOf, endFound};
+ghost use Rattle.plant.specs.Steps.{fieldFound, typeFound, offsetOf, endFound};
 
 // A fault's number in document 01's table, and its place.
 pub struct Fault {
@@ -21,21 +22,6 @@ pub struct Field {
 
 pub enum FieldStep {
     Value(Field),
-    Fault(Fault),
-}
-
-// A row that was read, and the offset after it. 64 stands for no type.
-pub struct RowFields {
-    pub left: u8,
-    pub entered: u8,
-    pub sent: u8,
-    pub taken: u8,
-    pub progress: bool,
-    pub next: usize,
-}
-
-pub enum RowStep {
-    Value(RowFields),
     Fault(Fault),
 }
 
@@ -127,7 +113,7 @@ pub fn rows_byte(s: &[u8], at: usize, used: usize) -> FieldStep
 }
 
 // Whether the bit of this value stands in a map byte.
-fn has_bit(map: u8, value: u8) -> bool
+pub fn has_bit(map: u8, value: u8) -> bool
     requires { ⌜ 0 < value ⌝ }
     ensures { λ r. ⌜ r ≡ hasBit map value ⌝ }
 {
@@ -147,7 +133,7 @@ fn is_map(map: u8) -> bool
 }
 
 // A row's map byte.
-fn map_byte(s: &[u8], at: usize) -> FieldStep
+pub fn map_byte(s: &[u8], at: usize) -> FieldStep
     ensures { λ r. ⌜ fieldFound r ≡ mapByte (now (s .entry)) at ⌝ }
 {
     let step = byte_at(s, at);
@@ -165,7 +151,7 @@ fn map_byte(s: &[u8], at: usize) -> FieldStep
 }
 
 // A state field, or the state that stands for it.
-fn state_field(s: &[u8], at: usize, stands: bool, absent: u8, states: u8) -> FieldStep
+pub fn state_field(s: &[u8], at: usize, stands: bool, absent: u8, states: u8) -> FieldStep
     ensures { λ r. ⌜ fieldFound r ≡ stateField stands absent states (now (s .entry)) at ⌝ }
 {
     if stands {
@@ -179,7 +165,7 @@ fn state_field(s: &[u8], at: usize, stands: bool, absent: u8, states: u8) -> Fie
 }
 
 // A type field, or 64.
-fn type_field(s: &[u8], at: usize, stands: bool, types: u8) -> FieldStep
+pub fn type_field(s: &[u8], at: usize, stands: bool, types: u8) -> FieldStep
     requires { ⌜ types ≤ 64 ⌝ }
     ensures { λ r. ⌜ typeFound r ≡ typeField stands types (now (s .entry)) at ⌝ }
 {
@@ -191,47 +177,6 @@ fn type_field(s: &[u8], at: usize, stands: bool, types: u8) -> FieldStep
             next: at,
         })
     }
-}
-
-// The row at `at`.
-pub fn row_at(s: &[u8], at: usize, states: u8, types: u8, implied: u8) -> RowStep
-    requires { ⌜ types ≤ 64 ⌝ }
-    ensures { λ r. ⌜ ((m : ℕ) → rowFound m r ≡ readRow m states types implied (now (s .entry)) at) ⌝ }
-{
-    let first = map_byte(s, at);
-    let map = match first {
-        FieldStep::Value(field) => field,
-        FieldStep::Fault(fault) => return RowStep::Fault(fault),
-    };
-    let bits = map.value;
-    let second = state_field(s, map.next, has_bit(bits, 1), implied, states);
-    let left = match second {
-        FieldStep::Value(field) => field,
-        FieldStep::Fault(fault) => return RowStep::Fault(fault),
-    };
-    let third = state_field(s, left.next, has_bit(bits, 2), left.value, states);
-    let entered = match third {
-        FieldStep::Value(field) => field,
-        FieldStep::Fault(fault) => return RowStep::Fault(fault),
-    };
-    let fourth = type_field(s, entered.next, has_bit(bits, 4), types);
-    let sent = match fourth {
-        FieldStep::Value(field) => field,
-        FieldStep::Fault(fault) => return RowStep::Fault(fault),
-    };
-    let fifth = type_field(s, sent.next, has_bit(bits, 8), types);
-    let taken = match fifth {
-        FieldStep::Value(field) => field,
-        FieldStep::Fault(fault) => return RowStep::Fault(fault),
-    };
-    RowStep::Value(RowFields {
-        left: left.value,
-        entered: entered.value,
-        sent: sent.value,
-        taken: taken.value,
-        progress: has_bit(bits, 16),
-        next: taken.next,
-    })
 }
 
 // Where a part that begins at `base` ends, as an offset in the whole file.

@@ -42,28 +42,28 @@ check-good types contents g passes ok =
     let a = contents-good contents g P (x .0) 0 (x .1) (x .2) in
     (a .one-each, a .small, a .few-progress)
 
-module _ (passes : Bool) (base states progress : ℕ) (ws contents : List ℕ) (g : ℕ) where
+module _ (passes : Bool) (F n G : ℕ) (ws contents : List ℕ) (g : ℕ) where
   -- A fault is handed on,
-  pub check-refused : (f : Fault) → Checks (length ws) contents g passes (CheckVariants.Fault f) → OwedChecked passes base states progress ws contents g (refused (f .number) (f .place))
-  check-refused f ok P end t = ap (quotedFor base states progress ws contents g) (ok P end t)
+  pub check-refused : (f : Fault) → Checks (length ws) contents g passes (CheckVariants.Fault f) → OwedChecked passes F n G ws contents g (refused (f .number) (f .place))
+  check-refused f ok P end t = ap (quotedFor F n G ws contents g) (ok P end t)
 
   -- and without one the ceiling is that of the figures and W.
-  pub check-priced : (w : ℕ) (a : Answer) → w ≡ weightOfContents ws contents → Priced base states progress w g a
-      → Checks (length ws) contents g passes CheckVariants.Good → OwedChecked passes base states progress ws contents g a
+  pub check-priced : (w : ℕ) (a : Answer) → w ≡ weightOfContents ws contents → Priced F n G w g a
+      → Checks (length ws) contents g passes CheckVariants.Good → OwedChecked passes F n G ws contents g a
   check-priced w a e p ok P end t =
-      subst (λ (x : ℕ). a ≡ quoted (base + states * x + progress * g) (classOf (base + states * x + progress * g))) e p
-      ∙ ap (quotedFor base states progress ws contents g) (ok P end t)
+      subst (λ (x : ℕ). a ≡ quoted (F + n * x + G * g) (classOf (F + n * x + G * g))) e p
+      ∙ ap (quotedFor F n G ws contents g) (ok P end t)
 
   -- What is owed after the checks: their fault, and for a plant what it is owed by its own.
-  checked-owed : (a : Answer) (P : Plant) (end : ℕ) → P .types ≡ length ws → OwedChecked passes base states progress ws contents g a
-      → (a ≡ quotedFor base states progress ws contents g (cond passes (found P end) (fault 22 0)) → Owed ws contents g a (found P end))
+  checked-owed : (a : Answer) (P : Plant) (end : ℕ) → P .types ≡ length ws → OwedChecked passes F n G ws contents g a
+      → (a ≡ quotedFor F n G ws contents g (cond passes (found P end) (fault 22 0)) → Owed ws contents g a (found P end))
       → Owed ws contents g a (checkedContents contents g P end)
   unfolding checkedContents checkedAmounts
   checked-owed a P end t given owed =
       go (eqb (length contents) (P .types)) (ltb (firstAbove 1000000 (amounts contents g)) (length (amounts contents g))) (given P end t)
     where
       go : (x y : Bool)
-          → a ≡ quotedFor base states progress ws contents g
+          → a ≡ quotedFor F n G ws contents g
           (andThen (cond x (cond y (fault 21 (firstAbove 1000000 (amounts contents g))) (found P end)) (fault 20 0)) (λ Q e. cond passes (found Q e) (fault 22 0)))
           → Owed ws contents g a (cond x (cond y (fault 21 (firstAbove 1000000 (amounts contents g))) (found P end)) (fault 20 0))
       go true true e = for-fault e
@@ -139,8 +139,8 @@ module _ (file ws contents : List ℕ) (g : ℕ) where
         let light : (t : ℕ) → t < x .0 .types → getD ws t 0 ≤ 1000 = λ t l. weights-fit file ws (x .0) (x .1) (x .2) .1 t in
         record {
           base-limit = rw (f .0) (base-limit (x .0) limits ws light);
-          states-limit = rw (f .1) (most-limit (x .0) limits);
-          progress-limit = rw (f .2) (per-progress-limit (x .0) limits ws light);
+          most-limit = rw (f .1) (most-limit (x .0) limits);
+          per-progress-limit = rw (f .2) (per-progress-limit (x .0) limits ws light);
         }
 
     -- and the ceiling made of them is the plant's,

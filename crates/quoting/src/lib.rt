@@ -143,11 +143,11 @@ fn contents_weight(weights: &[u16], contents: &[u32]) -> u64
 }
 
 // The ceiling F + n × W + G × g with its price class.
-fn price(base: u64, states: u64, progress: u64, weight: u64, g: u32) -> Quoted
-    requires { ⌜ FiguresFit base states progress × (weight ≤ 64000000000) × (g ≤ 1000000) ⌝ }
-    ensures { λ r. ⌜ Priced base states progress weight g (answerOf r) ⌝ }
+fn price(base: u64, most_states: u64, per_progress: u64, weight: u64, g: u32) -> Quoted
+    requires { ⌜ FiguresFit base «most_states» «per_progress» × (weight ≤ 64000000000) × (g ≤ 1000000) ⌝ }
+    ensures { λ r. ⌜ Priced base «most_states» «per_progress» weight g (answerOf r) ⌝ }
 {
-    let ceiling = base + states * weight + progress * g as u64;
+    let ceiling = base + most_states * weight + per_progress * g as u64;
     Quoted::Ceiling {
         ceiling,
         class: price_class(ceiling),
@@ -158,22 +158,22 @@ fn price(base: u64, states: u64, progress: u64, weight: u64, g: u32) -> Quoted
 fn quote_weighed(
     passes: bool,
     base: u64,
-    states: u64,
-    progress: u64,
+    most_states: u64,
+    per_progress: u64,
     weights: &[u16],
     contents: &[u32],
     g: u32,
 ) -> Quoted
-    requires { ⌜ FiguresFit base states progress × (length (now weights) ≤ 64) × AllAtMost 1000 (now weights) ⌝ }
-    ensures { λ r. ⌜ OwedChecked passes base states progress (now (weights .entry)) (now (contents .entry)) g (answerOf r) ⌝ }
+    requires { ⌜ FiguresFit base «most_states» «per_progress» × (length (now weights) ≤ 64) × AllAtMost 1000 (now weights) ⌝ }
+    ensures { λ r. ⌜ OwedChecked passes base «most_states» «per_progress» (now (weights .entry)) (now (contents .entry)) g (answerOf r) ⌝ }
 {
     let checked = check_numbers(weights.len(), contents, g, passes);
     match checked {
         Check::Fault(fault) => Quoted::Refused(fault),
         Check::Good => price(
             base,
-            states,
-            progress,
+            most_states,
+            per_progress,
             contents_weight(weights, contents),
             g,
         ),
@@ -190,8 +190,8 @@ pub fn quote(file: &[u8], weights: &[u16], contents: &[u32], g: u32) -> Quoted
         Verdict::Fails => quote_weighed(false, 0, 0, 0, weights, contents, g),
         Verdict::Passes {
             base,
-            states,
-            progress,
-        } => quote_weighed(true, base, states, progress, weights, contents, g),
+            most_states,
+            per_progress,
+        } => quote_weighed(true, base, most_states, per_progress, weights, contents, g),
     }
 }

@@ -8,7 +8,7 @@ ghost use Rattle.reading.specs.Inner.Counting.{Counted};
 use plant::End;
 use plant::Fault;
 use plant::FieldStep;
-use plant::RowStep;
+use plant_rows::RowStep;
 
 // Where reading ended, and how many rows were read; the count is of use where there is no fault.
 pub struct Checked {
@@ -36,7 +36,7 @@ fn check_rows(s: &[u8], n: usize, states: u8, types: u8) -> End
     let mut left = 0;
     let mut i = 0;
     while i < n {
-        let step = plant::row_at(s, at, states, types, left);
+        let step = plant_rows::row_at(s, at, states, types, left);
         match step {
             RowStep::Fault(fault) => {
                 return End::Fault(fault);

@@ -11,7 +11,6 @@ ghost use Rattle.deciding.specs.Rounds.{edgeGraph, EdgesIn, SomeZeroOrMore};
 ghost use Rattle.searching.specs.Searches.{origin, Halves, Low, Zeros, Cleared, Round, Noted, LeastFrom, Least, ShownRows};
 use deciding::relaxing::raised;
 use deciding::relaxing::rises;
-use deciding::wide;
 
 // The number that stands for the weight 0 in a table of walks; 0 stands for no walk.
 const ORIGIN: u64 = 1099511627776;
@@ -62,10 +61,10 @@ fn round(
 {
     let mut i = 0;
     while i < count {
-        let a = wide(from[i]);
+        let a = casts::index_u8(from[i]);
         let at = new + a;
         let here = walks[at];
-        let b = wide(to[i]);
+        let b = casts::index_u8(to[i]);
         let next = walks[old + b];
         let w = weight[i];
         if rises(here, next, w) {
@@ -183,9 +182,9 @@ pub fn show(
     let mut s = start;
     let mut i = 0;
     while i < k {
-        let e = wide(noted[(k - i - 1) * 64 + s]);
+        let e = casts::index_u8(noted[(k - i - 1) * 64 + s]);
         cycle[i] = row[e];
-        s = wide(to[e]);
+        s = casts::index_u8(to[e]);
         i += 1;
     }
     k

@@ -15,7 +15,8 @@ use Rattle.livelock.specs.Cycles.{Walk, leaves, enters, RowOf, firstLeft, Simpl
 use Rattle.livelock.proofs.ListLaws.{all-weaken, all-always, all-both, all-of-map, all-map-of, getD-replicate-default}
 use Rattle.livelock.proofs.Tests.{and-iff, both-iff, equal-iff, not-iff, simple-cycle-iff, quiet-iff}
 use Rattle.set_entries.specs.Sets.{isQuietCycleOf}
-use Rattle.set_entries.specs.Inner.Steps.{Columns, ColumnsOf, goesOn, leads}
+use Rattle.set_entries.specs.Entries.{Columns, ColumnsOf}
+use Rattle.set_entries.specs.Inner.Steps.{goesOn, leads}
 
 -- "a quiet simple cycle of that machine": the test of the definitions tells it.
 pub quiet-cycle-iff : (P : Plant) (m : ℕ) (c : List ℕ) → (isQuietCycleOf P m c ≡ true) ↔ (SimpleCycle P m c × Quiet P c)

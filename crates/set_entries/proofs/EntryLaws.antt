@@ -14,7 +14,8 @@ use Rattle.plant.specs.Found.{Found, found, fault, andThen}
 use Rattle.plant.specs.declared.End.{End}
 use Rattle.plant.specs.declared.End.the-variants as Ends
 use Rattle.set_entries.specs.Sets.{numberIn, rowsAt, isQuietCycleOf, entryEnds, entryAt}
-use Rattle.set_entries.specs.Inner.Steps.{valueFound, part, NumbersBelow, Columns, ColumnsOf, leads, firstNumbers, JudgedEnd, entryIn}
+use Rattle.set_entries.specs.Entries.{valueFound, part, NumbersBelow, Columns, ColumnsOf, entryIn}
+use Rattle.set_entries.specs.Inner.Steps.{leads, firstNumbers, JudgedEnd}
 use Rattle.set_entries.proofs.FoundLaws.{chained, three-stop, tested, value-same, place-same}
 use Rattle.set_entries.proofs.NumberLaws.{number-read, RowsRead, rows-read, part-length, part-below}
 use Rattle.set_entries.proofs.CycleTestLaws.{leads-is}

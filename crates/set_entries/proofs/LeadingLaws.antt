@@ -7,7 +7,8 @@ use native.Mathlib.Omega.{arith}
 use lib.Dec.{eqb}
 use lib.ListN as Cells
 use lib.ListN.{length, getD}
-use Rattle.set_entries.specs.Inner.Steps.{part, Columns, goesOn, leads}
+use Rattle.set_entries.specs.Entries.{part, Columns}
+use Rattle.set_entries.specs.Inner.Steps.{goesOn, leads}
 use Rattle.set_entries.proofs.NumberLaws.{part-first, part-empty}
 
 module _ (c : Columns) (set : List ℕ) (m goal s : ℕ) (seen : List Bool) (i end : ℕ) (x : Bool) (rest : leads c m goal s seen (part set i end) ≡ x) where

@@ -15,7 +15,7 @@ use Rattle.livelock.proofs.Tests.{both-iff, at-most-iff, less-iff}
 use Rattle.plant.specs.Found.{Found, found, fault, andThen}
 use Rattle.plant.specs.Reading.{inRange}
 use Rattle.set_entries.specs.Sets.{numberIn, rowsAt, entryBegins}
-use Rattle.set_entries.specs.Inner.Steps.{part, NumbersBelow}
+use Rattle.set_entries.specs.Entries.{part, NumbersBelow}
 use Rattle.set_entries.proofs.FoundLaws.{Chained, chained, tested, value-same, place-same, read-on}
 
 -- ---- where an entry begins

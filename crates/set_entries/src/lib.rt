@@ -4,7 +4,8 @@ ghost use mathlib.Core.Bool.{false};
 ghost use Prim.Native.Nat.{_+_, _-_, _^_, _≤_, _<_, min};
 ghost use lib.ListN.{length, getD, replicate};
 ghost use Rattle.set_entries.specs.Sets.{numberIn, rowsAt, entryBegins};
-ghost use Rattle.set_entries.specs.Inner.Steps.{valueFound, part, NumbersBelow, goesOn, leads, firstNumbers, JudgedEnd, JudgedEntry};
+ghost use Rattle.set_entries.specs.Entries.{valueFound, part, NumbersBelow, JudgedEntry};
+ghost use Rattle.set_entries.specs.Inner.Steps.{goesOn, leads, firstNumbers, JudgedEnd};
 use plant::End;
 use plant::Fault;
 

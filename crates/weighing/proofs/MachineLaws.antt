@@ -26,7 +26,7 @@ use Rattle.decoding.proofs.FirstRowLaws.{row-of-machine, machine-rows}
 use Rattle.deciding.specs.Signs.{rise, fall}
 use Rattle.edges.specs.Edges.{columnsOf, Edges, Has, Listed, RowsBetween}
 use Rattle.deciding.specs.Rounds.{AllBelowZero, Decided}
-use Rattle.weighing.specs.Inner.Checks.{graphOf}
+use Rattle.machines.specs.Machines.{graphOf}
 use Rattle.deciding.proofs.SignLaws.{rise-fall, difference-same}
 
 -- ---- edges and rows

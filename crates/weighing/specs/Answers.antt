@@ -14,7 +14,7 @@ pub data Answer : Type 0 where
 
 -- What an answer of `weigh` says.
 abbrev pub answerOf : Weighed → Answer
-answerOf (Variants.Passed base states progress) = passed base states progress
+answerOf (Variants.Passed F n G) = passed F n G
 answerOf (Variants.Cycle rows) = cycle rows
 answerOf (Variants.Refused f) = refused (f .number) (f .place)
 
@@ -30,6 +30,6 @@ pub data Judgement : Type 0 where
 
 -- What an answer of `judge` says.
 abbrev pub judgementOf : Verdict → Judgement
-judgementOf (Verdicts.Passes base states progress) = passing base states progress
+judgementOf (Verdicts.Passes F n G) = passing F n G
 judgementOf Verdicts.Fails = failing
 judgementOf (Verdicts.Refused f) = refusing (f .number) (f .place)

@@ -5,18 +5,17 @@ ghost use lib.ListN.{length};
 ghost use Rattle.weighing.specs.Answers.{answerOf, judgementOf};
 ghost use Rattle.weighing.specs.Weighing.{firstAbove, judgedWeights, judged, Owed, OwedVerdict};
 ghost use Rattle.edges.specs.Edges.{Room};
-ghost use Rattle.weighing.specs.Inner.Checks.{WeightsChecked, RoomChecked, Machines, FirstFailing, OwedJudged, JudgedFor};
+ghost use Rattle.machines.specs.Machines.{Machines};
+ghost use Rattle.weighing.specs.Inner.Checks.{WeightsChecked, RoomChecked, OwedJudged, JudgedFor};
 use plant::End;
 use plant::Fault;
-
-mod casts;
 
 // The answer of weighing: F, n and G, or how many rows are shown, or a fault.
 pub enum Weighed {
     Passed {
         base: u64,
-        states: u64,
-        progress: u64,
+        most_states: u64,
+        per_progress: u64,
     },
     Cycle {
         rows: usize,
@@ -28,17 +27,11 @@ pub enum Weighed {
 pub enum Verdict {
     Passes {
         base: u64,
-        states: u64,
-        progress: u64,
+        most_states: u64,
+        per_progress: u64,
     },
     Fails,
     Refused(Fault),
-}
-
-// The first machine with a cycle that weighs zero or more, or the count of machines if there is none, and how many edges that machine has.
-struct Failing {
-    machine: usize,
-    count: usize,
 }
 
 // A verdict. Where the weights do not pass: how many edges the first machine has that fails, and how many states.
@@ -114,52 +107,6 @@ fn check_room(end: End, room: usize) -> End
     }
 }
 
-// Lists the quiet rows of one machine after the other, up to the first machine with a cycle that weighs zero or more; its edges stay in the lists.
-fn first_failing(
-    left: &[u8; 1024],
-    entered: &[u8; 1024],
-    sent: &[u8; 1024],
-    taken: &[u8; 1024],
-    progress: &[bool; 1024],
-    first: &[u16; 17],
-    states: &[u8],
-    weights: &[u16],
-    from: &mut [u8; 256],
-    to: &mut [u8; 256],
-    weight: &mut [i64; 256],
-    row: &mut [u16; 256],
-) -> Failing
-    requires { ⌜ Machines (record { left = now left; entered = now entered; sent = now sent; taken = now taken; progress = now progress }) (now first) (now states) × Room (now from) (now to) (now weight) (now row) ⌝ }
-    ensures { λ r. ⌜ FirstFailing (record { left = now (left .entry); entered = now (entered .entry); sent = now (sent .entry); taken = now (taken .entry); progress = now (progress .entry) }) (now (first .entry)) (now (states .entry)) (now (weights .entry)) (r .machine) (record { count = r .count; from = now (from .exit); to = now (to .exit); weight = now (weight .exit); row = now (row .exit) }) ⌝ }
-{
-    let n = figures::most_states(states);
-    let mut m = 0;
-    while m < states.len() {
-        let low = casts::wide_row(first[m]);
-        let high = casts::wide_row(first[m + 1]);
-        let count = edges::edges_of(
-            left,
-            entered,
-            sent,
-            taken,
-            progress,
-            low,
-            high,
-            weights,
-            from,
-            to,
-            weight,
-            row,
-        );
-        if !deciding::decide(from, to, weight, count, casts::wide(states[m]), n) {
-            return Failing { machine: m, count };
-        }
-        m += 1;
-    }
-    let count = 0;
-    Failing { machine: m, count }
-}
-
 // Decides whether the weights pass the machines of lent columns. Where they do not, the edges of the first machine that fails stay in the lists.
 fn judge_columns(
     left: &[u8; 1024],
@@ -178,8 +125,7 @@ fn judge_columns(
     requires { ⌜ Machines (record { left = now left; entered = now entered; sent = now sent; taken = now taken; progress = now progress }) (now first) (now states) × (1 ≤ length (now states)) × Room (now from) (now to) (now weight) (now row) ⌝ }
     ensures { λ r. ⌜ JudgedFor (record { left = now (left .entry); entered = now (entered .entry); sent = now (sent .entry); taken = now (taken .entry); progress = now (progress .entry) }) (now (first .entry)) (now (states .entry)) (now (weights .entry)) (now (from .exit)) (now (to .exit)) (now (weight .exit)) (now (row .exit)) r ⌝ }
 {
-    let machines = states.len();
-    let failing = first_failing(
+    let failing = machines::first_failing(
         left,
         entered,
         sent,
@@ -194,18 +140,18 @@ fn judge_columns(
         row,
     );
     let m = failing.machine;
-    if m < machines {
+    if m < states.len() {
         return Judged {
             verdict: Verdict::Fails,
             count: failing.count,
-            states: casts::wide(states[m]),
+            states: casts::index_u8(states[m]),
         };
     }
     let figures = figures::figures_of(states, weights);
     let verdict = Verdict::Passes {
         base: figures.base,
-        states: figures.most_states,
-        progress: figures.per_progress,
+        most_states: figures.most_states,
+        per_progress: figures.per_progress,
     };
     without_edges(verdict)
 }
@@ -284,12 +230,12 @@ pub fn weigh(file: &[u8], weights: &[u16], cycle: &mut [u16]) -> Weighed
     match verdict {
         Verdict::Passes {
             base,
-            states,
-            progress,
+            most_states,
+            per_progress,
         } => Weighed::Passed {
             base,
-            states,
-            progress,
+            most_states,
+            per_progress,
         },
         Verdict::Fails => {
             let count = judged.count;

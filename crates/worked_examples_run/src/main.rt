@@ -34,12 +34,12 @@ fn weigh(title: &[u8], file: &[u8], weights: &[u16]) {
     match answer {
         Weighed::Passed {
             base,
-            states,
-            progress,
+            most_states,
+            per_progress,
         } => {
             printing::say_number(b"passed with F ", base);
-            printing::say_number(b", n ", states);
-            printing::say_number(b", G ", progress);
+            printing::say_number(b", n ", most_states);
+            printing::say_number(b", G ", per_progress);
         }
         Weighed::Cycle { rows } => {
             printing::say(b"not passed, shown are the rows");

@@ -20,14 +20,14 @@ loop-holds : tie.Need-loop-holds Inv-loop μ-loop
 unfolding figures
 loop-holds c = search needs
 
-mul-wide : tie.Need-mul-wide Inv-loop μ-loop
-mul-wide c = search needs
+mul-figure-u16 : tie.Need-mul-figure-u16 Inv-loop μ-loop
+mul-figure-u16 c = search needs
 
-shared-slice-read-wide : tie.Need-shared-slice-read-wide Inv-loop μ-loop
-shared-slice-read-wide c = search needs
+shared-slice-read-figure-u16 : tie.Need-shared-slice-read-figure-u16 Inv-loop μ-loop
+shared-slice-read-figure-u16 c = search needs
 
-wide-requires : tie.Need-wide-requires Inv-loop μ-loop
-wide-requires c κs = search needs
+figure-u16-requires : tie.Need-figure-u16-requires Inv-loop μ-loop
+figure-u16-requires c κs = search needs
 
 mul-numbers : tie.Need-mul-numbers Inv-loop μ-loop
 mul-numbers c = search needs
@@ -48,8 +48,8 @@ loop-again c =
     let p = c .before .before .before .before .before .pre in (
       omega (arith, h),
       simp length-set (t .inv .1),
-      stored-next (c .before .before .before .before .before .args .cycle .now) (t .numbers) (t .i) (c .wide .result) (omega (arith, h, p .0, p .1)) (omega (arith, h, p .0, t .inv .1)) (c .wide .ensures .0) (t .inv .2),
-      rows-short (t .numbers) (t .i) (c .wide .result) (omega (arith, h, p .0, t .inv .1)) (c .wide .ensures .1) (t .inv .3),
+      stored-next (c .before .before .before .before .before .args .cycle .now) (t .numbers) (t .i) (c .figure-u16 .result) (omega (arith, h, p .0, p .1)) (omega (arith, h, p .0, t .inv .1)) (c .figure-u16 .ensures .0) (t .inv .2),
+      rows-short (t .numbers) (t .i) (c .figure-u16 .result) (omega (arith, h, p .0, t .inv .1)) (c .figure-u16 .ensures .1) (t .inv .3),
     )
 
 returns : tie.Need-returns Inv-loop μ-loop
@@ -66,9 +66,9 @@ widened-spec =
     Inv-loop
     μ-loop
     loop-holds
-    mul-wide
-    shared-slice-read-wide
-    wide-requires
+    mul-figure-u16
+    shared-slice-read-figure-u16
+    figure-u16-requires
     mul-numbers
     array-write-numbers
     add-i

@@ -7,9 +7,11 @@ use Prim.Native.Nat.{ℕ, suc, _-_, _<_, _≤_}
 use native.Mathlib.Omega.{arith}
 use lib.ListN.{length, getD, set, take, length-set}
 use Rattle.cycle_paths.specs.Cycles.{unleft}
-use Rattle.cycle_paths.specs.Inner.Ranges.{column}
-use Rattle.cycle_paths.specs.Inner.Filling.{marksOf, PathKept}
-use Rattle.cycle_paths.proofs.MarkLaws.{marks-length, unleft-falls}
+use Rattle.state_marks.specs.Marks.{column}
+use Rattle.state_marks.specs.Marks.{marksOf}
+use Rattle.cycle_paths.specs.Inner.Extending.{PathKept}
+use Rattle.state_marks.proofs.MarkLaws.{marks-length}
+use Rattle.cycle_paths.proofs.MarkLaws.{unleft-falls}
 use Rattle.cycle_paths.proofs.ExtensionLaws.{enter-unleft, Extending, extending-begins, extending-named, extending-stops, extending-ends, extending-skip, extending-close, extending-enter, closed-unleft, path-kept}
 use borrow.Fn.Kinds.{In}
 use borrow.Fn.PlainCycle.{Measures, is, falls, and}
@@ -18,9 +20,9 @@ use Rattle.cycle_paths.proofs.extend.Kinds as extend-kinds
 use Rattle.cycle_paths.proofs.+extend.Lts-extend as extend-lts
 use Rattle.cycle_paths.proofs.add_cycle.Reads as add-cycle-reads
 use Rattle.cycle_paths.proofs.step_of.Reads as step-of-reads
-use Rattle.cycle_paths.proofs.wide.Reads as wide-reads
-use Rattle.cycle_paths.proofs.with_left.Reads as with-left-reads
-use Rattle.cycle_paths.proofs.after_leaving.Reads as after-leaving-reads
+use Rattle.casts.proofs.index_u16.Reads as index-u16-reads
+use Rattle.state_marks.proofs.with_left.Reads as with-left-reads
+use Rattle.state_marks.proofs.after_leaving.Reads as after-leaving-reads
 use Rattle.cycle_paths.proofs.+extend.{statement}
 use Rattle.cycle_paths.proofs.+extend.Tie.{close}
 
@@ -36,7 +38,7 @@ extend-below t = and 3 extend-kinds.ps (falls 3 extend-kinds.ps _<_ μ-extend t)
 -- What the functions that are called, this one among them, ask and give.
 abbrev claims : ℕ → extend-lts.Claims
 claims t =
-    (step-of-reads.Asked, step-of-reads.Learnt, add-cycle-reads.Asked, add-cycle-reads.Learnt, wide-reads.Asked, wide-reads.Learnt, with-left-reads.Asked, with-left-reads.Learnt, after-leaving-reads.Asked, after-leaving-reads.Learnt, extend-below t, extend.Post)
+    (step-of-reads.Asked, step-of-reads.Learnt, add-cycle-reads.Asked, add-cycle-reads.Learnt, index-u16-reads.Asked, index-u16-reads.Learnt, with-left-reads.Asked, with-left-reads.Learnt, after-leaving-reads.Asked, after-leaving-reads.Learnt, extend-below t, extend.Post)
 
 abbrev extend-Inv-loop : extend-lts.InvT-loop
 extend-Inv-loop entered next head into last start marks path₀ depth low high out₀ pos limit used₀ k₀ path out used k =
@@ -109,17 +111,17 @@ entering t c =
     let l : c .before .step .given .0 .0 < 24 = omega (arith, e .0, state-in t (c .before .before .before .before .before)) in
     (l, unleft-falls _ _ (omega (arith, l, marks-length 24 (c .before .before .before .before .before .before .before .before .args .marks))) (e .1))
 
-extend-cast-wide : (t : ℕ) → extend-lts.Need-cast-wide (claims t) (extend-at t) extend.Post extend-Inv-loop extend-μ-loop
-extend-cast-wide t c = omega (arith, entering t c .0)
+extend-cast-index-u16 : (t : ℕ) → extend-lts.Need-cast-index-u16 (claims t) (extend-at t) extend.Post extend-Inv-loop extend-μ-loop
+extend-cast-index-u16 t c = omega (arith, entering t c .0)
 
-extend-mul-wide : (t : ℕ) → extend-lts.Need-mul-wide (claims t) (extend-at t) extend.Post extend-Inv-loop extend-μ-loop
-extend-mul-wide t c = omega (arith, entering t c .0)
+extend-mul-index-u16 : (t : ℕ) → extend-lts.Need-mul-index-u16 (claims t) (extend-at t) extend.Post extend-Inv-loop extend-μ-loop
+extend-mul-index-u16 t c = omega (arith, entering t c .0)
 
-extend-element-copy-out-wide : (t : ℕ) → extend-lts.Need-element-copy-out-wide (claims t) (extend-at t) extend.Post extend-Inv-loop extend-μ-loop
-extend-element-copy-out-wide t c = entering t c .0
+extend-element-copy-out-index-u16 : (t : ℕ) → extend-lts.Need-element-copy-out-index-u16 (claims t) (extend-at t) extend.Post extend-Inv-loop extend-μ-loop
+extend-element-copy-out-index-u16 t c = entering t c .0
 
-extend-wide-requires : (t : ℕ) → extend-lts.Need-wide-requires (claims t) (extend-at t) extend.Post extend-Inv-loop extend-μ-loop
-extend-wide-requires t c κs = search needs
+extend-index-u16-requires : (t : ℕ) → extend-lts.Need-index-u16-requires (claims t) (extend-at t) extend.Post extend-Inv-loop extend-μ-loop
+extend-index-u16-requires t c κs = search needs
 
 extend-with-left-requires : (t : ℕ) → extend-lts.Need-with-left-requires (claims t) (extend-at t) extend.Post extend-Inv-loop extend-μ-loop
 extend-with-left-requires t c κs = entering t (c .before .before) .0
@@ -146,7 +148,7 @@ extend-extend-requires t c κs =
     let g = so-far t (c .before .before .before .before .before .before .before .before .before .before .before .before) in
     let f = entering t (c .before .before .before .before .before .before) .1 in
     let h = p .links .head-in (c .before .before .before .before .before .before .before .step .given .0 .0) (entering t (c .before .before .before .before .before .before) .0) in
-    let e = c .before .before .before .before .wide .ensures in
+    let e = c .before .before .before .before .index-u16 .ensures in
     let marked = ap unleft (c .before .before .before .with-left .ensures) in
     let closed = closed-unleft _ _ (c .before .before .before .with-left .result) (c .before .before .after-leaving .result) (c .before .before .after-leaving .ensures) in (
       omega (arith, b .pre .0, f, marked, closed),
@@ -168,19 +170,19 @@ extend-extend-requires t c κs =
       },
     )
 
-extend-mul-wide-2 : (t : ℕ) → extend-lts.Need-mul-wide-2 (claims t) (extend-at t) extend.Post extend-Inv-loop extend-μ-loop
-extend-mul-wide-2 t c = omega (arith, row-in t (c .before .before .before) .1, c .before .before .before .before .before .before .pre .1 .enter .few)
+extend-mul-index-u16-2 : (t : ℕ) → extend-lts.Need-mul-index-u16-2 (claims t) (extend-at t) extend.Post extend-Inv-loop extend-μ-loop
+extend-mul-index-u16-2 t c = omega (arith, row-in t (c .before .before .before) .1, c .before .before .before .before .before .before .pre .1 .enter .few)
 
-extend-element-copy-out-wide-2 : (t : ℕ) → extend-lts.Need-element-copy-out-wide-2 (claims t) (extend-at t) extend.Post extend-Inv-loop extend-μ-loop
-extend-element-copy-out-wide-2 t c = omega (arith, row-in t (c .before .before .before) .1, c .before .before .before .before .before .before .pre .1 .enter .few)
+extend-element-copy-out-index-u16-2 : (t : ℕ) → extend-lts.Need-element-copy-out-index-u16-2 (claims t) (extend-at t) extend.Post extend-Inv-loop extend-μ-loop
+extend-element-copy-out-index-u16-2 t c = omega (arith, row-in t (c .before .before .before) .1, c .before .before .before .before .before .before .pre .1 .enter .few)
 
-extend-wide-requires-2 : (t : ℕ) → extend-lts.Need-wide-requires-2 (claims t) (extend-at t) extend.Post extend-Inv-loop extend-μ-loop
-extend-wide-requires-2 t c κs = search needs
+extend-index-u16-requires-2 : (t : ℕ) → extend-lts.Need-index-u16-requires-2 (claims t) (extend-at t) extend.Post extend-Inv-loop extend-μ-loop
+extend-index-u16-requires-2 t c κs = search needs
 
 extend-loop-less : (t : ℕ) → extend-lts.Need-loop-less (claims t) (extend-at t) extend.Post extend-Inv-loop extend-μ-loop
 extend-loop-less t c =
     let r = row-in t (c .before .before .before .before .before) in
-    omega (arith, c .wide2 .ensures, c .before .before .before .before .before .loop-test .taken, c .before .before .before .before .before .before .before .before .pre .1 .links .next-later _ (r .0) (r .1))
+    omega (arith, c .index-u162 .ensures, c .before .before .before .before .before .loop-test .taken, c .before .before .before .before .before .before .before .before .pre .1 .links .next-later _ (r .0) (r .1))
 
 extend-loop-again : (t : ℕ) → extend-lts.Need-loop-again (claims t) (extend-at t) extend.Post extend-Inv-loop extend-μ-loop
 extend-loop-again t c =
@@ -191,9 +193,9 @@ extend-loop-again t c =
     let kept = l .inv .1 in
     let h = c .before .before .before .before .before .loop-test .taken in
     let step = c .before .before .before .step-of .ensures in
-    let next = c .wide2 .ensures in
+    let next = c .index-u162 .ensures in
     let r = row-in t (c .before .before .before .before .before) in
-    let low : a .low ≤ c .wide2 .result = omega (arith, l .inv .0, next, p .links .next-later (l .k) (r .0) (r .1)) in
+    let low : a .low ≤ c .index-u162 .result = omega (arith, l .inv .0, next, p .links .next-later (l .k) (r .0) (r .1)) in
     ⊎-elim
     (λ w. (
       low,
@@ -236,10 +238,10 @@ pub +extend-spec : {M : Type 1} → statement M
     (extend-cast-add-cycle t)
     (extend-add-cycle-requires t)
     (extend-enum-known-step t)
-    (extend-cast-wide t)
-    (extend-mul-wide t)
-    (extend-element-copy-out-wide t)
-    (extend-wide-requires t)
+    (extend-cast-index-u16 t)
+    (extend-mul-index-u16 t)
+    (extend-element-copy-out-index-u16 t)
+    (extend-index-u16-requires t)
     (extend-with-left-requires t)
     (extend-after-leaving-requires t)
     (extend-cast-path t)
@@ -247,9 +249,9 @@ pub +extend-spec : {M : Type 1} → statement M
     (extend-element-write-path t)
     (extend-add-extend t)
     (extend-extend-requires t)
-    (extend-mul-wide-2 t)
-    (extend-element-copy-out-wide-2 t)
-    (extend-wide-requires-2 t)
+    (extend-mul-index-u16-2 t)
+    (extend-element-copy-out-index-u16-2 t)
+    (extend-index-u16-requires-2 t)
     (extend-loop-less t)
     (extend-loop-again t)
     (extend-same-length-2 t)

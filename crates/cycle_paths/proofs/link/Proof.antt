@@ -4,8 +4,8 @@ use mathlib.Core.Path.{_≡_, refl}
 use Prim.Native.Nat.{_-_, _<_, _≤_}
 use native.Mathlib.Omega.{arith}
 use lib.ListN.{length, length-set, replicate}
-use Rattle.cycle_paths.specs.Inner.Filling.{Linked}
-use Rattle.cycle_paths.specs.Inner.Ranges.{column}
+use Rattle.cycle_paths.specs.Rows.{Linked}
+use Rattle.state_marks.specs.Marks.{column}
 use Rattle.cycle_paths.proofs.LinkLaws.{linked-none, linked-down}
 use Rattle.cycle_paths.proofs.link.Statement.{statement}
 use Rattle.cycle_paths.proofs.link.Tie as tie

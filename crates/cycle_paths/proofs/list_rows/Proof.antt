@@ -5,9 +5,9 @@ use Prim.Native.Nat.{_-_, _≤_, _<_}
 use native.Mathlib.Omega.{arith}
 use lib.ListN.{length}
 use Rattle.cycle_paths.specs.Cycles.{cyclesThrough}
-use Rattle.cycle_paths.specs.Inner.Ranges.{column}
-use Rattle.cycle_paths.specs.Inner.Filling.{marksOf}
-use Rattle.cycle_paths.proofs.MarkLaws.{marks-length}
+use Rattle.state_marks.specs.Marks.{column}
+use Rattle.state_marks.specs.Marks.{marksOf}
+use Rattle.state_marks.proofs.MarkLaws.{marks-length}
 use Rattle.cycle_paths.proofs.FillingLaws.{Adding, adding-begins, adding-part, adding-ends}
 use Rattle.cycle_paths.proofs.ExtensionLaws.{closed-first, unleft-few, entriesFrom, entries-closed, entries-end}
 use Rattle.cycle_paths.proofs.list_rows.Statement.{statement}

@@ -3,7 +3,7 @@ use borrow.Author.Needs.{needs}
 use mathlib.Core.Path.{sym, _∙_}
 use borrow.Author.Tests.{eq-eqb, ne-eqb, lt-ltb, le-ltb}
 use native.Mathlib.Omega.{arith}
-use Rattle.cycle_paths.specs.Inner.Ranges.{column}
+use Rattle.state_marks.specs.Marks.{column}
 use Rattle.cycle_paths.proofs.step_of.Statement.{statement}
 use Rattle.cycle_paths.proofs.step_of.Tie as tie
 

@@ -5,7 +5,7 @@ use native.Mathlib.Nat.{le-refl}
 use native.Mathlib.Omega.{arith}
 use lib.ListN.{length, getD}
 use lib.IntN.{pos, natAbs}
-use Rattle.set_entries.specs.Inner.Steps.{part}
+use Rattle.set_entries.specs.Entries.{part}
 use Rattle.cycle_sets.specs.Inner.Sums.{Added}
 use Rattle.set_entries.proofs.NumberLaws.{part-next, part-empty, part-length}
 use Rattle.cycle_sets.proofs.SizeLaws.{size-fits, size-neg, times-is, less-fits, less-is}

@@ -6,7 +6,7 @@ use Rattle.plant.specs.Found.{found}
 use Rattle.decoding.specs.Tables.{plantOf}
 use Rattle.plant.proofs.Told.{told}
 use Rattle.set_entries.specs.Sets.{entryBegins, entryAt}
-use Rattle.set_entries.specs.Inner.Steps.{valueFound, entryIn}
+use Rattle.set_entries.specs.Entries.{valueFound, entryIn}
 use Rattle.cycle_sets.proofs.TableLaws.{columns-of, machines-are}
 use Rattle.cycle_sets.proofs.SetLaws.{Going, begun, no-entry, more, entry-stops, read, rows-small, turn, finished}
 use borrow.Author.Needs.{needs}

@@ -21,20 +21,20 @@ abbrev μ-loop : tie.MeasureT-loop
 μ-loop from to weight count states n heights₀ last₀ i₀ heights last i = count - i
 
 -- Both states of an edge have a height.
-left-low : (c : tie.After-wide Inv-loop μ-loop) → c .wide .result < 64
-left-low c = let ok = c .before .before .before .before .pre .0 in omega (arith, c .wide .ensures, ok .from-in (c .before .before .before .loop .i) (c .before .before .loop-test .taken), ok .states-in)
+left-low : (c : tie.After-index-u8 Inv-loop μ-loop) → c .index-u8 .result < 64
+left-low c = let ok = c .before .before .before .before .pre .0 in omega (arith, c .index-u8 .ensures, ok .from-in (c .before .before .before .loop .i) (c .before .before .loop-test .taken), ok .states-in)
 
-entered-low : (c : tie.After-wide2 Inv-loop μ-loop) → c .wide2 .result < 64
-entered-low c = let ok = c .before .before .before .before .before .before .before .pre .0 in omega (arith, c .wide2 .ensures, ok .to-in (c .before .before .before .before .before .before .loop .i) (c .before .before .before .before .before .loop-test .taken), ok .states-in)
+entered-low : (c : tie.After-index-u82 Inv-loop μ-loop) → c .index-u82 .result < 64
+entered-low c = let ok = c .before .before .before .before .before .before .before .pre .0 in omega (arith, c .index-u82 .ensures, ok .to-in (c .before .before .before .before .before .before .loop .i) (c .before .before .before .before .before .loop-test .taken), ok .states-in)
 
 loop-holds : tie.Need-loop-holds Inv-loop μ-loop
 loop-holds c = (search needs, pass-starts _ (c .args .heights .now))
 
-element-copy-out-wide : tie.Need-element-copy-out-wide Inv-loop μ-loop
-element-copy-out-wide c = search needs
+element-copy-out-index-u8 : tie.Need-element-copy-out-index-u8 Inv-loop μ-loop
+element-copy-out-index-u8 c = search needs
 
-wide-requires : tie.Need-wide-requires Inv-loop μ-loop
-wide-requires c κs = search needs
+index-u8-requires : tie.Need-index-u8-requires Inv-loop μ-loop
+index-u8-requires c κs = search needs
 
 mul-height : tie.Need-mul-height Inv-loop μ-loop
 mul-height c = record { fits = omega (arith, left-low c) }
@@ -42,11 +42,11 @@ mul-height c = record { fits = omega (arith, left-low c) }
 element-copy-out-height : tie.Need-element-copy-out-height Inv-loop μ-loop
 element-copy-out-height c = left-low c
 
-element-copy-out-wide-2 : tie.Need-element-copy-out-wide-2 Inv-loop μ-loop
-element-copy-out-wide-2 c = search needs
+element-copy-out-index-u8-2 : tie.Need-element-copy-out-index-u8-2 Inv-loop μ-loop
+element-copy-out-index-u8-2 c = search needs
 
-wide-requires-2 : tie.Need-wide-requires-2 Inv-loop μ-loop
-wide-requires-2 c κs = search needs
+index-u8-requires-2 : tie.Need-index-u8-requires-2 Inv-loop μ-loop
+index-u8-requires-2 c κs = search needs
 
 mul-row-length : tie.Need-mul-row-length Inv-loop μ-loop
 mul-row-length c = search needs
@@ -80,7 +80,7 @@ rises-requires c κs =
     let long = rw fit at (c .before .row-length .ensures) in
     let short = length-low (a .n) (getD (a .weight .now) (l .i) (pos 0)) (start .pre .1) (ok .rise-in (l .i) there) (ok .fall-in (l .i) there) in
     let low = pass-low (a .n) (a .count) (a .states) (a .from .now) (a .to .now) (a .weight .now) ok (start .pre .1) (l .i) there (a .heights .now) (l .heights) (l .last) (l .inv .1) (start .pre .3) in
-    (omega (arith, low (c .before .before .before .before .before .before .wide .result)), low (c .before .before .before .wide2 .result), rw (made, long) (short .0), rw (made, long) (short .1))
+    (omega (arith, low (c .before .before .before .before .before .before .index-u8 .result)), low (c .before .before .before .index-u82 .result), rw (made, long) (short .0), rw (made, long) (short .1))
 
 raised-requires : tie.Need-raised-requires Inv-loop μ-loop
 raised-requires c κs = rises-requires (c .before .before) κs
@@ -103,8 +103,8 @@ loop-again c =
     let a = start .args in
     let l = c .before .before .before .before .before .before .before .before .before .before .before .loop in
     let there = c .before .before .before .before .before .before .before .before .before .before .loop-test .taken in
-    let left = c .before .before .before .before .before .before .before .before .wide .ensures in
-    let entered = c .before .before .before .before .before .wide2 .ensures in
+    let left = c .before .before .before .before .before .before .before .before .index-u8 .ensures in
+    let entered = c .before .before .before .before .before .index-u82 .ensures in
     let fit = toZ-ofZ {w = w64} {z = getD (a .weight .now) (l .i) (pos 0)} (record { sfits = c .before .before .before .before .row-length-arg .given }) in
     let made = toZ-ofZ {w = w64} {z = c .before .before .before .row-length .result} (record { sfits = c .before .before .before .row-length .ok }) in
     let long = rw fit at (c .before .before .before .row-length .ensures) in
@@ -129,12 +129,12 @@ relax-spec =
     Inv-loop
     μ-loop
     loop-holds
-    element-copy-out-wide
-    wide-requires
+    element-copy-out-index-u8
+    index-u8-requires
     mul-height
     element-copy-out-height
-    element-copy-out-wide-2
-    wide-requires-2
+    element-copy-out-index-u8-2
+    index-u8-requires-2
     mul-row-length
     element-copy-out-row-length
     row-length-requires

@@ -8,7 +8,7 @@ use native.Mathlib.Omega.{arith}
 use Rattle.plant.specs.Found.{found}
 use Rattle.plant.specs.Reading.{readRows}
 use Rattle.decoding.specs.Tables.{Columns, plantIn, columns, Room}
-use Rattle.plant.specs.Steps.{rowFound}
+use Rattle.plant_rows.specs.Rows.{rowFound}
 use Rattle.plant.proofs.Told.{told}
 use Rattle.decoding.proofs.TableLaws.{room-kept, with-row}
 use Rattle.plant.proofs.RowLaws.{row-stops, row-goes-on, rows-done}

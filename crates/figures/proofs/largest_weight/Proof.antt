@@ -18,14 +18,14 @@ abbrev μ-loop : tie.MeasureT-loop
 loop-holds : tie.Need-loop-holds Inv-loop μ-loop
 loop-holds c = (zero-le, sym (greatest-none _))
 
-mul-word : tie.Need-mul-word Inv-loop μ-loop
-mul-word c = search needs
+mul-figure-u16 : tie.Need-mul-figure-u16 Inv-loop μ-loop
+mul-figure-u16 c = search needs
 
-shared-slice-read-word : tie.Need-shared-slice-read-word Inv-loop μ-loop
-shared-slice-read-word c = search needs
+shared-slice-read-figure-u16 : tie.Need-shared-slice-read-figure-u16 Inv-loop μ-loop
+shared-slice-read-figure-u16 c = search needs
 
-word-requires : tie.Need-word-requires Inv-loop μ-loop
-word-requires c κs = search needs
+figure-u16-requires : tie.Need-figure-u16-requires Inv-loop μ-loop
+figure-u16-requires c κs = search needs
 
 larger-requires : tie.Need-larger-requires Inv-loop μ-loop
 larger-requires c κs = search needs
@@ -40,7 +40,7 @@ loop-again : tie.Need-loop-again Inv-loop μ-loop
 loop-again c =
     let l = c .before .before .before .before .loop in
     let weights = c .before .before .before .before .before .before .args .weights .now in
-    (omega arith, omega (arith, c .larger .ensures, c .before .word .ensures, l .inv .1, greatest-turn (λ i. getD weights i 0) (l .t)))
+    (omega arith, omega (arith, c .larger .ensures, c .before .figure-u16 .ensures .0, l .inv .1, greatest-turn (λ i. getD weights i 0) (l .t)))
 
 returns : tie.Need-returns Inv-loop μ-loop
 returns c =
@@ -55,9 +55,9 @@ largest-weight-spec =
     Inv-loop
     μ-loop
     loop-holds
-    mul-word
-    shared-slice-read-word
-    word-requires
+    mul-figure-u16
+    shared-slice-read-figure-u16
+    figure-u16-requires
     larger-requires
     add-t
     loop-less

@@ -18,11 +18,11 @@ abbrev μ-loop : tie.MeasureT-loop
 loop-holds : tie.Need-loop-holds Inv-loop μ-loop
 loop-holds c = (zero-le, sym (greatest-none _))
 
-shared-slice-read-byte : tie.Need-shared-slice-read-byte Inv-loop μ-loop
-shared-slice-read-byte c = search needs
+shared-slice-read-figure-u8 : tie.Need-shared-slice-read-figure-u8 Inv-loop μ-loop
+shared-slice-read-figure-u8 c = search needs
 
-byte-requires : tie.Need-byte-requires Inv-loop μ-loop
-byte-requires c κs = search needs
+figure-u8-requires : tie.Need-figure-u8-requires Inv-loop μ-loop
+figure-u8-requires c κs = search needs
 
 larger-requires : tie.Need-larger-requires Inv-loop μ-loop
 larger-requires c κs = search needs
@@ -37,7 +37,7 @@ loop-again : tie.Need-loop-again Inv-loop μ-loop
 loop-again c =
     let l = c .before .before .before .before .loop in
     let states = c .before .before .before .before .before .before .args .states .now in
-    (omega arith, omega (arith, c .larger .ensures, c .before .byte .ensures, l .inv .1, greatest-turn (λ i. getD states i 0) (l .m)))
+    (omega arith, omega (arith, c .larger .ensures, c .before .figure-u8 .ensures, l .inv .1, greatest-turn (λ i. getD states i 0) (l .m)))
 
 returns : tie.Need-returns Inv-loop μ-loop
 returns c =
@@ -52,8 +52,8 @@ most-states-spec =
     Inv-loop
     μ-loop
     loop-holds
-    shared-slice-read-byte
-    byte-requires
+    shared-slice-read-figure-u8
+    figure-u8-requires
     larger-requires
     add-m
     loop-less

@@ -34,32 +34,32 @@ returns-2 c =
     let within = c .before .before .before .if1 .left in
     λ end. refusal 13 0 _ (refuse-states m (length before) (plantOf t) end (omega (arith, within, machines-counted t (b .pre .0 .sound))) (omega (arith, c .before .if2 .taken, states-are t m (omega (arith, within))))) before (c .refused2 .result) (c .refused2 .ensures)
 
-mul-wide : tie.Need-mul-wide
-mul-wide c = record { fits = omega (arith, c .before .before .if1 .left, c .before .before .before .before .pre .0 .sound .few-machines) }
+mul-index-u16 : tie.Need-mul-index-u16
+mul-index-u16 c = record { fits = omega (arith, c .before .before .if1 .left, c .before .before .before .before .pre .0 .sound .few-machines) }
 
-element-copy-out-wide : tie.Need-element-copy-out-wide
-element-copy-out-wide c = omega (arith, c .before .before .if1 .left, c .before .before .before .before .pre .0 .sound .few-machines)
+element-copy-out-index-u16 : tie.Need-element-copy-out-index-u16
+element-copy-out-index-u16 c = omega (arith, c .before .before .if1 .left, c .before .before .before .before .pre .0 .sound .few-machines)
 
-wide-requires : tie.Need-wide-requires
-wide-requires c κs = search needs
+index-u16-requires : tie.Need-index-u16-requires
+index-u16-requires c κs = search needs
 
-add-wide : tie.Need-add-wide
-add-wide c = record { fits = omega (arith, c .before .before .before .before .if1 .left, c .before .before .before .before .before .before .pre .0 .sound .few-machines) }
+add-index-u16 : tie.Need-add-index-u16
+add-index-u16 c = record { fits = omega (arith, c .before .before .before .before .if1 .left, c .before .before .before .before .before .before .pre .0 .sound .few-machines) }
 
-mul-wide-2 : tie.Need-mul-wide-2
-mul-wide-2 c = record { fits = omega (arith, c .before .before .before .before .if1 .left, c .before .before .before .before .before .before .pre .0 .sound .few-machines) }
+mul-index-u16-2 : tie.Need-mul-index-u16-2
+mul-index-u16-2 c = record { fits = omega (arith, c .before .before .before .before .if1 .left, c .before .before .before .before .before .before .pre .0 .sound .few-machines) }
 
-element-copy-out-wide-2 : tie.Need-element-copy-out-wide-2
-element-copy-out-wide-2 c = omega (arith, c .before .before .before .before .if1 .left, c .before .before .before .before .before .before .pre .0 .sound .few-machines)
+element-copy-out-index-u16-2 : tie.Need-element-copy-out-index-u16-2
+element-copy-out-index-u16-2 c = omega (arith, c .before .before .before .before .if1 .left, c .before .before .before .before .before .before .pre .0 .sound .few-machines)
 
-wide-requires-2 : tie.Need-wide-requires-2
-wide-requires-2 c κs = search needs
+index-u16-requires-2 : tie.Need-index-u16-requires-2
+index-u16-requires-2 c κs = search needs
 
 sub-if3 : tie.Need-sub-if3
 sub-if3 c =
     let b = c .before .before .before .before .before .before .before .before in
     let range = rows-range (b .args .t1) (b .pre .0) (b .pre .1) (b .args .machine) (omega (arith, c .before .before .before .before .before .before .if1 .left)) in
-    omega (arith, range .0, c .wide2 .ensures, c .before .before .wide .ensures)
+    omega (arith, range .0, c .index-u162 .ensures, c .before .before .index-u16 .ensures)
 
 refused-requires-3 : tie.Need-refused-requires-3
 refused-requires-3 c κs = search needs
@@ -72,7 +72,7 @@ returns-3 c =
     let before = b .args .out .now in
     let within = c .before .before .before .before .before .before .before .before .if1 .left in
     let range = rows-range t (b .pre .0) (b .pre .1) m (omega (arith, within)) in
-    λ end. refusal 13 0 _ (refuse-rows m (length before) (plantOf t) end (omega (arith, within, machines-counted t (b .pre .0 .sound))) (omega (arith, c .before .if3 .taken, range .2, c .before .before .before .before .wide .ensures, c .before .before .wide2 .ensures))) before (c .refused3 .result) (c .refused3 .ensures)
+    λ end. refusal 13 0 _ (refuse-rows m (length before) (plantOf t) end (omega (arith, within, machines-counted t (b .pre .0 .sound))) (omega (arith, c .before .if3 .taken, range .2, c .before .before .before .before .index-u16 .ensures, c .before .before .index-u162 .ensures))) before (c .refused3 .result) (c .refused3 .ensures)
 
 list-machine-requires : tie.Need-list-machine-requires
 list-machine-requires c κs =
@@ -94,7 +94,7 @@ returns-4 c =
     let within = c .before .before .before .before .before .before .before .before .before .before .before .if1 .left in
     let range = rows-range t (b .pre .0) (b .pre .1) m (omega (arith, within)) in
     λ end.
-    answers-same (refuse-none m (length before) (plantOf t) end (omega (arith, within, machines-counted t (b .pre .0 .sound))) (omega (arith, c .before .before .before .before .before .before .before .before .before .if2 .left, states-are t m (omega (arith, within)))) (omega (arith, c .before .before .before .before .if3 .left, range .2, c .before .before .before .before .before .before .before .wide .ensures, c .before .before .before .before .before .wide2 .ensures))) (c .before .before .list-machine .ensures end)
+    answers-same (refuse-none m (length before) (plantOf t) end (omega (arith, within, machines-counted t (b .pre .0 .sound))) (omega (arith, c .before .before .before .before .before .before .before .before .before .if2 .left, states-are t m (omega (arith, within)))) (omega (arith, c .before .before .before .before .if3 .left, range .2, c .before .before .before .before .before .before .before .index-u16 .ensures, c .before .before .before .before .before .index-u162 .ensures))) (c .before .before .list-machine .ensures end)
 
 pub list-checked-spec : {M : Type 1} → statement M
 list-checked-spec =
@@ -105,13 +105,13 @@ list-checked-spec =
     element-copy-out-if2
     refused-requires-2
     returns-2
-    mul-wide
-    element-copy-out-wide
-    wide-requires
-    add-wide
-    mul-wide-2
-    element-copy-out-wide-2
-    wide-requires-2
+    mul-index-u16
+    element-copy-out-index-u16
+    index-u16-requires
+    add-index-u16
+    mul-index-u16-2
+    element-copy-out-index-u16-2
+    index-u16-requires-2
     sub-if3
     refused-requires-3
     returns-3

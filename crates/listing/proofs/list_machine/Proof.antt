@@ -10,31 +10,31 @@ use Rattle.listing.proofs.AnswerLaws.{left-in, entered-in, entries-are,
 use Rattle.listing.proofs.list_machine.Statement.{statement}
 use Rattle.listing.proofs.list_machine.Tie as tie
 
-mul-wide : tie.Need-mul-wide
-mul-wide c = record { fits = omega (arith, c .before .pre .machine-in, c .before .pre .ready .sound .few-machines) }
+mul-index-u16 : tie.Need-mul-index-u16
+mul-index-u16 c = record { fits = omega (arith, c .before .pre .machine-in, c .before .pre .ready .sound .few-machines) }
 
-element-copy-out-wide : tie.Need-element-copy-out-wide
-element-copy-out-wide c = omega (arith, c .before .pre .machine-in, c .before .pre .ready .sound .few-machines)
+element-copy-out-index-u16 : tie.Need-element-copy-out-index-u16
+element-copy-out-index-u16 c = omega (arith, c .before .pre .machine-in, c .before .pre .ready .sound .few-machines)
 
-wide-requires : tie.Need-wide-requires
-wide-requires c κs = search needs
+index-u16-requires : tie.Need-index-u16-requires
+index-u16-requires c κs = search needs
 
-add-wide : tie.Need-add-wide
-add-wide c = record { fits = omega (arith, c .before .before .before .pre .machine-in, c .before .before .before .pre .ready .sound .few-machines) }
+add-index-u16 : tie.Need-add-index-u16
+add-index-u16 c = record { fits = omega (arith, c .before .before .before .pre .machine-in, c .before .before .before .pre .ready .sound .few-machines) }
 
-mul-wide-2 : tie.Need-mul-wide-2
-mul-wide-2 c = record { fits = omega (arith, c .before .before .before .pre .machine-in, c .before .before .before .pre .ready .sound .few-machines) }
+mul-index-u16-2 : tie.Need-mul-index-u16-2
+mul-index-u16-2 c = record { fits = omega (arith, c .before .before .before .pre .machine-in, c .before .before .before .pre .ready .sound .few-machines) }
 
-element-copy-out-wide-2 : tie.Need-element-copy-out-wide-2
-element-copy-out-wide-2 c = omega (arith, c .before .before .before .pre .machine-in, c .before .before .before .pre .ready .sound .few-machines)
+element-copy-out-index-u16-2 : tie.Need-element-copy-out-index-u16-2
+element-copy-out-index-u16-2 c = omega (arith, c .before .before .before .pre .machine-in, c .before .before .before .pre .ready .sound .few-machines)
 
-wide-requires-2 : tie.Need-wide-requires-2
-wide-requires-2 c κs = search needs
+index-u16-requires-2 : tie.Need-index-u16-requires-2
+index-u16-requires-2 c κs = search needs
 
 link-requires : tie.Need-link-requires
 link-requires c κs =
     let b = c .before .before .before .before .before .before .before in
-    left-in (b .args .t1) (b .args .m) (b .pre) (c .before .before .before .before .wide .result) (c .before .before .wide2 .result) (c .before .before .before .before .wide .ensures) (c .before .before .wide2 .ensures)
+    left-in (b .args .t1) (b .args .m) (b .pre) (c .before .before .before .before .index-u16 .result) (c .before .before .index-u162 .result) (c .before .before .before .before .index-u16 .ensures) (c .before .before .index-u162 .ensures)
 
 slice-relend-prefix-list-rows : tie.Need-slice-relend-prefix-list-rows
 slice-relend-prefix-list-rows c = search needs
@@ -47,8 +47,8 @@ list-rows-requires c κs =
     let b = c .before .before .before .before .before .before .before .before .before .before .before .before .before .before .before in
     let t = b .args .t1 in
     let m = b .args .m in
-    let low = c .before .before .before .before .before .before .before .before .before .before .before .before .wide in
-    let high = c .before .before .before .before .before .before .before .before .before .before .wide2 in (
+    let low = c .before .before .before .before .before .before .before .before .before .before .before .before .index-u16 in
+    let high = c .before .before .before .before .before .before .before .before .before .before .index-u162 in (
       left-in t m (b .pre) (low .result) (high .result) (low .ensures) (high .ensures),
       entered-in t m (b .pre) (low .result) (high .result) (low .ensures) (high .ensures),
       c .before .before .before .before .before .before .before .link .ensures,
@@ -68,8 +68,8 @@ returns c =
     let t = b .args .t1 in
     let m = b .args .m in
     let before = b .args .out .now in
-    let low = c .before .before .before .before .before .before .before .before .before .before .before .before .before .before .before .before .before .wide in
-    let high = c .before .before .before .before .before .before .before .before .before .before .before .before .before .before .before .wide2 in
+    let low = c .before .before .before .before .before .before .before .before .before .before .before .before .before .before .before .before .before .index-u16 in
+    let high = c .before .before .before .before .before .before .before .before .before .before .before .before .before .before .before .index-u162 in
     let are = entries-are t m (b .pre) (low .result) (high .result) (low .ensures) (high .ensures) in
     let pass = c .before .before .before .before .list-rows in
     let kept = nothing-before (pass .last .1 .1 .1 .1 .1 .1 .0) before (c .before .before .before .out .given .0) in
@@ -80,8 +80,8 @@ list-rows-requires-2 c κs =
     let b = c .before .before .before .before .before .before .before .before .before .before .before .before .before .before .before .before .before .before .before .before .before .before .before .before .before .before in
     let t = b .args .t1 in
     let m = b .args .m in
-    let low = c .before .before .before .before .before .before .before .before .before .before .before .before .before .before .before .before .before .before .before .before .before .before .before .wide in
-    let high = c .before .before .before .before .before .before .before .before .before .before .before .before .before .before .before .before .before .before .before .before .before .wide2 in (
+    let low = c .before .before .before .before .before .before .before .before .before .before .before .before .before .before .before .before .before .before .before .before .before .before .before .index-u16 in
+    let high = c .before .before .before .before .before .before .before .before .before .before .before .before .before .before .before .before .before .before .before .before .before .index-u162 in (
       left-in t m (b .pre) (low .result) (high .result) (low .ensures) (high .ensures),
       entered-in t m (b .pre) (low .result) (high .result) (low .ensures) (high .ensures),
       c .before .before .before .before .before .before .before .before .before .before .before .before .before .before .before .before .before .before .link .ensures,
@@ -98,8 +98,8 @@ returns-2 c =
     let t = b .args .t1 in
     let m = b .args .m in
     let before = b .args .out .now in
-    let low = c .before .before .before .before .before .before .before .before .before .before .before .before .before .before .before .before .before .before .before .before .before .before .before .before .before .before .wide in
-    let high = c .before .before .before .before .before .before .before .before .before .before .before .before .before .before .before .before .before .before .before .before .before .before .before .before .wide2 in
+    let low = c .before .before .before .before .before .before .before .before .before .before .before .before .before .before .before .before .before .before .before .before .before .before .before .before .before .before .index-u16 in
+    let high = c .before .before .before .before .before .before .before .before .before .before .before .before .before .before .before .before .before .before .before .before .before .before .before .before .index-u162 in
     let are = entries-are t m (b .pre) (low .result) (high .result) (low .ensures) (high .ensures) in
     let pass = c .before .before .before .before .before .before .before .before .before .before .before .before .before .list-rows in
     let kept = nothing-before (pass .last .1 .1 .1 .1 .1 .1 .0) before (c .before .before .before .before .before .before .before .before .before .before .before .before .out .given .0) in
@@ -110,13 +110,13 @@ pub list-machine-spec : {M : Type 1} → statement M
 list-machine-spec =
     tie.close
     (tie.spec
-    mul-wide
-    element-copy-out-wide
-    wide-requires
-    add-wide
-    mul-wide-2
-    element-copy-out-wide-2
-    wide-requires-2
+    mul-index-u16
+    element-copy-out-index-u16
+    index-u16-requires
+    add-index-u16
+    mul-index-u16-2
+    element-copy-out-index-u16-2
+    index-u16-requires-2
     link-requires
     slice-relend-prefix-list-rows
     slice-aggregate-list-rows

@@ -9,12 +9,12 @@ use Rattle.quoting.proofs.price.Statement.{statement}
 use Rattle.quoting.proofs.price.Tie as tie
 
 -- n × W is at most 64 × 64,000,000,000,
-states-part : (c : tie.Start) → c .args .states * c .args .weight ≤ 4096000000000
-states-part c = mul-le-mul (c .pre .0 .states-limit) (c .pre .1)
+states-part : (c : tie.Start) → c .args .most-states * c .args .weight ≤ 4096000000000
+states-part c = mul-le-mul (c .pre .0 .most-limit) (c .pre .1)
 
 -- and G × g at most 4,096,063 × 1,000,000.
-progress-part : (c : tie.Start) → c .args .progress * c .args .g ≤ 4096063000000
-progress-part c = mul-le-mul (c .pre .0 .progress-limit) (c .pre .2)
+progress-part : (c : tie.Start) → c .args .per-progress * c .args .g ≤ 4096063000000
+progress-part c = mul-le-mul (c .pre .0 .per-progress-limit) (c .pre .2)
 
 mul-ceiling : tie.Need-mul-ceiling
 mul-ceiling c = record { fits = omega (arith, states-part c) }
@@ -34,7 +34,7 @@ price-class-requires c κs = search needs
 returns : tie.Need-returns
 returns c =
     let a = c .before .args in
-    ap (quoted (a .base + a .states * a .weight + a .progress * a .g)) (c .price-class .ensures)
+    ap (quoted (a .base + a .most-states * a .weight + a .per-progress * a .g)) (c .price-class .ensures)
 
 pub price-spec : {M : Type 1} → statement M
 price-spec =

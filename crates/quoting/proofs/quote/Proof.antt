@@ -19,7 +19,7 @@ quote-weighed-requires c κs =
     let a = c .before .before .before .before .before .before .args in
     let owed = owed-told (c .before .before .judge .ensures) (c .enum-told .given .1) in
     let good = failing-weights (a .file .now) (a .weights .now) (a .contents .now) (a .g) owed in
-    (record { base-limit = omega arith; states-limit = omega arith; progress-limit = omega arith }, good .0, good .1)
+    (record { base-limit = omega arith; most-limit = omega arith; per-progress-limit = omega arith }, good .0, good .1)
 
 enum-known-verdict-2 : tie.Need-enum-known-verdict-2
 enum-known-verdict-2 c = search needs

@@ -42,22 +42,22 @@ Checks types contents g passes r = (P : Plant) (end : ℕ) → P .types ≡ type
 
 -- The ceiling of these figures, and its class.
 abbrev pub Priced : ℕ → ℕ → ℕ → ℕ → ℕ → Answer → Type 0
-Priced base states progress weight g a =
-    a ≡ quoted (base + states * weight + progress * g) (classOf (base + states * weight + progress * g))
+Priced F n G weight g a =
+    a ≡ quoted (F + n * weight + G * g) (classOf (F + n * weight + G * g))
 
 -- Figures within the limits.
-pub record FiguresFit (base states progress : ℕ) : Type 0 where
-  pub base-limit : base ≤ 64513008
-  pub states-limit : states ≤ 64
-  pub progress-limit : progress ≤ 4096063
+pub record FiguresFit (F n G : ℕ) : Type 0 where
+  pub base-limit : F ≤ 64513008
+  pub most-limit : n ≤ 64
+  pub per-progress-limit : G ≤ 4096063
 
 -- What is said after weighing: the fault found, or the ceiling of the figures.
 abbrev pub quotedFor : ℕ → ℕ → ℕ → List ℕ → List ℕ → ℕ → Found Plant → Answer
-quotedFor base states progress ws contents g (fault number place) = refused number place
-quotedFor base states progress ws contents g (found P end) =
-    quoted (base + states * weightOfContents ws contents + progress * g) (classOf (base + states * weightOfContents ws contents + progress * g))
+quotedFor F n G ws contents g (fault number place) = refused number place
+quotedFor F n G ws contents g (found P end) =
+    quoted (F + n * weightOfContents ws contents + G * g) (classOf (F + n * weightOfContents ws contents + G * g))
 
 -- The answer is what is said, after the checks 20, 21 and 22, of every plant with a type for each weight.
 abbrev pub OwedChecked : Bool → ℕ → ℕ → ℕ → List ℕ → List ℕ → ℕ → Answer → Type 0
-OwedChecked passes base states progress ws contents g a =
-    (P : Plant) (end : ℕ) → P .types ≡ length ws → a ≡ quotedFor base states progress ws contents g (checkedPassing contents g passes P end)
+OwedChecked passes F n G ws contents g a =
+    (P : Plant) (end : ℕ) → P .types ≡ length ws → a ≡ quotedFor F n G ws contents g (checkedPassing contents g passes P end)

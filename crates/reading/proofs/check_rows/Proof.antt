@@ -5,7 +5,7 @@ use mathlib.Core.Path.{_≡_}
 use mathlib.Core.List.{List}
 use native.Mathlib.Omega.{arith}
 use Rattle.livelock.specs.Plants.{Plant}
-use Rattle.plant.specs.Steps.{rowFound}
+use Rattle.plant_rows.specs.Rows.{rowFound}
 use Rattle.plant.proofs.Told.{told}
 use Rattle.reading.proofs.CountLaws.{RowsLeft, rows-begin, rows-stop, rows-go-on, rows-end}
 use Rattle.reading.proofs.check_rows.Statement.{statement}

@@ -21,30 +21,30 @@ abbrev μ-loop : tie.MeasureT-loop
 μ-loop from to weight count states walks₀ old new noted₀ k i₀ walks noted i = count - i
 
 -- Both states of an edge have an entry in each table.
-left-low : (c : tie.After-wide Inv-loop μ-loop) → c .before .before .before .before .args .new + c .wide .result < 128
+left-low : (c : tie.After-index-u8 Inv-loop μ-loop) → c .before .before .before .before .args .new + c .index-u8 .result < 128
 left-low c =
     let p = c .before .before .before .before .pre in
-    omega (arith, c .wide .ensures, p .0 .from-in (c .before .before .before .loop .i) (c .before .before .loop-test .taken), p .0 .states-in, halves-in (p .1) .1)
+    omega (arith, c .index-u8 .ensures, p .0 .from-in (c .before .before .before .loop .i) (c .before .before .loop-test .taken), p .0 .states-in, halves-in (p .1) .1)
 
-entered-low : (c : tie.After-wide2 Inv-loop μ-loop) → c .before .before .before .before .before .before .before .args .old + c .wide2 .result < 128
+entered-low : (c : tie.After-index-u82 Inv-loop μ-loop) → c .before .before .before .before .before .before .before .args .old + c .index-u82 .result < 128
 entered-low c =
     let p = c .before .before .before .before .before .before .before .pre in
-    omega (arith, c .wide2 .ensures, p .0 .to-in (c .before .before .before .before .before .before .loop .i) (c .before .before .before .before .before .loop-test .taken), p .0 .states-in, halves-in (p .1) .0)
+    omega (arith, c .index-u82 .ensures, p .0 .to-in (c .before .before .before .before .before .before .loop .i) (c .before .before .before .before .before .loop-test .taken), p .0 .states-in, halves-in (p .1) .0)
 
 -- There is room for the edge that is noted.
-edge-low : (c : tie.After-wide Inv-loop μ-loop) → c .before .before .before .before .args .k * 64 + c .wide .result < 4096
+edge-low : (c : tie.After-index-u8 Inv-loop μ-loop) → c .before .before .before .before .args .k * 64 + c .index-u8 .result < 4096
 edge-low c =
     let p = c .before .before .before .before .pre in
-    omega (arith, c .wide .ensures, p .0 .from-in (c .before .before .before .loop .i) (c .before .before .loop-test .taken), p .0 .states-in, p .4)
+    omega (arith, c .index-u8 .ensures, p .0 .from-in (c .before .before .before .loop .i) (c .before .before .loop-test .taken), p .0 .states-in, p .4)
 
 loop-holds : tie.Need-loop-holds Inv-loop μ-loop
 loop-holds c = let a = c .args in (search needs, round-starts (a .count) (a .states) (a .from .now) (a .to .now) (a .weight .now) (c .pre .0) (c .pre .1) (a .k) (a .walks .now) (a .noted .now) (c .pre .3))
 
-element-copy-out-wide : tie.Need-element-copy-out-wide Inv-loop μ-loop
-element-copy-out-wide c = search needs
+element-copy-out-index-u8 : tie.Need-element-copy-out-index-u8 Inv-loop μ-loop
+element-copy-out-index-u8 c = search needs
 
-wide-requires : tie.Need-wide-requires Inv-loop μ-loop
-wide-requires c κs = search needs
+index-u8-requires : tie.Need-index-u8-requires Inv-loop μ-loop
+index-u8-requires c κs = search needs
 
 add-at : tie.Need-add-at Inv-loop μ-loop
 add-at c = record { fits = omega (arith, left-low c) }
@@ -55,11 +55,11 @@ mul-here c = record { fits = omega (arith, left-low c) }
 element-copy-out-here : tie.Need-element-copy-out-here Inv-loop μ-loop
 element-copy-out-here c = left-low c
 
-element-copy-out-wide-2 : tie.Need-element-copy-out-wide-2 Inv-loop μ-loop
-element-copy-out-wide-2 c = search needs
+element-copy-out-index-u8-2 : tie.Need-element-copy-out-index-u8-2 Inv-loop μ-loop
+element-copy-out-index-u8-2 c = search needs
 
-wide-requires-2 : tie.Need-wide-requires-2 Inv-loop μ-loop
-wide-requires-2 c κs = search needs
+index-u8-requires-2 : tie.Need-index-u8-requires-2 Inv-loop μ-loop
+index-u8-requires-2 c κs = search needs
 
 add-next : tie.Need-add-next Inv-loop μ-loop
 add-next c = record { fits = omega (arith, entered-low c) }
@@ -83,8 +83,8 @@ rises-requires c κs =
     let ok = start .pre .0 in
     let l = c .before .before .before .before .before .before .before .before .loop in
     let there = c .before .before .before .before .before .before .before .loop-test .taken in
-    let left = c .before .before .before .before .before .wide .ensures in
-    let entered = c .before .before .wide2 .ensures in
+    let left = c .before .before .before .before .before .index-u8 .ensures in
+    let entered = c .before .before .index-u82 .ensures in
     let fit = toZ-ofZ {w = w64} {z = getD (a .weight .now) (l .i) (pos 0)} (record { sfits = c .w .given }) in
     let low = round-low (a .count) (a .states) (a .from .now) (a .to .now) (a .weight .now) ok (start .pre .1) (a .k) (a .walks .now) (a .noted .now) (l .inv .1) there (start .pre .2) in (
       rw left (low (getD (a .from .now) (l .i) 0) (ok .from-in (l .i) there)),
@@ -126,8 +126,8 @@ loop-again c =
     let a = start .args in
     let l = c .before .before .before .before .before .before .before .before .before .before .loop in
     let there = c .before .before .before .before .before .before .before .before .before .loop-test .taken in
-    let left = c .before .before .before .before .before .before .before .wide .ensures in
-    let entered = c .before .before .before .before .wide2 .ensures in
+    let left = c .before .before .before .before .before .before .before .index-u8 .ensures in
+    let entered = c .before .before .before .before .index-u82 .ensures in
     let fit = toZ-ofZ {w = w64} {z = getD (a .weight .now) (l .i) (pos 0)} (record { sfits = c .before .before .w .given }) in
     let test = rw (left, entered, fit) at (c .before .rises .ensures) in (
       omega (arith, there),
@@ -151,13 +151,13 @@ round-spec =
     Inv-loop
     μ-loop
     loop-holds
-    element-copy-out-wide
-    wide-requires
+    element-copy-out-index-u8
+    index-u8-requires
     add-at
     mul-here
     element-copy-out-here
-    element-copy-out-wide-2
-    wide-requires-2
+    element-copy-out-index-u8-2
+    index-u8-requires-2
     add-next
     mul-next
     element-copy-out-next

@@ -33,11 +33,11 @@ found-again c =
 loop-holds : tie.Need-loop-holds Inv-loop μ-loop
 loop-holds c = walk-begins (edges-searchable (c .before .before .before .before .before .pre .0)) (found-again c) _ _
 
-sub-wide : tie.Need-sub-wide Inv-loop μ-loop
-sub-wide c = c .before .loop .inv .within
+sub-index-u8 : tie.Need-sub-index-u8 Inv-loop μ-loop
+sub-index-u8 c = c .before .loop .inv .within
 
-sub-wide-2 : tie.Need-sub-wide-2 Inv-loop μ-loop
-sub-wide-2 c = omega (arith, c .loop-test .taken)
+sub-index-u8-2 : tie.Need-sub-index-u8-2 Inv-loop μ-loop
+sub-index-u8-2 c = omega (arith, c .loop-test .taken)
 
 -- There is a place in the list of first edges for each walk and each state.
 edge-low : (c : tie.In-loop Inv-loop μ-loop) → (c .before .before .least-from .result - c .before .loop .i - 1) * 64 + c .before .loop .s < 4096
@@ -46,28 +46,28 @@ edge-low c =
     let found = found-again (c .before .before) in
     omega (arith, found .few, p .0 .states-in, c .loop-test .taken, walk-in (edges-searchable (p .0)) found (c .before .loop .inv))
 
-mul-wide : tie.Need-mul-wide Inv-loop μ-loop
-mul-wide c = record { fits = omega (arith, edge-low c) }
+mul-index-u8 : tie.Need-mul-index-u8 Inv-loop μ-loop
+mul-index-u8 c = record { fits = omega (arith, edge-low c) }
 
-add-wide : tie.Need-add-wide Inv-loop μ-loop
-add-wide c = record { fits = omega (arith, edge-low c) }
+add-index-u8 : tie.Need-add-index-u8 Inv-loop μ-loop
+add-index-u8 c = record { fits = omega (arith, edge-low c) }
 
-array-read-wide : tie.Need-array-read-wide Inv-loop μ-loop
-array-read-wide c = edge-low c
+array-read-index-u8 : tie.Need-array-read-index-u8 Inv-loop μ-loop
+array-read-index-u8 c = edge-low c
 
-wide-requires : tie.Need-wide-requires Inv-loop μ-loop
-wide-requires c κs = search needs
+index-u8-requires : tie.Need-index-u8-requires Inv-loop μ-loop
+index-u8-requires c κs = search needs
 
 -- The edge that was read is the first of a heaviest walk on from s.
-leads : (c : tie.After-wide Inv-loop μ-loop)
-    → FirstEdge (edgeGraph (c .before .before .before .before .before .before .before .before .args .count) (c .before .before .before .before .before .before .before .before .args .from .now) (c .before .before .before .before .before .before .before .before .args .to .now) (c .before .before .before .before .before .before .before .before .args .weight .now)) (c .before .before .before .before .before .least .result .start) (c .before .before .before .least-from .result - c .before .before .loop .i - 1) (c .before .before .loop .s) (c .wide .result)
+leads : (c : tie.After-index-u8 Inv-loop μ-loop)
+    → FirstEdge (edgeGraph (c .before .before .before .before .before .before .before .before .args .count) (c .before .before .before .before .before .before .before .before .args .from .now) (c .before .before .before .before .before .before .before .before .args .to .now) (c .before .before .before .before .before .before .before .before .args .weight .now)) (c .before .before .before .before .before .least .result .start) (c .before .before .before .least-from .result - c .before .before .loop .i - 1) (c .before .before .loop .s) (c .index-u8 .result)
 leads c =
     let p = c .before .before .before .before .before .before .before .before .pre in
     let again = c .before .before .before .least-from .ensures in
     let few : c .before .before .before .least-from .result ≤ c .before .before .before .before .before .least .result .length = omega (arith, least-again (c .before .before .before .before .before .least .ensures .0) (again .0)) in
-    rw (c .wide .ensures) (walk-leads (edges-searchable (p .0)) (found-again (c .before .before .before)) (c .before .before .loop .inv) (c .before .loop-test .taken) (again .1) few)
+    rw (c .index-u8 .ensures) (walk-leads (edges-searchable (p .0)) (found-again (c .before .before .before)) (c .before .before .loop .inv) (c .before .loop-test .taken) (again .1) few)
 
-edge-in : (c : tie.After-wide Inv-loop μ-loop) → c .wide .result < 256
+edge-in : (c : tie.After-index-u8 Inv-loop μ-loop) → c .index-u8 .result < 256
 edge-in c = omega (arith, leads c .there .0, c .before .before .before .before .before .before .before .before .pre .0 .few)
 
 mul-cycle : tie.Need-mul-cycle Inv-loop μ-loop
@@ -86,11 +86,11 @@ mul-cycle-2 c = record { fits = omega (arith, row-low c) }
 slice-write-cycle : tie.Need-slice-write-cycle Inv-loop μ-loop
 slice-write-cycle c = omega (arith, row-low c, c .before .before .before .loop .inv .kept, c .before .before .before .before .before .before .before .before .before .pre .2)
 
-element-copy-out-wide : tie.Need-element-copy-out-wide Inv-loop μ-loop
-element-copy-out-wide c = edge-in (c .before)
+element-copy-out-index-u8 : tie.Need-element-copy-out-index-u8 Inv-loop μ-loop
+element-copy-out-index-u8 c = edge-in (c .before)
 
-wide-requires-2 : tie.Need-wide-requires-2 Inv-loop μ-loop
-wide-requires-2 c κs = search needs
+index-u8-requires-2 : tie.Need-index-u8-requires-2 Inv-loop μ-loop
+index-u8-requires-2 c κs = search needs
 
 add-i : tie.Need-add-i Inv-loop μ-loop
 add-i c = record { fits = omega (arith, row-low (c .before .before)) }
@@ -102,7 +102,7 @@ loop-again : tie.Need-loop-again Inv-loop μ-loop
 loop-again c =
     let p = c .before .before .before .before .before .before .before .before .before .before .before .pre in
     let l = c .before .before .before .before .before .loop in
-    rw (c .wide2 .ensures) (walk-goes-on (edges-searchable (p .0)) (found-again (c .before .before .before .before .before .before)) (l .inv) (c .before .before .before .before .loop-test .taken) (p .2) _ (leads (c .before .before .before)))
+    rw (c .index-u82 .ensures) (walk-goes-on (edges-searchable (p .0)) (found-again (c .before .before .before .before .before .before)) (l .inv) (c .before .before .before .before .loop-test .taken) (p .2) _ (leads (c .before .before .before)))
 
 same-length : tie.Need-same-length Inv-loop μ-loop
 same-length c = c .before .loop .inv .kept
@@ -122,18 +122,18 @@ show-spec =
     least-requires
     least-from-requires
     loop-holds
-    sub-wide
-    sub-wide-2
-    mul-wide
-    add-wide
-    array-read-wide
-    wide-requires
+    sub-index-u8
+    sub-index-u8-2
+    mul-index-u8
+    add-index-u8
+    array-read-index-u8
+    index-u8-requires
     mul-cycle
     element-copy-out-cycle
     mul-cycle-2
     slice-write-cycle
-    element-copy-out-wide
-    wide-requires-2
+    element-copy-out-index-u8
+    index-u8-requires-2
     add-i
     loop-less
     loop-again

@@ -6,7 +6,7 @@ use lib.ListN.{getD}
 use Rattle.plant.specs.Found.{found}
 use Rattle.plant.proofs.Told.{told}
 use Rattle.set_entries.specs.Sets.{numberIn}
-use Rattle.set_entries.specs.Inner.Steps.{valueFound}
+use Rattle.set_entries.specs.Entries.{valueFound}
 use Rattle.set_entries.proofs.EntryLaws.{settled, no-machine, no-repeats, count-next}
 use borrow.Author.Needs.{needs}
 use Rattle.set_entries.proofs.first_numbers.Statement.{statement}

@@ -7,7 +7,8 @@ use native.Mathlib.Nat.{le-refl, le-of-lt}
 use native.Mathlib.Omega.{arith}
 use lib.ListN.{length, getD, replicate, length-set}
 use borrow.Author.Tests.{not-true, not-false}
-use Rattle.set_entries.specs.Inner.Steps.{part, Columns, leads}
+use Rattle.set_entries.specs.Entries.{part, Columns}
+use Rattle.set_entries.specs.Inner.Steps.{leads}
 use Rattle.set_entries.proofs.LeadingLaws.{row-fails, row-passes, rows-done}
 use borrow.Author.Needs.{needs}
 use Rattle.set_entries.proofs.is_quiet_cycle.Statement.{statement}

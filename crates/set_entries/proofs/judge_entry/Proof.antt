@@ -6,7 +6,7 @@ use lib.ListN.{length, getD}
 use Rattle.plant.specs.Found.{found}
 use Rattle.plant.proofs.Told.{told}
 use Rattle.set_entries.specs.Sets.{rowsAt}
-use Rattle.set_entries.specs.Inner.Steps.{valueFound, part}
+use Rattle.set_entries.specs.Entries.{valueFound, part}
 use Rattle.set_entries.proofs.NumberLaws.{number-read}
 use Rattle.set_entries.proofs.EntryLaws.{ThreeRead, three-read, numbers-stop, rows-stop, some-row, rows-below, entry-ended}
 use borrow.Author.Needs.{needs}

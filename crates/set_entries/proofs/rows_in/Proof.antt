@@ -5,7 +5,7 @@ use native.Mathlib.Nat.{le-refl}
 use native.Mathlib.Omega.{arith}
 use lib.ListN.{getD}
 use Rattle.plant.proofs.Told.{told}
-use Rattle.set_entries.specs.Inner.Steps.{valueFound}
+use Rattle.set_entries.specs.Entries.{valueFound}
 use Rattle.set_entries.proofs.NumberLaws.{number-missing, NumberRead, number-read, RowsSoFar, rows-begin, row-stops, row-goes-on, rows-end}
 use borrow.Author.Needs.{needs}
 use Rattle.set_entries.proofs.rows_in.Statement.{statement}

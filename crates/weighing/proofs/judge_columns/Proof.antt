@@ -10,11 +10,11 @@ use Rattle.weighing.proofs.judge_columns.Tie as tie
 first-failing-requires : tie.Need-first-failing-requires
 first-failing-requires c κs = let p = c .before .before .before .before .before .before .pre in (p .0, p .2)
 
-shared-slice-read-wide : tie.Need-shared-slice-read-wide
-shared-slice-read-wide c = search needs
+shared-slice-read-index-u8 : tie.Need-shared-slice-read-index-u8
+shared-slice-read-index-u8 c = search needs
 
-wide-requires : tie.Need-wide-requires
-wide-requires c κs = search needs
+index-u8-requires : tie.Need-index-u8-requires
+index-u8-requires c κs = search needs
 
 returns : tie.Need-returns
 returns c t ok lent end =
@@ -25,7 +25,7 @@ returns c t ok lent end =
     let words = c .before .before .before .before .before .before .before .before .shared-slice-known2 .given in
     record {
       verdict = failing-verdict t ws ok _ _ _ lent _ _ failing within end;
-      shows = λ e. failing-shows t ws ok _ _ _ lent _ _ failing within (start .pre .0) (λ i. omega (arith, words i .fits)) _ (c .wide .ensures) end;
+      shows = λ e. failing-shows t ws ok _ _ _ lent _ _ failing within (start .pre .0) (λ i. omega (arith, words i .fits)) _ (c .index-u8 .ensures) end;
     }
 
 figures-of-requires : tie.Need-figures-of-requires
@@ -48,8 +48,8 @@ judge-columns-spec =
     tie.close
     (tie.spec
     first-failing-requires
-    shared-slice-read-wide
-    wide-requires
+    shared-slice-read-index-u8
+    index-u8-requires
     returns
     figures-of-requires
     without-edges-requires

@@ -1,0 +1,2 @@
+-- Laws of the machines, one after the other.
+pub mod TurnLaws

@@ -1,0 +1,2 @@
+-- A row that was read.
+pub mod Rows
