@@ -1,13 +1,15 @@
 """Hold the documents to the source.
 
-- Each line of the antt blocks in docs/ceiling.md stands in a file of crate livelock.
-- Each name in the definition and theorem columns of docs/map.md is declared in the file that the row names,
-  each must-fail edit that it names exists, and each must-fail edit has a row.
+- The antt blocks of docs/ceiling.md are whole definitions of crate livelock, and all that its theorem rests on is shown.
+- Each block of docs/map.md has its three lines. Each name in them is declared in the file behind it, each must-fail edit
+  that is named exists, and each must-fail edit is named.
+- The lines of these two, of README.md and of docs/DECISIONS.md have at most 160 characters, tables apart.
 - The plant files in examples/ have the bytes that the worked examples are proved of and run with.
 - The header of the C interface names every fault number of the table, and each once; its kinds are those of the computed examples of crate cabinet.
 
     python3 tests/documents.py
 """
+import functools
 import glob
 import os
 import re
@@ -26,54 +28,201 @@ def files(pattern):
     return sorted(os.path.relpath(p, ROOT) for p in glob.glob(os.path.join(ROOT, pattern), recursive=True))
 
 
-def antt_lines():
-    return {line.strip() for path in files('crates/*/*/**/*.antt') + files('crates/*/*/*.antt') for line in read(path).split('\n')}
+def fault(path, number, text):
+    faults.append('%s:%d: %s' % (path, number, text))
 
 
-def hold_excerpts(path):
-    known, inside = antt_lines(), False
-    for number, line in enumerate(read(path).split('\n'), 1):
-        if line.startswith('```'):
-            inside = line == '```antt'
-        elif inside and line.strip() and not line.startswith('--') and line.strip() not in known:
-            faults.append('%s:%d: stands in no antt file: %s' % (path, number, line))
+def paragraphs(text):
+    """What stands between blank lines: the number of the first line, and the lines."""
+    for found in re.finditer(r'(?m)(?:^.*\S.*\n?)+', text):
+        yield text.count('\n', 0, found.start()) + 1, found.group().rstrip('\n').split('\n')
 
 
+def names_declared(lines):
+    """The names that lines of antt declare: definitions, theorems, types, constructors and fields."""
+    found = [re.match(r'\s*(?:(?:unfoldable|abbrev|pub|record|data) )*([^\s(){}.;,]+)(?: \(.*\))?(?: \{[^}]*\})? :', line) for line in lines]
+    return {match.group(1) for match in found if match}
+
+
+@functools.lru_cache(maxsize=None)
 def declared(path):
-    """The names that a file declares: definitions, theorems, types and fields of antt, functions and types of Rattle."""
-    names = set()
+    """The names that a file declares; in Rattle those of functions, types and constants."""
     if path.endswith('.rt'):
         return set(re.findall(r'(?m)^(?:pub )?(?:extern "C" )?(?:fn|struct|enum|const) ([A-Za-z0-9_]+)', read(path)))
-    for line in read(path).split('\n'):
-        found = re.match(r'\s*(?:(?:unfoldable|abbrev|pub|record|data) )*([^\s(){}.;,]+)(?: \(.*\))?(?: \{[^}]*\})? :', line)
-        if found:
-            names.add(found.group(1))
-    return names
+    return names_declared(read(path).split('\n'))
+
+
+def hold_width(path):
+    """A line that is not a table's has at most 160 characters."""
+    for number, line in enumerate(read(path).split('\n'), 1):
+        if len(line) > 160 and not line.startswith('|'):
+            fault(path, number, 'a line of %d characters: %s…' % (len(line), line[:60]))
+
+
+# ---- docs/ceiling.md
+
+ANTT_BLOCK = r'(?ms)^```antt\n(.*?)^```$'
+
+
+def is_comment(line):
+    return line.lstrip().startswith('--')
+
+
+@functools.lru_cache(maxsize=None)
+def definitions(path):
+    """The definitions of an antt file, each with all its clauses: what stands between blank lines, without comments."""
+    parts = [[line for line in lines if not is_comment(line)] for _, lines in paragraphs(read(path))]
+    return [part for part in parts if part]
+
+
+def whole_definitions(path, lines):
+    """The definitions of a file that the lines are, one behind the other and each whole; none where they are something else."""
+    parts = definitions(path)
+    for first in range(len(parts)):
+        held, last = [], first
+        while last < len(parts) and len(held) < len(lines):
+            held, last = held + parts[last], last + 1
+        if held == lines:
+            return parts[first:last]
+    return []
+
+
+def source_of(path, number, lines, sources):
+    """The one file in which the lines are whole definitions that follow one another, and these definitions."""
+    for source in sources:
+        parts = whole_definitions(source, lines)
+        if parts:
+            return source, parts
+    standing = {line for source in sources for part in definitions(source) for line in part}
+    strange = [line for line in lines if line not in standing]
+    fault(path, number, 'stands in no file of crate livelock: ' + strange[0] if strange
+          else 'not whole definitions as they follow one another in one file: ' + ' … '.join(lines[:1] + lines[-1:]))
+    return None, []
+
+
+def shown_definitions(path, sources):
+    """Each excerpt's file and definitions. Its comments stand in that file too."""
+    for found in re.finditer(ANTT_BLOCK, read(path)):
+        number, block = read(path).count('\n', 0, found.start()) + 2, found.group(1).split('\n')
+        source, parts = source_of(path, number, [line for line in block if line.strip() and not is_comment(line)], sources)
+        if source:
+            comments = {line.strip() for line in block if is_comment(line)}
+            for line in sorted(comments - {line.strip() for line in read(source).split('\n')}):
+                fault(path, number, 'no comment of %s: %s' % (source, line))
+            yield source, parts
+
+
+def words(lines):
+    return set(re.findall(r'[^\s(){}.;,]+', '\n'.join(lines)))
+
+
+def kit_words(path):
+    """The words that a file takes from the kit's library; of an operator the sign alone."""
+    lists = re.findall(r'(?m)^use (?!Rattle·)\S+\.\{([^}]*)\}', read(path))
+    return {word.strip().strip('_') for names in lists for word in names.split(',')}
+
+
+def hold_closed(path, shown, specs):
+    """What the shown definitions use of the crate's specs is shown, and the text names what they use of the kit's library."""
+    there = {name for _, lines in shown for name in names_declared(lines)}
+    used = {word for _, lines in shown for word in words(lines)}
+    for source in specs:
+        faults.extend('%s: %s of %s is used and not shown' % (path, name, source) for name in sorted((declared(source) & used) - there))
+    named = words(re.findall(r'`([^`]+)`', re.sub(ANTT_BLOCK, '', read(path))))
+    missing = {word for source, lines in shown for word in kit_words(source) & words(lines)} - named
+    faults.extend('%s: the text does not name %s of the kit\'s library' % (path, word) for word in sorted(missing))
+
+
+def hold_proof_names(path, proofs):
+    """The proof in words names theorems and definitions of the crate's proofs."""
+    known = {name for source in proofs for name in declared(source)}
+    for name in re.findall(r'`([^`]+)`', read(path).split('## The proof in words')[1]):
+        if name not in known:
+            faults.append('%s: no proof of crate livelock declares %s' % (path, name))
+
+
+def hold_excerpts(path, theorem):
+    """The page shows the theorem and all that its statement rests on, each definition whole."""
+    specs, proofs = files('crates/livelock/specs/*.antt'), files('crates/livelock/proofs/*.antt')
+    before = len(faults)
+    shown = [(source, lines) for source, parts in shown_definitions(path, specs + proofs) for lines in parts]
+    hold_proof_names(path, proofs)
+    if len(faults) > before:
+        return
+    if not any(theorem in names_declared(lines) for source, lines in shown if source in proofs):
+        faults.append('%s: the theorem %s is not shown' % (path, theorem))
+    hold_closed(path, shown, specs)
+
+
+# ---- docs/map.md
+
+MAP_BLOCK = r'\*\*[^*]+\*\*\n- Definition: (.+)\n- Promise: (.+)\n- Edits: (.+)'
+MAP_FILE = r'\(([a-z_]+/(?:specs|proofs|src)/[A-Za-z_/]+)\)'
+# How a part begins that names nothing.
+MAP_WORDS = r'none\b|by the language$|the (?:\w+ )?stored runs?\b|elsewhere\b|at least\b|those of the section\b'
+
+
+def map_blocks(path):
+    """Each block's first line and its three items. A text may stand between a heading and the first block; all else is a fault."""
+    inside = False
+    for number, lines in paragraphs(read(path)):
+        block = re.fullmatch(MAP_BLOCK, re.sub(r'\n  (?=\S)', ' ', '\n'.join(lines)))
+        heading = len(lines) == 1 and re.match('##? ', lines[0])
+        text = not inside and not any(re.match(r'\*\*|\s*- |\||#', line) for line in lines)
+        if block:
+            yield number, block.groups()
+        elif not heading and not text:
+            fault(path, number, 'not a sentence with one line each of Definition, Promise and Edits: ' + ' / '.join(line[:40] for line in lines))
+        inside = bool(block) or inside and not heading
+
+
+def hold_declared(path, number, names, place):
+    source = 'crates/%s.%s' % (place, 'rt' if '/src/' in place else 'antt')
+    if not os.path.exists(os.path.join(ROOT, source)):
+        fault(path, number, 'there is no ' + source)
+        return
+    for name in names:
+        if name not in declared(source):
+            fault(path, number, '%s does not declare %s' % (source, name))
+
+
+def hold_words(path, number, part):
+    """Beside names and files stand words only, and a part that names nothing begins with known ones."""
+    rest = re.sub(r'`[^`]+`|' + MAP_FILE, '', part)
+    if re.search('[`/]', rest) or rest == part and not re.match(MAP_WORDS, part):
+        fault(path, number, 'neither names with their file nor known words: ' + part)
+
+
+def hold_names(path, number, item):
+    """Each name is declared in the file behind it."""
+    for part in item.split('; '):
+        waiting = []
+        for name, place in re.findall(r'`([^`]+)`|' + MAP_FILE, part):
+            if name:
+                waiting.append(name)
+                continue
+            if not waiting:
+                fault(path, number, 'no name stands before the file ' + place)
+            hold_declared(path, number, waiting, place)
+            waiting = []
+        if waiting:
+            fault(path, number, 'no file is named for ' + ', '.join(waiting))
+        hold_words(path, number, part)
 
 
 def hold_map(path):
-    named_edits = set()
-    for number, line in enumerate(read(path).split('\n'), 1):
-        cells = [cell.strip() for cell in line.strip().strip('|').split('|')]
-        if not line.startswith('|') or len(cells) != 4 or set(cells[0]) <= {'-', ' '} or cells[0] == 'Sentence':
-            continue
-        for cell in cells[1:3]:
-            for group in cell.split(';'):
-                place = re.search(r'\(([a-z_]+/(?:specs|proofs|src)/[A-Za-z_/]+)\)', group)
-                names = re.findall(r'`([^`]+)`', group)
-                if names and not place:
-                    faults.append('%s:%d: no file is named for %s' % (path, number, ', '.join(names)))
-                elif names:
-                    source = 'crates/%s.%s' % (place.group(1), 'rt' if '/src/' in place.group(1) else 'antt')
-                    if not os.path.exists(os.path.join(ROOT, source)):
-                        faults.append('%s:%d: there is no %s' % (path, number, source))
-                        continue
-                    for name in set(names) - declared(source):
-                        faults.append('%s:%d: %s does not declare %s' % (path, number, source, name))
-        named_edits |= set(re.findall(r'`([^`]+)`', cells[3]))
     edits = {p.split('/')[1] + '/' + os.path.splitext(os.path.basename(p))[0] for p in files('crates/*/must-fail/*.edit')}
-    faults.extend('%s: there is no must-fail edit %s' % (path, name) for name in sorted(named_edits - edits))
-    faults.extend('%s: no row names the must-fail edit %s' % (path, name) for name in sorted(edits - named_edits))
+    named = set()
+    for number, (definition, promise, tried) in map_blocks(path):
+        hold_names(path, number, definition)
+        hold_names(path, number, promise)
+        for part in tried.split('; '):
+            hold_words(path, number, part)
+        names = set(re.findall(r'`([^`]+)`', tried))
+        for name in sorted(names - edits):
+            fault(path, number, 'there is no must-fail edit ' + name)
+        named |= names
+    faults.extend('%s: no block names the must-fail edit %s' % (path, name) for name in sorted(edits - named))
 
 
 def proved_bytes(path, name, argument=None):
@@ -123,8 +272,10 @@ def main():
     hold_examples()
     hold_header('include/hemtaluq.h')
     hold_kinds('include/hemtaluq.h', 'crates/cabinet/proofs/StructsDiffer.antt')
-    hold_excerpts('docs/ceiling.md')
+    hold_excerpts('docs/ceiling.md', 'ceiling')
     hold_map('docs/map.md')
+    for path in ('README.md', 'docs/DECISIONS.md', 'docs/ceiling.md', 'docs/map.md'):
+        hold_width(path)
     if faults:
         sys.exit('\n'.join(['documents.py:'] + faults))
     print('documents.py: the excerpts and the map agree with the source')
