@@ -1,4 +1,4 @@
-// The simple cycles of some rows, by depth-first extension of a path. No entry point: listing calls it, for the rows of a machine.
+// The simple cycles of some rows, by depth-first extension of a path. It knows no plant. No entry point: `listing` calls it.
 ghost use mathlib.Core.Path.{_≡_};
 ghost use Prim.Native.Nat.{suc, _+_, _≤_, _<_, _^_};
 ghost use lib.ListN.{length, take};

@@ -1,4 +1,4 @@
-// Decoding plant files into columns: the rows are stored as they are read.
+// Decoding plant files into columns: the rows are stored as they are read. No entry point: `weighing`, `listing` and `cycle_sets` call it.
 ghost use mathlib.Core.Path.{_≡_};
 ghost use mathlib.Core.List.{List};
 ghost use Prim.Native.Nat.{ℕ, _+_, _≤_, _<_};

@@ -1,4 +1,5 @@
-// The quiet rows of one machine, copied into lent lists of edges, which the rounds and the search are lent in turn.
+// The quiet rows of one machine, copied into lent lists of edges, which deciding and searching are lent in turn. No entry point: `machines`
+// calls it.
 ghost use mathlib.Core.Path.{_≡_};
 ghost use Prim.Native.Nat.{_+_, _≤_};
 ghost use Rattle.livelock.proofs.CycleWeights.{messageWeight};

@@ -1,4 +1,4 @@
-// The machines of a plant, one after the other: the first with a quiet cycle that weighs zero or more. No entry point: weighing calls it.
+// The machines of a plant, one after the other: the first with a quiet cycle that weighs zero or more. No entry point: `weighing` calls it.
 ghost use Rattle.edges.specs.Edges.{Room};
 ghost use Rattle.machines.specs.Machines.{Machines, FirstFailing};
 

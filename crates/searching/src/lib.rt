@@ -1,4 +1,5 @@
-// A quiet cycle to show: the closed walk with the fewest edges that weighs zero or more.
+// A cycle of an edge list to show: the closed walk with the fewest edges that weighs zero or more. It knows no plant. No entry point:
+// `weighing` calls it.
 //
 // `walks` has two tables, from 0 and from 64 on: for each state, the greatest weight of a walk of exactly k edges to the start, and of k + 1 edges.
 // `noted` has, from 64 × k on, the first edge of a heaviest walk of k + 1 edges from each state, so that the walk found can be written without a search.

@@ -1,4 +1,4 @@
-// The entries of a cycle set: every number is judged as it is read, and the first fault met decides.
+// The entries of a cycle set: every number is judged as it is read, and the first fault met decides. No entry point: `cycle_sets` calls it.
 ghost use mathlib.Core.Path.{_≡_};
 ghost use mathlib.Core.Bool.{false};
 ghost use Prim.Native.Nat.{_+_, _-_, _^_, _≤_, _<_, min};
