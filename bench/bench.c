@@ -73,7 +73,7 @@ static void ours_confirm(void) { a.c = hemtaluq_confirm(file, file_length, set, 
 static void peers_confirm(void) { b.c = peer_confirm(file, file_length, set, set_length); }
 
 static int same_read(void) { return a.r.kind == b.r.kind && a.r.number == b.r.number && a.r.types == b.r.types && a.r.place == b.r.place && a.r.machines == b.r.machines && a.r.rows == b.r.rows; }
-static int same_weigh(void) { return a.w.kind == b.w.kind && a.w.number == b.w.number && a.w.place == b.w.place && a.w.base == b.w.base && a.w.states == b.w.states && a.w.per_progress == b.w.per_progress && a.w.rows == b.w.rows && !memcmp(cycle_ours, cycle_peer, sizeof cycle_ours); }
+static int same_weigh(void) { return a.w.kind == b.w.kind && a.w.number == b.w.number && a.w.place == b.w.place && a.w.base == b.w.base && a.w.most_states == b.w.most_states && a.w.per_progress == b.w.per_progress && a.w.rows == b.w.rows && !memcmp(cycle_ours, cycle_peer, sizeof cycle_ours); }
 static int same_quote(void) { return a.q.kind == b.q.kind && a.q.number == b.q.number && a.q.place == b.q.place && a.q.price_class == b.q.price_class && a.q.ceiling == b.q.ceiling; }
 static int same_list(void) { return a.l.kind == b.l.kind && a.l.number == b.l.number && a.l.place == b.l.place && a.l.entries == b.l.entries && (a.l.kind != HEMTALUQ_LISTED || !memcmp(out_ours, out_peer, 2 * room)); }
 static int same_confirm(void) { return a.c.kind == b.c.kind && a.c.number == b.c.number && a.c.place == b.c.place && a.c.message_type == b.c.message_type && a.c.sum == b.c.sum; }

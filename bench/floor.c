@@ -159,7 +159,7 @@ hemtaluq_weigh_answer floor_weigh(const uint8_t *file, size_t length, const uint
     }
     a.kind = HEMTALUQ_PASSED;
     a.base = less + n * w * less;
-    a.states = n;
+    a.most_states = n;
     a.per_progress = n - 1 + n * n * w;
     return a;
 }

@@ -210,7 +210,7 @@ static void figures(const struct table *t, const int32_t *laid, hemtaluq_weigh_a
     for (unsigned i = 0; i < t->types; i++)
         if ((uint64_t)laid[i] > w) w = (uint64_t)laid[i];
     a->base = less + n * w * less;
-    a->states = n;
+    a->most_states = n;
     a->per_progress = n - 1 + n * n * w;
 }
 
@@ -222,8 +222,8 @@ INLINE hemtaluq_weigh_answer weigh_table(const struct table *t, const int32_t *l
     a.kind = HEMTALUQ_PASSED;
     for (unsigned m = 0; m < t->machines; m++) {
         unsigned count = edges_of(t, m, laid, e);
-        if (decide(e, count, t->states[m], (int32_t)a.states)) continue;
-        a.base = a.states = a.per_progress = 0;
+        if (decide(e, count, t->states[m], (int32_t)a.most_states)) continue;
+        a.base = a.most_states = a.per_progress = 0;
         a.kind = HEMTALUQ_CYCLE;
         if (shown) a.rows = show(e, count, t->states[m], cycle);
         break;
@@ -269,7 +269,7 @@ hemtaluq_quote_answer peer_quote(const uint8_t *file, size_t length, const uint1
             uint64_t sum = 0;
             for (size_t i = 0; i < weight_count; i++) sum += (uint64_t)weights[i] * contents[i];
             a.kind = HEMTALUQ_CEILING;
-            a.ceiling = w.base + w.states * sum + w.per_progress * g;
+            a.ceiling = w.base + w.most_states * sum + w.per_progress * g;
             a.price_class = a.ceiling ? (uint32_t)(64 - __builtin_clzll(a.ceiling)) : 0;
             return a;
         }

@@ -3,11 +3,17 @@
  * A plant is given as the bytes of a plant file. Every call reads them anew, judges every length and every number that it
  * is given, and keeps nothing. No call allocates, blocks, or keeps a pointer.
  *
- * The caller's part: every pointer is valid for its length, aligned, and not null, for length 0 too; and a list that a
- * call may write to (cycle, out) overlaps nothing else that the call is given.
+ * The caller's part: every pointer is aligned and valid for its length, and a list that a call may write to (cycle, out)
+ * overlaps nothing else that the call is given. The pointer of a list of length 0 may be null.
  *
  * Every answer has a kind. With HEMTALUQ_REFUSED, number and place say which fault was met first and where. Fields that
  * an answer does not use are 0, and a list that was lent keeps its contents unless the kind says that it was written.
+ *
+ * Versions: the linker's name of a call carries its revision, which the macros below add. A call whose struct or arguments
+ * change gets the next revision, and then an object compiled with the old header does not link: its symbol is missing.
+ * HEMTALUQ_VERSION rises with every change of what this header declares, also where structs and arguments stay (a kind,
+ * a fault number, a limit). hemtaluq_version answers the version of the library that was linked, so a program can see at
+ * its start whether that is the library of its header: hemtaluq_version() == HEMTALUQ_VERSION.
  */
 #ifndef HEMTALUQ_H
 #define HEMTALUQ_H
@@ -15,9 +21,20 @@
 #include <stddef.h>
 #include <stdint.h>
 
+#define HEMTALUQ_VERSION 1
+
+#define hemtaluq_read hemtaluq_read_v1
+#define hemtaluq_weigh hemtaluq_weigh_v1
+#define hemtaluq_quote hemtaluq_quote_v1
+#define hemtaluq_list hemtaluq_list_v1
+#define hemtaluq_confirm hemtaluq_confirm_v1
+
 #ifdef __cplusplus
 extern "C" {
 #endif
+
+/* The version of the library. Its symbol has no revision, for what it means never changes. */
+uint32_t hemtaluq_version(void);
 
 /* What an answer is. */
 enum hemtaluq_kind {
@@ -84,8 +101,8 @@ hemtaluq_read_answer hemtaluq_read(const uint8_t *file, size_t file_length);
 
 /* Whether weights pass: one for each type, 0 to 1,000. The list cycle has at least 64 entries.
  * Passed: from any states and any contents, in whichever order the machines move and whatever the bus loses, the quiet
- * rows that happen number at most base + states * W + per_progress * g, where W sums weight times opening content over
- * the types and g counts the progress rows that happen. The list keeps its contents.
+ * rows that happen number at most base + most_states * W + per_progress * g, where W sums weight times opening content
+ * over the types and g counts the progress rows that happen. The list keeps its contents.
  * Cycle: the first entries of the list are the rows of a quiet simple cycle that weighs zero or more, in running order;
  * its later entries are kept. */
 typedef struct {
@@ -93,7 +110,7 @@ typedef struct {
     uint8_t number;        /* refused: the number of the fault */
     size_t place;          /* refused: where it was met */
     uint64_t base;         /* passed: F */
-    uint64_t states;       /* passed: n, the most states in one machine */
+    uint64_t most_states;  /* passed: n, the most states in one machine */
     uint64_t per_progress; /* passed: G */
     size_t rows;           /* cycle: how many rows are shown, 1 to 64 */
 } hemtaluq_weigh_answer;

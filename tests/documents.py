@@ -6,6 +6,9 @@
 - The lines of these two, of README.md and of docs/DECISIONS.md have at most 160 characters, tables apart.
 - The plant files in examples/ have the bytes that the worked examples are proved of and run with.
 - The header of the C interface names every fault number of the table, and each once; its kinds are those of the computed examples of crate cabinet.
+- The version is one number in the header, in the definition and in the Rust wrappers; every export of crate cabinet but that of the version has a
+  revision, and the header's macros and the wrappers' link names are these symbols. Their arguments and structs are those that tests/data/revisions.txt
+  has for the revision, so that a change needs the next one, and the structs are the same in the crate, in the header and in the wrappers.
 
     python3 tests/documents.py
 """
@@ -268,10 +271,68 @@ def hold_kinds(path, examples):
         faults.append('%s: `kinds` states %s' % (examples, stated))
 
 
+def hold_versions(header, definition, wrappers):
+    found = [re.findall(pattern, read(path)) for path, pattern in (
+        (header, r'(?m)^#define HEMTALUQ_VERSION (\d+)$'), (definition, r'(?m)^interfaceVersion = (\d+)$'), (wrappers, r'(?m)^pub const VERSION: u32 = (\d+);$'))]
+    if len(found[0]) != 1 or found != 3 * found[:1]:
+        faults.append('%s, %s and %s: the versions are %s' % (header, definition, wrappers, found))
+
+
+def hold_revisions(header, source, wrappers):
+    exports = re.findall(r'(?m)^pub extern "C" fn (\w+)', read(source))
+    revised = {re.sub(r'_v[1-9]\d*$', '', name): name for name in exports if name != 'hemtaluq_version'}
+    if any(name == symbol for name, symbol in revised.items()) or len(revised) != len(exports) - 1:
+        faults.append('%s: not every call has one revision: %s' % (source, exports))
+    macros = re.findall(r'(?m)^#define (hemtaluq_\w+) (\w+)$', read(header))
+    if sorted(macros) != sorted(revised.items()):
+        faults.append('%s: the macros %s are not the exports %s of %s' % (header, macros, exports, source))
+    linked = re.findall(r'#\[link_name = "(\w+)"\]\n    fn (\w+)\(', read(wrappers))
+    if sorted((name, symbol) for symbol, name in linked) != sorted(revised.items()):
+        faults.append('%s: the link names %s are not the exports %s of %s' % (wrappers, linked, exports, source))
+    for path, pattern in ((header, r'(?m)^\w+ (hemtaluq_\w+)\('), (wrappers, r'(?m)^    fn (hemtaluq_\w+)\(')):
+        declared_there = re.findall(pattern, read(path))
+        if sorted(declared_there) != sorted(list(revised) + ['hemtaluq_version']):
+            faults.append('%s: declares %s' % (path, declared_there))
+
+
+def fields_in(path, struct, field):
+    """The structs of a source: by name, the pairs of field and type, in order. The patterns have the groups name and body, field and type."""
+    found = {}
+    for one in re.finditer(struct, read(path)):
+        name = one.group('name').lower().replace('hemtaluq_', '').replace('_', '')
+        found[name] = [(f.group('field'), f.group('type')) for f in re.finditer(field, one.group('body'))]
+    return found
+
+
+def hold_structs(header, source, wrappers):
+    rust = r'(?m)^ +(?:pub )?(?P<field>\w+): (?P<type>\w+),'
+    ours = fields_in(source, r'pub struct (?P<name>\w+Answer) \{(?P<body>[^}]*)\}', rust)
+    theirs = fields_in(wrappers, r'\nstruct (?P<name>\w+Answer) \{(?P<body>[^}]*)\}', rust)
+    in_c = fields_in(header, r'typedef struct \{(?P<body>[^}]*)\} (?P<name>hemtaluq_\w+);', r'(?m)^ +(?P<type>\w+) (?P<field>\w+);')
+    c_types = {'u8': 'uint8_t', 'u32': 'uint32_t', 'u64': 'uint64_t', 'i64': 'int64_t', 'usize': 'size_t'}
+    if not ours or ours != theirs or {name: [(field, c_types[kind]) for field, kind in fields] for name, fields in ours.items()} != in_c:
+        faults.append('%s, %s and %s: the structs differ' % (header, source, wrappers))
+    return ours
+
+
+def hold_stored_revisions(source, structs, stored):
+    """A revision stands for its arguments and its struct: whoever changes them adds a line with the next one."""
+    known = read(stored).split('\n')
+    for name, arguments, answer in re.findall(r'pub extern "C" fn (hemtaluq_\w+_v\d+)\((.*?)\) -> (\w+)', read(source), re.S):
+        fields = ', '.join('%s: %s' % field for field in structs.get(answer.lower(), []))
+        line = '%s(%s) -> %s' % (name, ' '.join(arguments.split()).rstrip(','), fields)
+        if line not in known or sum(k.startswith(name + '(') for k in known) != 1:
+            faults.append('%s has not, or not alone for this revision: %s' % (stored, line))
+
+
 def main():
     hold_examples()
     hold_header('include/hemtaluq.h')
     hold_kinds('include/hemtaluq.h', 'crates/cabinet/proofs/StructsDiffer.antt')
+    hold_versions('include/hemtaluq.h', 'crates/cabinet/specs/Versions.antt', 'examples/cabinet/hemtaluq.rs')
+    hold_revisions('include/hemtaluq.h', 'crates/cabinet/src/lib.rt', 'examples/cabinet/hemtaluq.rs')
+    structs = hold_structs('include/hemtaluq.h', 'crates/cabinet/src/lib.rt', 'examples/cabinet/hemtaluq.rs')
+    hold_stored_revisions('crates/cabinet/src/lib.rt', structs, 'tests/data/revisions.txt')
     hold_excerpts('docs/ceiling.md', 'ceiling')
     hold_map('docs/map.md')
     for path in ('README.md', 'docs/DECISIONS.md', 'docs/ceiling.md', 'docs/map.md'):

@@ -57,10 +57,10 @@ static void put_read(const uint8_t *f, uint32_t n) {
 static void put_weigh(const uint8_t *f, uint32_t n, const uint16_t *w, uint32_t count, uint32_t room) {
     uint16_t *copy, *list = lend(room, &copy);
     hemtaluq_weigh_answer a = hemtaluq_weigh(f, n, w, count, list + GUARD, room);
-    unsigned long long base = a.base, states = a.states, per_progress = a.per_progress;
-    if (a.kind == HEMTALUQ_PASSED) { printf("passed %llu %llu %llu", base, states, per_progress); zero(a.number | a.place | a.rows); }
-    else if (a.kind == HEMTALUQ_CYCLE) { printf("cycle"); zero(a.number | a.place | a.base | a.states | a.per_progress); }
-    else if (a.kind == HEMTALUQ_REFUSED) { printf("refused %d %zu", a.number, a.place); zero(a.base | a.states | a.per_progress | a.rows); }
+    unsigned long long base = a.base, most_states = a.most_states, per_progress = a.per_progress;
+    if (a.kind == HEMTALUQ_PASSED) { printf("passed %llu %llu %llu", base, most_states, per_progress); zero(a.number | a.place | a.rows); }
+    else if (a.kind == HEMTALUQ_CYCLE) { printf("cycle"); zero(a.number | a.place | a.base | a.most_states | a.per_progress); }
+    else if (a.kind == HEMTALUQ_REFUSED) { printf("refused %d %zu", a.number, a.place); zero(a.base | a.most_states | a.per_progress | a.rows); }
     else printf("kind %d", a.kind);
     lent(list, copy, room, a.kind == HEMTALUQ_CYCLE ? a.rows : 0);
 }

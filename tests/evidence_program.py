@@ -1,7 +1,8 @@
 """Part E: the program `ceiling` as a process, its line held against the independent implementation of evidence_independent.py.
 
 Each case is a folder with plant.bin and weights.bin, whole, damaged, of odd length, empty or missing; in place of a file
-there may also be a link to nothing or a folder, which cannot be read and counts as empty.
+there may also be a link to nothing or a folder, which cannot be read and counts as empty. Where standard output is full or
+closed, a line on standard error says that nothing was written; the exit code is 0 then too, for the kit has no other.
 """
 import os
 import random
@@ -17,6 +18,7 @@ import reading
 CASES = 600
 INDEPENDENT = evidence_independent.Independent()
 PROGRAM = os.path.join(calls.ROOT, 'target', 'bin', 'ceiling')
+NOT_WRITTEN = b'ceiling: the line could not be written to standard output\n'
 
 
 def weights_bytes(weights):
@@ -74,9 +76,17 @@ def line_of(plant, weights, odd):
     return done.stdout.decode('ascii')
 
 
+def hold_not_written():
+    for output in ('> /dev/full', '>&-'):
+        done = subprocess.run(['sh', '-c', 'exec "$0" ' + output, PROGRAM], cwd=os.path.join(calls.ROOT, 'examples', 'plant_a'), capture_output=True, timeout=60)
+        if (done.returncode, done.stdout, done.stderr) != (0, b'', NOT_WRITTEN):
+            sys.exit('evidence: program: ceiling %s: exit code %d, %r, %r' % (output, done.returncode, done.stdout, done.stderr))
+
+
 def main(seed, long):
     if not os.path.exists(PROGRAM):
         calls.run(['rt', 'check', 'ceiling'])
+    hold_not_written()
     cases = list(fixed_cases()) + list(drawn_cases(random.Random(seed + 4), CASES * (5 if long else 1)))
     pairs = [(plant, weights, line_of(plant, weights, i % 3)) for i, (plant, weights) in enumerate(cases)]
     kinds = {}

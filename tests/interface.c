@@ -15,7 +15,7 @@ static void check(const char *what, int good) {
     }
 }
 
-/* Lists of length 0 that are lent still have a valid pointer. */
+/* Lists of length 0 with a valid pointer; null_pointers has them with none. */
 static const uint8_t no_bytes[1] = {0};
 static const uint16_t no_weights[1] = {0};
 static const uint32_t no_numbers[1] = {0};
@@ -94,7 +94,7 @@ static void weigh_is(const char *what, const uint8_t *file, size_t length, const
     for (size_t i = 0; i < 70; i++) cycle[i] = 7;
     hemtaluq_weigh_answer a = hemtaluq_weigh(file, length, weights, count, cycle, room);
     for (size_t i = kept; i < 70; i++) good = good && cycle[i] == 7;
-    check(what, good && a.kind == e.kind && a.number == e.number && a.place == e.place && a.base == e.base && a.states == e.states
+    check(what, good && a.kind == e.kind && a.number == e.number && a.place == e.place && a.base == e.base && a.most_states == e.most_states
                     && a.per_progress == e.per_progress && a.rows == e.rows);
 }
 
@@ -116,7 +116,7 @@ static void weighing(void) {
     check("the probe's rows are shown", a.rows == 2 && ((cycle[0] == 2 && cycle[1] == 3) || (cycle[0] == 3 && cycle[1] == 2)));
     a = hemtaluq_weigh(largest, HEMTALUQ_LONGEST_FILE, ones, 64, cycle, 64);
     /* S is 16 * 63, n 64 and w 1. */
-    check("the largest plant passes", a.kind == HEMTALUQ_PASSED && a.base == 1008 + 64 * 1008 && a.states == 64 && a.per_progress == 63 + 64 * 64);
+    check("the largest plant passes", a.kind == HEMTALUQ_PASSED && a.base == 1008 + 64 * 1008 && a.most_states == 64 && a.per_progress == 63 + 64 * 64);
 }
 
 static void quote_is(const char *what, const uint8_t *file, size_t length, const uint16_t *weights, size_t count, const uint32_t *contents, size_t amounts, uint32_t g, hemtaluq_quote_answer e) {
@@ -204,13 +204,45 @@ static void confirming(void) {
     confirm_is("256 entries of 64 rows and 1,000,000 repeats", taking, sizeof taking, heavy, LENGTH(heavy), least);
 }
 
+/* A list of length 0 may have a null pointer: each list of each call, alone and with the others, as far as the call judges it. */
+static void null_pointers(void) {
+    const uint32_t c34[] = {3, 4};
+    hemtaluq_weigh_answer ends = {HEMTALUQ_REFUSED, 1, 0, 0, 0, 0, 0}, none = {HEMTALUQ_PASSED, 0, 0, 0, 1, 0, 0};
+    hemtaluq_weigh_answer r9 = {HEMTALUQ_REFUSED, 9, 0, 0, 0, 0, 0};
+    hemtaluq_quote_answer no_plant = {HEMTALUQ_REFUSED, 1, 0, 0, 0}, zero = {HEMTALUQ_CEILING, 0, 0, 0, 0};
+    hemtaluq_quote_answer nine = {HEMTALUQ_REFUSED, 9, 0, 0, 0}, r20 = {HEMTALUQ_REFUSED, 20, 0, 0, 0};
+    hemtaluq_confirm_answer no_file = {HEMTALUQ_REFUSED, 1, 0, 0, 0}, r18 = {HEMTALUQ_REFUSED, 18, 0, 0, 0};
+    hemtaluq_list_answer l = hemtaluq_list(NULL, 0, 0, NULL, 0);
+    check("list, no file and no room, null", l.kind == HEMTALUQ_REFUSED && l.number == HEMTALUQ_FILE_ENDS && l.place == 0 && l.entries == 0);
+    l = hemtaluq_list(one_state, sizeof one_state, 0, NULL, 0);
+    check("list, no rows and no room, null", l.kind == HEMTALUQ_LISTED && l.number == 0 && l.place == 0 && l.entries == 0);
+    l = hemtaluq_list(plant_a, sizeof plant_a, 1, NULL, 0);
+    check("list, cycles and no room, null", l.kind == HEMTALUQ_REFUSED && l.number == HEMTALUQ_LISTING_ROOM && l.place == 0 && l.entries == 0);
+    hemtaluq_weigh_answer w = hemtaluq_weigh(NULL, 0, NULL, 0, NULL, 0);
+    check("weigh, three null lists", w.kind == HEMTALUQ_REFUSED && w.number == HEMTALUQ_FILE_ENDS && w.place == 0);
+    w = hemtaluq_weigh(one_state, sizeof one_state, NULL, 0, NULL, 0);
+    check("weigh, no weights and no room, null", w.kind == HEMTALUQ_REFUSED && w.number == HEMTALUQ_CYCLE_ROOM && w.place == 0);
+    weigh_is("weigh, no file, null", NULL, 0, weights_2_1, 2, 64, ends, 0);
+    weigh_is("weigh, no types, weights null", one_state, sizeof one_state, NULL, 0, 64, none, 0);
+    weigh_is("weigh, types, weights null", plant_a, sizeof plant_a, NULL, 0, 64, r9, 0);
+    read_refused("read, no file, null", NULL, 0, HEMTALUQ_FILE_ENDS, 0);
+    quote_is("quote, three null lists", NULL, 0, NULL, 0, NULL, 0, 0, no_plant);
+    quote_is("quote, no types, weights and contents null", one_state, sizeof one_state, NULL, 0, NULL, 0, 0, zero);
+    quote_is("quote, weights null", plant_a, sizeof plant_a, NULL, 0, c34, 2, 1, nine);
+    quote_is("quote, contents null", plant_a, sizeof plant_a, weights_2_1, 2, NULL, 0, 1, r20);
+    confirm_is("confirm, no file and no set, null", NULL, 0, NULL, 0, no_file);
+    confirm_is("confirm, no set, null", plant_b, sizeof plant_b, NULL, 0, r18);
+}
+
 int main(void) {
+    check("the library has the header's version", hemtaluq_version() == HEMTALUQ_VERSION);
     make_largest();
     reading();
     weighing();
     quoting();
     listing();
     confirming();
+    null_pointers();
     printf("interface.c: %d checks, %d failed\n", checks, failed);
     return failed != 0;
 }

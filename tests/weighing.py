@@ -188,7 +188,7 @@ int main(void) {
         uint16_t *weights = malloc(2 * head[1] + 2), *cycle = malloc(2 * head[2] + 2);
         if (fread(file, 1, head[0], stdin) != head[0] || fread(weights, 2, head[1], stdin) != head[1] || fread(cycle, 2, head[2], stdin) != head[2]) return 1;
         hemtaluq_weigh_answer w = hemtaluq_weigh(file, head[0], weights, head[1], cycle, head[2]);
-        if (w.kind == HEMTALUQ_PASSED) printf("passed %llu %llu %llu", (unsigned long long)w.base, (unsigned long long)w.states, (unsigned long long)w.per_progress);
+        if (w.kind == HEMTALUQ_PASSED) printf("passed %llu %llu %llu", (unsigned long long)w.base, (unsigned long long)w.most_states, (unsigned long long)w.per_progress);
         if (w.kind == HEMTALUQ_CYCLE) printf("cycle %zu", w.rows);
         if (w.kind == HEMTALUQ_REFUSED) printf("refused %d %zu", w.number, w.place);
         printf(" :");

@@ -1,14 +1,25 @@
 //! The program of cabinet.c in Rust, over the safe wrappers of hemtaluq.rs.
 //!
 //!     cabinet PLANT WEIGHTS G CONTENT...
+
+// The program makes two of the five calls.
+#[allow(dead_code)]
 mod hemtaluq;
 
 use hemtaluq::{Fault, Weighed};
+use std::ffi::{OsStr, OsString};
 use std::process::ExitCode;
 
 fn refuse(fault: Fault) -> ExitCode {
     println!("refused with {} at {}: {}", fault.number, fault.place, fault.in_words());
     ExitCode::from(2)
+}
+
+/// A number of the command line: digits alone. The largest one stands for a word that is no number and for a number above
+/// 32 bits: the call refuses it, at the word's place and after the faults that come before.
+fn number_of(word: &OsStr) -> u32 {
+    let digits = word.to_str().filter(|text| text.bytes().all(|byte| byte.is_ascii_digit()));
+    digits.and_then(|text| text.parse().ok()).unwrap_or(u32::MAX)
 }
 
 fn show_cycle(plant: &[u8], weights: &[u16]) -> ExitCode {
@@ -25,7 +36,11 @@ fn show_cycle(plant: &[u8], weights: &[u16]) -> ExitCode {
 }
 
 fn main() -> ExitCode {
-    let arguments: Vec<String> = std::env::args().collect();
+    if hemtaluq::version() != hemtaluq::VERSION {
+        eprintln!("cabinet: the library has version {}, the wrappers {}", hemtaluq::version(), hemtaluq::VERSION);
+        return ExitCode::from(3);
+    }
+    let arguments: Vec<OsString> = std::env::args_os().collect();
     if arguments.len() < 4 {
         eprintln!("usage: cabinet PLANT WEIGHTS G CONTENT...");
         return ExitCode::from(2);
@@ -37,7 +52,7 @@ fn main() -> ExitCode {
         // Half a weight is one weight too many for any plant.
         weights = vec![0; 65];
     }
-    let numbers: Vec<u32> = arguments[3..].iter().map(|text| text.parse().unwrap_or(u32::MAX)).collect();
+    let numbers: Vec<u32> = arguments[3..].iter().map(|word| number_of(word)).collect();
     match hemtaluq::quote(&plant, &weights, &numbers[1..], numbers[0]) {
         Ok(quote) => {
             println!("at most {} steps without a fresh reading (price class {})", quote.ceiling, quote.price_class);

@@ -1,5 +1,8 @@
 //! Safe wrappers around the C interface of Hemtaluq: slices in, enums out.
 
+/// The version of the interface that these wrappers are written for.
+pub const VERSION: u32 = 1;
+
 /// Why a call was refused: the number of the fault and where it was met.
 #[derive(Debug, Clone, Copy, PartialEq, Eq)]
 pub struct Fault {
@@ -30,7 +33,7 @@ impl Fault {
             17 => "an entry of the set is no quiet cycle",
             18 => "the set has no entry or more than 256",
             20 => "there is not one content for each type",
-            21 => "a content or G is above 1,000,000",
+            21 => "a content or G is not a number up to 1,000,000",
             22 => "the weights do not pass",
             _ => "unknown",
         }
@@ -48,7 +51,7 @@ pub struct Counts {
 /// What weighing says: F, n and G, or the rows of a quiet simple cycle that weighs zero or more.
 #[derive(Debug, Clone, PartialEq, Eq)]
 pub enum Weighed {
-    Passed { base: u64, states: u64, per_progress: u64 },
+    Passed { base: u64, most_states: u64, per_progress: u64 },
     Cycle(Vec<u16>),
 }
 
@@ -82,7 +85,7 @@ struct WeighAnswer {
     number: u8,
     place: usize,
     base: u64,
-    states: u64,
+    most_states: u64,
     per_progress: u64,
     rows: usize,
 }
@@ -117,13 +120,25 @@ const REFUSED: u8 = 0;
 const CYCLE: u8 = 3;
 const NEGATIVE: u8 = 7;
 
+// The symbols carry the revisions of the structs and arguments above: a library with others has other symbols, and is not linked.
 #[link(name = "hemtaluq", kind = "static")]
 extern "C" {
+    fn hemtaluq_version() -> u32;
+    #[link_name = "hemtaluq_read_v1"]
     fn hemtaluq_read(file: *const u8, file_length: usize) -> ReadAnswer;
+    #[link_name = "hemtaluq_weigh_v1"]
     fn hemtaluq_weigh(file: *const u8, file_length: usize, weights: *const u16, weight_count: usize, cycle: *mut u16, cycle_length: usize) -> WeighAnswer;
+    #[link_name = "hemtaluq_quote_v1"]
     fn hemtaluq_quote(file: *const u8, file_length: usize, weights: *const u16, weight_count: usize, contents: *const u32, content_count: usize, g: u32) -> QuoteAnswer;
+    #[link_name = "hemtaluq_list_v1"]
     fn hemtaluq_list(file: *const u8, file_length: usize, machine: u32, out: *mut u16, out_length: usize) -> ListAnswer;
+    #[link_name = "hemtaluq_confirm_v1"]
     fn hemtaluq_confirm(file: *const u8, file_length: usize, set: *const u32, set_length: usize) -> ConfirmAnswer;
+}
+
+/// The version of the library that was linked. These wrappers are for it where it is `VERSION`.
+pub fn version() -> u32 {
+    unsafe { hemtaluq_version() }
 }
 
 /// The counts of machines, types and rows of a plant file.
@@ -142,7 +157,7 @@ pub fn weigh(file: &[u8], weights: &[u16]) -> Result<Weighed, Fault> {
     match a.kind {
         REFUSED => Err(Fault { number: a.number, place: a.place }),
         CYCLE => Ok(Weighed::Cycle(cycle[..a.rows].to_vec())),
-        _ => Ok(Weighed::Passed { base: a.base, states: a.states, per_progress: a.per_progress }),
+        _ => Ok(Weighed::Passed { base: a.base, most_states: a.most_states, per_progress: a.per_progress }),
     }
 }
 

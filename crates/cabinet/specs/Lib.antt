@@ -1,2 +1,3 @@
--- The answers of the C interface.
+-- The answers of the C interface, and its version.
 pub mod Structs
+pub mod Versions

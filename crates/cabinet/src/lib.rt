@@ -1,4 +1,6 @@
-// The C interface: the five calls, with answers as structs. include/hemtaluq.h declares them for C and C++.
+// The C interface: the five calls, with answers as structs, and its version. include/hemtaluq.h declares them for C and C++.
+// The name of a call carries its revision. A call whose struct or arguments change gets the next one, so that an object compiled with an old
+// header finds no symbol and does not link.
 ghost use mathlib.Core.Path.{_≡_};
 ghost use mathlib.Core.Logic.{_↔_};
 ghost use lib.ListN.{length};
@@ -9,6 +11,7 @@ ghost use Rattle.quoting.specs.Quoting as Quoting;
 ghost use Rattle.listing.specs.Listing as Listing;
 ghost use Rattle.cycle_sets.specs.Confirming.{owed, ReadsBalanced};
 ghost use Rattle.cabinet.specs.Structs.{readStruct, listStruct, confirmStruct, WeighedAs, QuotedAs, Lists};
+ghost use Rattle.cabinet.specs.Versions.{interfaceVersion};
 use cycle_sets::Confirmation;
 use listing::Listed;
 use quoting::Quoted;
@@ -67,8 +70,18 @@ pub struct ConfirmAnswer {
     pub sum: i64,
 }
 
+const VERSION: u32 = 1;
+
+// The version of this library's interface. This export has no revision: what it means never changes.
 #[no_mangle]
-pub extern "C" fn hemtaluq_read(file: &[u8]) -> ReadAnswer
+pub extern "C" fn hemtaluq_version() -> u32
+    ensures { λ r. ⌜ r ≡ interfaceVersion ⌝ }
+{
+    VERSION
+}
+
+#[no_mangle]
+pub extern "C" fn hemtaluq_read_v1(file: &[u8]) -> ReadAnswer
     ensures { λ r. ⌜ r ≡ readStruct (countsOf (readPlant (now (file .entry)))) ⌝ }
 {
     let answer = reading::read(file);
@@ -97,7 +110,7 @@ pub extern "C" fn hemtaluq_read(file: &[u8]) -> ReadAnswer
 }
 
 #[no_mangle]
-pub extern "C" fn hemtaluq_weigh(file: &[u8], weights: &[u16], cycle: &mut [u16]) -> WeighAnswer
+pub extern "C" fn hemtaluq_weigh_v1(file: &[u8], weights: &[u16], cycle: &mut [u16]) -> WeighAnswer
     ensures { λ r. ⌜ WeighedAs (now (weights .entry)) (now (cycle .entry)) (now (cycle .exit)) r (Weighing.judged (now (file .entry)) (now (weights .entry)) (length (now (cycle .entry)))) ⌝ }
 {
     let answer = weighing::weigh(file, weights, cycle);
@@ -112,7 +125,7 @@ pub extern "C" fn hemtaluq_weigh(file: &[u8], weights: &[u16], cycle: &mut [u16]
             place: 0,
             base,
             most_states,
-            per_progress,
+            per_progress: per_progress,
             rows: 0,
         },
         Weighed::Cycle { rows } => WeighAnswer {
@@ -137,7 +150,7 @@ pub extern "C" fn hemtaluq_weigh(file: &[u8], weights: &[u16], cycle: &mut [u16]
 }
 
 #[no_mangle]
-pub extern "C" fn hemtaluq_quote(
+pub extern "C" fn hemtaluq_quote_v1(
     file: &[u8],
     weights: &[u16],
     contents: &[u32],
@@ -165,7 +178,7 @@ pub extern "C" fn hemtaluq_quote(
 }
 
 #[no_mangle]
-pub extern "C" fn hemtaluq_list(file: &[u8], machine: u32, out: &mut [u16]) -> ListAnswer
+pub extern "C" fn hemtaluq_list_v1(file: &[u8], machine: u32, out: &mut [u16]) -> ListAnswer
     ensures { λ r. ⌜ r ≡ listStruct (Listing.answered (Listing.judged (now (file .entry)) machine (length (now (out .entry))))) ⌝ }
     ensures { λ r. ⌜ now (out .exit) ≡ Listing.filled (Listing.judged (now (file .entry)) machine (length (now (out .entry)))) (now (out .entry)) ⌝ }
     ensures { λ r. ⌜ Lists (now (file .entry)) machine r (now (out .exit)) ⌝ }
@@ -188,7 +201,7 @@ pub extern "C" fn hemtaluq_list(file: &[u8], machine: u32, out: &mut [u16]) -> L
 }
 
 #[no_mangle]
-pub extern "C" fn hemtaluq_confirm(file: &[u8], set: &[u32]) -> ConfirmAnswer
+pub extern "C" fn hemtaluq_confirm_v1(file: &[u8], set: &[u32]) -> ConfirmAnswer
     ensures { λ r. ⌜ r ≡ confirmStruct (owed (readPlant (now (file .entry))) (now (set .entry))) ⌝ }
     ensures { λ r. ⌜ (r .kind ≡ 6) ↔ ReadsBalanced (now (file .entry)) (now (set .entry)) ⌝ }
 {

@@ -6,6 +6,7 @@ ghost use lib.IntN.{pos};
 ghost use lib.Signed.{_<ℤ_};
 ghost use Rattle.io.specs.Counts.{Counts};
 ghost use Rattle.answer_line.specs.Files.{PrintedOf};
+use libc::STDERR_FILENO;
 use libc::STDOUT_FILENO;
 
 // The bytes of an opened file, as far as the buffer holds them; none where the descriptor is below zero, which stands for a file that cannot be opened.
@@ -28,12 +29,18 @@ fn read_named(path: &[u8], buf: &mut [u8]) -> usize
     read_opened(fd, buf)
 }
 
-// Writes a line to standard output. Only the line that is owed for the two files may be handed over: for every two files of which
-// the first n and m bytes of the buffers are the whole, or as much as the buffers hold.
+// Writes a line to standard output, and says on standard error where that was not possible: the program has no exit status of its own.
+// Only the line that is owed for the two files may be handed over: for every two files of which the first n and m bytes of the buffers
+// are the whole, or as much as the buffers hold.
 fn write_owed(plant: &[u8], n: usize, weights: &[u8], m: usize, line: &[u8])
     requires { ⌜ PrintedOf (now plant) n (now weights) m (now line) ⌝ }
 {
-    io::write_all(STDOUT_FILENO, line);
+    if !io::write_all(STDOUT_FILENO, line) {
+        io::write_all(
+            STDERR_FILENO,
+            b"ceiling: the line could not be written to standard output\n",
+        );
+    }
 }
 
 // Prints the line for the two files, of which n and m bytes were read into the buffers. A plant has at most 4,130 bytes and its weights at most 128:

@@ -1,8 +1,8 @@
--- `hemtaluq_read` meets its contract: each answer of `read` becomes its struct.
+-- `hemtaluq_read_v1` meets its contract: each answer of `read` becomes its struct.
 use borrow.Author.Needs.{needs}
 use Rattle.cabinet.proofs.StructLaws.{read-told}
-use Rattle.cabinet.proofs.hemtaluq_read.Statement.{statement}
-use Rattle.cabinet.proofs.hemtaluq_read.Tie as tie
+use Rattle.cabinet.proofs.hemtaluq_read_v1.Statement.{statement}
+use Rattle.cabinet.proofs.hemtaluq_read_v1.Tie as tie
 
 read-requires : tie.Need-read-requires
 read-requires c κs = search needs
@@ -19,6 +19,6 @@ returns c = read-told (c .before .before .before .read .ensures) (c .before .ans
 returns-2 : tie.Need-returns-2
 returns-2 c = read-told (c .before .before .before .read .ensures) (c .before .answer2 .given .1)
 
-pub hemtaluq-read-spec : {M : Type 1} → statement M
-hemtaluq-read-spec =
+pub hemtaluq-read-v1-spec : {M : Type 1} → statement M
+hemtaluq-read-v1-spec =
     tie.close (tie.spec read-requires enum-known-answer enum-known-answer-2 returns returns-2)

@@ -1,8 +1,8 @@
--- `hemtaluq_weigh` meets its contract: each answer of `weigh` becomes its struct, and the lent list is what `weigh` left.
+-- `hemtaluq_weigh_v1` meets its contract: each answer of `weigh` becomes its struct, and the lent list is what `weigh` left.
 use borrow.Author.Needs.{needs}
 use Rattle.cabinet.proofs.StructLaws.{weigh-told}
-use Rattle.cabinet.proofs.hemtaluq_weigh.Statement.{statement}
-use Rattle.cabinet.proofs.hemtaluq_weigh.Tie as tie
+use Rattle.cabinet.proofs.hemtaluq_weigh_v1.Statement.{statement}
+use Rattle.cabinet.proofs.hemtaluq_weigh_v1.Tie as tie
 
 weigh-requires : tie.Need-weigh-requires
 weigh-requires c κs = search needs
@@ -34,8 +34,8 @@ same-length-3 c = search needs
 returns-3 : tie.Need-returns-3
 returns-3 c = weigh-told (c .before .before .before .before .before .weigh .ensures) (c .before .answer3 .given .1)
 
-pub hemtaluq-weigh-spec : {M : Type 1} → statement M
-hemtaluq-weigh-spec =
+pub hemtaluq-weigh-v1-spec : {M : Type 1} → statement M
+hemtaluq-weigh-v1-spec =
     tie.close
     (tie.spec
     weigh-requires

@@ -1,8 +1,8 @@
--- `hemtaluq_confirm` meets its contract: each answer of `confirm` becomes its struct.
+-- `hemtaluq_confirm_v1` meets its contract: each answer of `confirm` becomes its struct.
 use borrow.Author.Needs.{needs}
 use Rattle.cabinet.proofs.StructLaws.{confirm-told, negative-told, confirms-told, negative-means, refused-means}
-use Rattle.cabinet.proofs.hemtaluq_confirm.Statement.{statement}
-use Rattle.cabinet.proofs.hemtaluq_confirm.Tie as tie
+use Rattle.cabinet.proofs.hemtaluq_confirm_v1.Statement.{statement}
+use Rattle.cabinet.proofs.hemtaluq_confirm_v1.Tie as tie
 
 confirm-requires : tie.Need-confirm-requires
 confirm-requires c κs = search needs
@@ -35,8 +35,8 @@ returns-3 c =
     let e = c .before .answer2 .given .1 in
     (confirm-told (f .0) e, refused-means _ (f .1) e)
 
-pub hemtaluq-confirm-spec : {M : Type 1} → statement M
-hemtaluq-confirm-spec =
+pub hemtaluq-confirm-v1-spec : {M : Type 1} → statement M
+hemtaluq-confirm-v1-spec =
     tie.close
     (tie.spec
     confirm-requires

@@ -1,9 +1,9 @@
--- `hemtaluq_list` meets its contract: each answer of `list` becomes its struct, and the lent list is what `list` left.
+-- `hemtaluq_list_v1` meets its contract: each answer of `list` becomes its struct, and the lent list is what `list` left.
 use borrow.Author.Needs.{needs}
 use native.Mathlib.Omega.{arith}
 use Rattle.cabinet.proofs.StructLaws.{list-told, lists-told}
-use Rattle.cabinet.proofs.hemtaluq_list.Statement.{statement}
-use Rattle.cabinet.proofs.hemtaluq_list.Tie as tie
+use Rattle.cabinet.proofs.hemtaluq_list_v1.Statement.{statement}
+use Rattle.cabinet.proofs.hemtaluq_list_v1.Tie as tie
 
 list-requires : tie.Need-list-requires
 list-requires c κs = search needs
@@ -26,8 +26,8 @@ same-length-2 c = search needs
 returns-2 : tie.Need-returns-2
 returns-2 c = let l = c .before .before .before .before .before .list .ensures in (list-told (l .0) (c .before .answer2 .given .1), (l .1 .0, λ k. absurd (omega arith)))
 
-pub hemtaluq-list-spec : {M : Type 1} → statement M
-hemtaluq-list-spec =
+pub hemtaluq-list-v1-spec : {M : Type 1} → statement M
+hemtaluq-list-v1-spec =
     tie.close
     (tie.spec
     list-requires

@@ -1,0 +1,33 @@
+//! Calls every wrapper of examples/cabinet/hemtaluq.rs, once for each kind of answer. The expected answers are written from the scope document.
+#[path = "../examples/cabinet/hemtaluq.rs"]
+mod hemtaluq;
+
+use hemtaluq::{Confirmed, Counts, Fault, Quote, Weighed};
+
+const PLANT_A: [u8; 20] = [2, 2, 2, 2, 0x06, 1, 0, 0x1B, 1, 0, 1, 2, 2, 0x0A, 1, 0, 0x07, 1, 0, 1];
+const PLANT_B: [u8; 20] = [2, 2, 2, 2, 0x06, 1, 0, 0x0B, 1, 0, 1, 2, 2, 0x0A, 1, 0, 0x07, 1, 0, 1];
+
+fn fault(number: u8, place: usize) -> Fault {
+    Fault { number, place }
+}
+
+fn main() {
+    assert_eq!(hemtaluq::version(), hemtaluq::VERSION);
+    assert_eq!(fault(22, 0).in_words(), "the weights do not pass");
+    assert_eq!(hemtaluq::read(&[1, 3, 1, 2, 0, 0]), Ok(Counts { machines: 1, types: 3, rows: 2 }));
+    assert_eq!(hemtaluq::read(&PLANT_A[..7]), Err(fault(1, 7)));
+    assert_eq!(hemtaluq::weigh(&PLANT_A, &[2, 1]), Ok(Weighed::Passed { base: 10, most_states: 2, per_progress: 9 }));
+    let shown = hemtaluq::weigh(&PLANT_A, &[1, 1]);
+    assert!(shown == Ok(Weighed::Cycle(vec![2, 3])) || shown == Ok(Weighed::Cycle(vec![3, 2])));
+    assert_eq!(hemtaluq::weigh(&PLANT_A, &[2, 1001]), Err(fault(10, 1)));
+    assert_eq!(hemtaluq::quote(&PLANT_A, &[2, 1], &[3, 4], 1), Ok(Quote { ceiling: 39, price_class: 6 }));
+    assert_eq!(hemtaluq::quote(&PLANT_A, &[2, 1], &[3, 4], 1_000_001), Err(fault(21, 2)));
+    let mut out = [7; 5];
+    assert_eq!(hemtaluq::list(&PLANT_A, 1, &mut out[..2]), Err(fault(14, 0)));
+    assert_eq!(hemtaluq::list(&PLANT_A, 1, &mut out), Ok(3));
+    assert_eq!(out, [2, 2, 3, 7, 7]);
+    let both = [0, 1, 2, 0, 1, 1, 1, 2, 2, 3];
+    assert_eq!(hemtaluq::confirm(&PLANT_B, &both), Ok(Confirmed::Balanced));
+    assert_eq!(hemtaluq::confirm(&PLANT_B, &both[..5]), Ok(Confirmed::Negative { message_type: 1, sum: -1 }));
+    assert_eq!(hemtaluq::confirm(&PLANT_B, &both[..4]), Err(fault(15, 4)));
+}
