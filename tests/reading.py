@@ -65,7 +65,7 @@ def expected(data):
         types, states, rows = read_plant(data)
     except Fault as fault:
         return 'refused %d %d' % fault.args
-    first = [sum(1 for r in rows if r[0] < m) for m in range(17)]
+    first = [sum(1 for r in rows if r[0] < m) for m in range(len(states) + 1)]
     numbers = states + first
     for m, left, entered, sent, taken, progress in rows:
         numbers += [m, left, entered, 64 if sent is None else sent, 64 if taken is None else taken, int(progress)]
@@ -156,39 +156,28 @@ def files(rng):
 
 PROBE = '''
 #[repr(C)]
-pub struct Columns {
+pub struct Held {
     pub states: [u8; 16],
     pub first: [u16; 17],
-    pub machine: [u8; 1024],
-    pub left: [u8; 1024],
-    pub entered: [u8; 1024],
-    pub sent: [u8; 1024],
-    pub taken: [u8; 1024],
-    pub progress: [bool; 1024],
+    pub table: [u8; 8192],
 }
 
 #[no_mangle]
-pub extern "C" fn probe_columns(file: &[u8]) -> Columns {
-    let decoded = decoding::decode(file);
-    let t = decoded.table;
-    let states = t.states;
-    let first = t.first;
-    let machine = t.machine;
-    let left = t.left;
-    let entered = t.entered;
-    let sent = t.sent;
-    let taken = t.taken;
-    let progress = t.progress;
-    Columns { states, first, machine, left, entered, sent, taken, progress }
+pub extern "C" fn probe_table(file: &[u8]) -> Held {
+    let mut table = [0; 8192];
+    let decoded = decoding::decode(file, &mut table);
+    let shape = decoded.shape;
+    let states = shape.states;
+    let first = shape.first;
+    Held { states, first, table }
 }
 '''
 
-DRIVER = '''#include <stdbool.h>
-#include <stdio.h>
+DRIVER = '''#include <stdio.h>
 #include <stdlib.h>
 #include "hemtaluq.h"
-typedef struct { uint8_t states[16]; uint16_t first[17]; uint8_t machine[1024], left[1024], entered[1024], sent[1024], taken[1024]; bool progress[1024]; } Columns;
-Columns probe_columns(const uint8_t *file, size_t length);
+typedef struct { uint8_t states[16]; uint16_t first[17]; uint8_t table[8192]; } Held;
+Held probe_table(const uint8_t *file, size_t length);
 static uint64_t total;
 static void add(unsigned x) { total = (total * 131 + x + 1) % 4294967291u; }
 int main(void) {
@@ -201,12 +190,12 @@ int main(void) {
         if (c.kind == HEMTALUQ_REFUSED) {
             printf("refused %d %zu\\n", c.number, c.place);
         } else {
-            Columns t = probe_columns(file, n);
+            Held t = probe_table(file, n);
             total = 0;
             for (size_t m = 0; m < c.machines; m++) add(t.states[m]);
-            for (size_t m = 0; m < 17; m++) add(t.first[m]);
+            for (size_t m = 0; m <= c.machines; m++) add(t.first[m]);
             for (size_t k = 0; k < c.rows; k++) {
-                add(t.machine[k]); add(t.left[k]); add(t.entered[k]); add(t.sent[k]); add(t.taken[k]); add(t.progress[k]);
+                for (size_t i = 0; i < 6; i++) add(t.table[8 * k + i]);
             }
             printf("counts %zu %d %zu %llu\\n", c.machines, c.types, c.rows, (unsigned long long)total);
         }

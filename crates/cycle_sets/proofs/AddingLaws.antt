@@ -1,7 +1,7 @@
 -- Laws of the sums: what one row adds, and rows one after the other.
 use mathlib.Core.Path.{_≡_, refl, sym, ap, _∙_, subst}
 use mathlib.Core.Bool.{Bool, true, false, cond}
-use mathlib.Core.Option.{none, some}
+use mathlib.Core.Option.{Option, none, some}
 use mathlib.Core.List.{List, [], _∷_, _++_}
 use Prim.Native.Nat.{ℕ, _+_, _*_, _^_, _≤_, _<_}
 use native.Mathlib.Decide.{ℕ-discrete}
@@ -14,14 +14,16 @@ use mir.Syntax.{w64}
 use mir.Val.{toZ, ofZ}
 use borrow.Author.Tests.{ltb-true, lt-ltb, le-ltb, eq-eqb, ne-eqb}
 use Rattle.livelock.specs.Lists.{sum}
+use Rattle.livelock.specs.Plants.{Row}
 use Rattle.livelock.specs.Cycles.{isOfType}
 use Rattle.livelock.proofs.SumLaws.{sum-append}
 use Rattle.livelock.proofs.Differences.{Difference, difference-shift, difference-plus, difference-neg}
 use Rattle.plant.specs.Steps.{typeOf}
+use Rattle.tables.specs.Tables.{rowIn}
 use Rattle.cycle_sets.specs.Inner.Sums.{raised, Within, having, Added}
 use Rattle.cycle_sets.proofs.SizeLaws.{size-plus, size-neg, sum-is, times-is, less-is}
 
--- 1 where an entry of a column is type t.
+-- 1 where a byte is type t.
 abbrev one : ℕ → ℕ → ℕ
 one x t = cond (isOfType (typeOf x) t) 1 0
 
@@ -95,7 +97,7 @@ module _ (s : List ℤ) where
 
 -- ---- one row
 
-module _ (sent taken : List ℕ) (repeats : ℕ) (few : repeats ≤ 1000000) (rows : List ℕ) (before now : List ℤ) (h : Added sent taken repeats rows before now) where
+module _ (table : List ℕ) (repeats : ℕ) (few : repeats ≤ 1000000) (rows : List ℕ) (before now : List ℤ) (h : Added table repeats rows before now) where
   -- One more message sent changes no sum by more than 1,000,000,
   sent-within : (m x : ℕ) → Within x before → Within (x + length rows * 2000000 + 1000000) (raised now m (pos repeats))
   sent-within m x w = raised-within now (h .room) m (pos repeats) (x + length rows * 2000000) 1000000 few (h .within x w)
@@ -104,57 +106,63 @@ module _ (sent taken : List ℕ) (repeats : ℕ) (few : repeats ≤ 1000000) (ro
   pub sent-small : Within (2 ^ 61) before → length rows < 64 → (m : ℕ) (mid : List ℤ) → mid ≡ raised now m (toZ w64 repeats) → Within (2 ^ 62) mid
   sent-small small short m mid e = subst (Within (2 ^ 62)) (sym (e ∙ ap (raised now m) (times-is repeats few))) (λ i. omega (arith, sent-within m (2 ^ 61) small i))
 
-  module _ (k : ℕ) where
+  module _ (k x y : ℕ) (sends : typeOf x ≡ rowIn table k .sent) (takes : typeOf y ≡ rowIn table k .taken) where
     -- Row k adds to the sum of what it sends,
     abbrev up : List ℤ
-    up = raised now (getD sent k 0) (pos repeats)
+    up = raised now x (pos repeats)
 
     up-room : length up ≡ 64
-    up-room = raised-room now (h .room) (getD sent k 0) (pos repeats)
+    up-room = raised-room now (h .room) x (pos repeats)
 
     -- and takes from that of what it takes.
     abbrev down : List ℤ
-    down = raised up (getD taken k 0) (negℤ (pos repeats))
+    down = raised up y (negℤ (pos repeats))
 
     -- In all it changes no sum by more than 2,000,000.
-    row-within : (x : ℕ) → Within x before → Within (x + length (rows ++ (k ∷ [])) * 2000000) down
-    row-within x w i =
+    row-within : (n : ℕ) → Within n before → Within (n + length (rows ++ (k ∷ [])) * 2000000) down
+    row-within n w i =
         omega (
           arith,
           length-append rows (k ∷ []),
-          raised-within up up-room (getD taken k 0) (negℤ (pos repeats)) (x + length rows * 2000000 + 1000000) 1000000 (omega (arith, size-neg repeats)) (sent-within (getD sent k 0) x w) i,
+          raised-within up up-room y (negℤ (pos repeats)) (n + length rows * 2000000 + 1000000) 1000000 (omega (arith, size-neg repeats)) (sent-within x n w) i,
         )
 
     -- One more row that has a type.
-    one-more : (column : List ℕ) (t : ℕ) → repeats * having column t (rows ++ (k ∷ [])) ≡ repeats * having column t rows + repeats * one (getD column k 0) t
+    one-more : (field : Row → Option ℕ) (z : ℕ) → typeOf z ≡ field (rowIn table k) → (t : ℕ)
+        → repeats * having field table t (rows ++ (k ∷ [])) ≡ repeats * having field table t rows + repeats * one z t
     unfolding sum
-    one-more column t = omega (arith, ap (λ (n : ℕ). repeats * n) (sum-append (λ j. cond (isOfType (typeOf (getD column j 0)) t) 1 0) rows (k ∷ [])))
+    one-more field z is t =
+        omega (
+          arith,
+          ap (λ (n : ℕ). repeats * n) (sum-append (λ j. cond (isOfType (field (rowIn table j)) t) 1 0) rows (k ∷ [])),
+          ap (λ (o : Option ℕ). repeats * cond (isOfType o t) 1 0) is,
+        )
 
     -- After row k, one row more is added.
-    row-added : Added sent taken repeats (rows ++ (k ∷ [])) before down
+    row-added : Added table repeats (rows ++ (k ∷ [])) before down
     row-added =
         record {
-          room = raised-room up up-room (getD taken k 0) (negℤ (pos repeats));
+          room = raised-room up up-room y (negℤ (pos repeats));
           sums = λ t a b i.
-              let a′ : ℕ = a + repeats * having sent t rows in
-              let b′ : ℕ = b + repeats * having taken t rows in
-              let u = raised-difference now (h .room) (getD sent k 0) (pos repeats) repeats 0 t a′ b′ (omega arith) (h .sums t a b i) in
-              let d = raised-difference up up-room (getD taken k 0) (negℤ (pos repeats)) 0 repeats t (a′ + repeats * one (getD sent k 0) t) (b′ + 0 * one (getD sent k 0) t) (difference-neg repeats) u in
-              difference-shift (getD down t (pos 0)) _ _ (a + repeats * having sent t (rows ++ (k ∷ []))) (b + repeats * having taken t (rows ++ (k ∷ []))) (omega (arith, one-more sent t, one-more taken t)) d;
+              let a′ : ℕ = a + repeats * having (λ r. r .sent) table t rows in
+              let b′ : ℕ = b + repeats * having (λ r. r .taken) table t rows in
+              let u = raised-difference now (h .room) x (pos repeats) repeats 0 t a′ b′ (omega arith) (h .sums t a b i) in
+              let d = raised-difference up up-room y (negℤ (pos repeats)) 0 repeats t (a′ + repeats * one x t) (b′ + 0 * one x t) (difference-neg repeats) u in
+              difference-shift (getD down t (pos 0)) _ _ (a + repeats * having (λ r. r .sent) table t (rows ++ (k ∷ []))) (b + repeats * having (λ r. r .taken) table t (rows ++ (k ∷ []))) (omega (arith, one-more (λ r. r .sent) x sends t, one-more (λ r. r .taken) y takes t)) d;
           within = row-within;
         }
 
     -- The same as the code does it, in 64 bits.
-    pub row-stored : (mid after : List ℤ) → mid ≡ raised now (getD sent k 0) (toZ w64 repeats) → after ≡ raised mid (getD taken k 0) (toZ w64 (ofZ w64 (pos 0 -ℤ toZ w64 repeats)))
-        → Added sent taken repeats (rows ++ (k ∷ [])) before after
-    row-stored mid after e f = subst (Added sent taken repeats (rows ++ (k ∷ [])) before) (sym (f ∙ rw (e, less-is repeats few, times-is repeats few))) row-added
+    pub row-stored : (mid after : List ℤ) → mid ≡ raised now x (toZ w64 repeats) → after ≡ raised mid y (toZ w64 (ofZ w64 (pos 0 -ℤ toZ w64 repeats)))
+        → Added table repeats (rows ++ (k ∷ [])) before after
+    row-stored mid after e f = subst (Added table repeats (rows ++ (k ∷ [])) before) (sym (f ∙ rw (e, less-is repeats few, times-is repeats few))) row-added
 
 -- ---- the rows one after the other
 
 -- Before the first row nothing is added.
-pub none-added : (sent taken : List ℕ) (repeats : ℕ) (before : List ℤ) → length before ≡ 64 → Added sent taken repeats [] before before
+pub none-added : (table : List ℕ) (repeats : ℕ) (before : List ℤ) → length before ≡ 64 → Added table repeats [] before before
 unfolding sum
-none-added sent taken repeats before room =
+none-added table repeats before room =
     record {
       room = room;
       sums = λ t a b i. difference-shift (getD before t (pos 0)) a b (a + repeats * 0) (b + repeats * 0) (omega arith) i;

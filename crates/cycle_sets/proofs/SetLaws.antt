@@ -18,12 +18,12 @@ use Rattle.livelock.proofs.Differences.{Difference, difference-shift}
 use Rattle.livelock.proofs.CycleSetLaws.{setSent, setTaken, set-difference}
 use Rattle.plant.specs.Found.{found, fault, andThen}
 use Rattle.decoding.specs.Tables.{plantOf, Ready}
-use Rattle.decoding.specs.declared.PlantTable.{PlantTable}
+use Rattle.decoding.specs.declared.Shape.{Shape}
 use Rattle.plant.specs.declared.Fault.{Fault}
 use Rattle.plant.specs.declared.End.the-variants as Ends
 use Rattle.decoding.proofs.TableLaws.{rows-counted}
 use Rattle.set_entries.specs.Sets.{entryAt, entryBegins, entriesAt, readSet}
-use Rattle.set_entries.specs.Entries.{part, NumbersBelow, entryIn}
+use Rattle.set_entries.specs.Entries.{part, RowsThere, entryIn}
 use Rattle.cycle_sets.specs.Inner.Sums.{Within, having, Added, SumsOf, JudgedAs, entries-read, fault-met}
 use Rattle.set_entries.proofs.NumberLaws.{begins-within, part-length, part-below}
 use Rattle.set_entries.proofs.EntryLaws.{EntryRead, entry-read}
@@ -58,9 +58,9 @@ module _ (P : Plant) (set : List ℕ) (es : List Entry) (at : ℕ) where
   unfolding entriesAt
   begin-goes-on n a h = let q = begins-within (suc n) set at a h .2 in rw (h, q)
 
-module _ (t : PlantTable) (set : List ℕ) where
+module _ (s : Shape) (table set : List ℕ) where
   abbrev P : Plant
-  P = plantOf t
+  P = plantOf s table
 
   -- So many entries came before an index, with these sums: what is left gives what the whole gives.
   pub record Going (before at : ℕ) (sums : List ℤ) : Type 0 where
@@ -114,7 +114,7 @@ module _ (t : PlantTable) (set : List ℕ) where
       pub entry-stops : (f : Fault) → fault (f .number) (f .place) ≡ entryAt P set at → JudgedAs P sums (Ends.Fault f) (readSet P set)
       entry-stops f h = stops (f .number) (f .place) (rw (← h) at one-more)
 
-      module _ (ready : Ready t) (next : ℕ) (h : found (entryIn set at) next ≡ entryAt P set at) where
+      module _ (ready : Ready s table) (next : ℕ) (h : found (entryIn set at) next ≡ entryAt P set at) where
         -- The entry that is read, what it is, and its rows.
         abbrev e : Entry
         e = entryIn set at
@@ -126,14 +126,14 @@ module _ (t : PlantTable) (set : List ℕ) where
         ks = part set (at + 3) next
 
         -- What the function that adds the rows asks.
-        pub rows-small : NumbersBelow 1024 set (at + 3) next
-        rows-small = record { there = read .rows-below .there; small = λ i p q. omega (arith, read .rows-below .small i p q, rows-counted t, ready .sound .few-rows) }
+        pub rows-there : RowsThere table set (at + 3) next
+        rows-there = record { there = read .rows-below .there; room = λ i p q. omega (arith, read .rows-below .small i p q, rows-counted s table, ready .sound .room) }
 
-        module _ (after : List ℤ) (added : Added (t .sent) (t .taken) (getD set (at + 1) 0) ks sums after) where
+        module _ (after : List ℤ) (added : Added table (getD set (at + 1) 0) ks sums after) where
           -- The rows of the entry are rows of the table.
-          rows-are : All (λ k. k < t .rows) ks
-          rows-are = part-below (t .rows) set (next - (at + 3)) (at + 3) next (omega (arith, read .next-is))
-              (record { there = read .rows-below .there; small = λ i p q. omega (arith, read .rows-below .small i p q, rows-counted t) })
+          rows-are : All (λ k. k < s .rows) ks
+          rows-are = part-below (s .rows) set (next - (at + 3)) (at + 3) next (omega (arith, read .next-is))
+              (record { there = read .rows-below .there; small = λ i p q. omega (arith, read .rows-below .small i p q, rows-counted s table) })
 
           -- Its rows are those of the entry.
           cycle-is : ks ≡ e .cycle
@@ -149,7 +149,7 @@ module _ (t : PlantTable) (set : List ℕ) where
               let start : Difference (getD sums u (pos 0)) (setSent P (g .entries) u) (setTaken P (g .entries) u) =
               subst (λ (z : ℤ). Difference z (setSent P (g .entries) u) (setTaken P (g .entries) u)) (sym (g .sums-are u)) (set-difference P (g .entries) u) in
               difference-unique (getD after u (pos 0)) (setEffect P (g .entries ++ (e ∷ [])) u) (setSent P (g .entries ++ (e ∷ [])) u) (setTaken P (g .entries ++ (e ∷ [])) u)
-              (difference-shift (getD after u (pos 0)) _ _ (setSent P (g .entries ++ (e ∷ [])) u) (setTaken P (g .entries ++ (e ∷ [])) u) (omega (arith, entry-side (λ c. messagesSent P c u) (having (t .sent) u ks) (sent-is t u ks rows-are), entry-side (λ c. messagesTaken P c u) (having (t .taken) u ks) (taken-is t u ks rows-are)))
+              (difference-shift (getD after u (pos 0)) _ _ (setSent P (g .entries ++ (e ∷ [])) u) (setTaken P (g .entries ++ (e ∷ [])) u) (omega (arith, entry-side (λ c. messagesSent P c u) (having (λ r. r .sent) table u ks) (sent-is s table u ks rows-are), entry-side (λ c. messagesTaken P c u) (having (λ r. r .taken) table u ks) (taken-is s table u ks rows-are)))
               (added .sums u (setSent P (g .entries) u) (setTaken P (g .entries) u) start))
               (set-difference P (g .entries ++ (e ∷ [])) u)
 

@@ -1,18 +1,19 @@
 // Confirming cycle sets: the entries are judged one by one, and their effects are added.
 ghost use mathlib.Core.Path.{_≡_};
 ghost use mathlib.Core.Logic.{_↔_};
-ghost use Prim.Native.Nat.{_+_, _-_, _^_, _≤_, _<_};
+ghost use Prim.Native.Nat.{_+_, _-_, _^_, _≤_, _<_, min};
 ghost use lib.ListN.{length, getD};
 ghost use lib.IntN.{pos, natAbs};
 ghost use Rattle.plant.specs.Reading.{readPlant};
 ghost use Rattle.plant.specs.Limits.{WithinLimits};
+ghost use Rattle.tables.specs.Tables.{RoomFor};
 ghost use Rattle.decoding.specs.Tables.{plantOf, Ready};
 ghost use Rattle.set_entries.specs.Sets.{readSet};
 ghost use Rattle.cycle_sets.specs.Answers.{answerOf, confirmed};
 ghost use Rattle.cycle_sets.specs.Confirming.{lowestNegative, owed, ReadsBalanced};
-ghost use Rattle.set_entries.specs.Entries.{part, NumbersBelow};
+ghost use Rattle.set_entries.specs.Entries.{part, RowsThere};
 ghost use Rattle.cycle_sets.specs.Inner.Sums.{raised, Within, Added, JudgedAs};
-use decoding::PlantTable;
+use decoding::Shape;
 use plant::End;
 use plant::Fault;
 
@@ -42,41 +43,28 @@ fn add_to(sums: &mut [i64; 64], message: u8, change: i64)
 }
 
 // The sums with what the rows at `at` up to `end` send, less what they take, added so many times.
-fn add_rows<'a>(
-    sent: &'a [u8; 1024],
-    taken: &'a [u8; 1024],
-    set: &[u32],
-    at: usize,
-    end: usize,
-    repeats: u32,
-    sums: &mut [i64; 64],
-)
-    requires { ⌜ (at ≤ end) × NumbersBelow 1024 (now set) at end × (end ≤ at + 64) × (repeats ≤ 1000000) × Within (2 ^ 61) (now sums) × (length (now sums) ≡ 64) ⌝ }
-    ensures { λ r. ⌜ Added (now (sent .entry)) (now (taken .entry)) repeats (part (now (set .entry)) at end) (now (sums .entry)) (now (sums .exit)) ⌝ }
+fn add_rows(table: &[u8], set: &[u32], at: usize, end: usize, repeats: u32, sums: &mut [i64; 64])
+    requires { ⌜ (at ≤ end) × RowsThere (now table) (now set) at end × (end ≤ at + 64) × (repeats ≤ 1000000) × Within (2 ^ 61) (now sums) × (length (now sums) ≡ 64) ⌝ }
+    ensures { λ r. ⌜ Added (now (table .entry)) repeats (part (now (set .entry)) at end) (now (sums .entry)) (now (sums .exit)) ⌝ }
 {
     let times = repeats as i64;
     let mut i = at;
     while i < end {
         let k = set[i] as usize;
-        add_to(sums, sent[k], times);
-        add_to(sums, taken[k], -times);
+        let sent = tables::sent_of(table, k);
+        let taken = tables::taken_of(table, k);
+        add_to(sums, sent, times);
+        add_to(sums, taken, -times);
         i += 1;
     }
 }
 
 // The sums with the effect of the entry at `first` up to `end` added as many times as it says.
-fn add_entry<'a>(
-    sent: &'a [u8; 1024],
-    taken: &'a [u8; 1024],
-    set: &[u32],
-    first: usize,
-    end: usize,
-    sums: &mut [i64; 64],
-)
-    requires { ⌜ (first + 3 ≤ end) × NumbersBelow 1024 (now set) (first + 3) end × (end ≤ first + 67) × (getD (now set) (first + 1) 0 ≤ 1000000) × Within (2 ^ 61) (now sums) × (length (now sums) ≡ 64) ⌝ }
-    ensures { λ r. ⌜ Added (now (sent .entry)) (now (taken .entry)) (getD (now (set .entry)) (first + 1) 0) (part (now (set .entry)) (first + 3) end) (now (sums .entry)) (now (sums .exit)) ⌝ }
+fn add_entry(table: &[u8], set: &[u32], first: usize, end: usize, sums: &mut [i64; 64])
+    requires { ⌜ (first + 3 ≤ end) × RowsThere (now table) (now set) (first + 3) end × (end ≤ first + 67) × (getD (now set) (first + 1) 0 ≤ 1000000) × Within (2 ^ 61) (now sums) × (length (now sums) ≡ 64) ⌝ }
+    ensures { λ r. ⌜ Added (now (table .entry)) (getD (now (set .entry)) (first + 1) 0) (part (now (set .entry)) (first + 3) end) (now (sums .entry)) (now (sums .exit)) ⌝ }
 {
-    add_rows(sent, taken, set, first + 3, end, set[first + 1], sums);
+    add_rows(table, set, first + 3, end, set[first + 1], sums);
 }
 
 // The lowest type with a negative sum, and that sum.
@@ -96,12 +84,10 @@ fn lowest_negative(sums: &[i64; 64], types: usize) -> Confirmation
 }
 
 // Judges the entries one by one and adds up their effects.
-fn judge_set(table: PlantTable, set: &[u32]) -> JudgedSet
-    requires { ⌜ Ready table × WithinLimits (plantOf table) ⌝ }
-    ensures { λ r. ⌜ JudgedAs (plantOf table) (r .sums) (r .end) (readSet (plantOf table) (now (set .entry))) ⌝ }
+fn judge_set(table: &[u8], shape: Shape, set: &[u32]) -> JudgedSet
+    requires { ⌜ Ready shape (now table) × WithinLimits (plantOf shape (now table)) ⌝ }
+    ensures { λ r. ⌜ JudgedAs (plantOf shape (now (table .entry))) (r .sums) (r .end) (readSet (plantOf shape (now (table .entry))) (now (set .entry))) ⌝ }
 {
-    let machines = table.machines as u32;
-    let rows = table.rows as u32;
     let mut sums = [0; 64];
     let mut at = 0;
     let mut before = 0;
@@ -112,19 +98,16 @@ fn judge_set(table: PlantTable, set: &[u32]) -> JudgedSet
             End::At(_) => {}
         }
         let entry = set_entries::judge_entry(
-            &table.machine,
-            &table.left,
-            &table.entered,
-            &table.progress,
+            table,
             set,
             at,
-            machines,
-            rows,
+            shape.machines as u32,
+            shape.rows as u32,
         );
         match entry {
             End::Fault(fault) => break 'entries End::Fault(fault),
             End::At(next) => {
-                add_entry(&table.sent, &table.taken, set, at, next, &mut sums);
+                add_entry(table, set, at, next, &mut sums);
                 at = next;
             }
         }
@@ -136,19 +119,19 @@ fn judge_set(table: PlantTable, set: &[u32]) -> JudgedSet
     JudgedSet { end, sums }
 }
 
-// Whether a set is balanced in the plant of a file.
-pub fn confirm(file: &[u8], set: &[u32]) -> Confirmation
+// Reads a file into a lent table, and confirms the set.
+fn confirm_in(file: &[u8], set: &[u32], table: &mut [u8]) -> Confirmation
+    requires { ⌜ RoomFor (min 1024 (length (now file))) (now table) ⌝ }
     ensures { λ r. ⌜ answerOf r ≡ owed (readPlant (now (file .entry))) (now (set .entry)) ⌝ }
-    ensures { λ r. ⌜ (answerOf r ≡ confirmed) ↔ ReadsBalanced (now (file .entry)) (now (set .entry)) ⌝ }
 {
-    let decoded = decoding::decode(file);
+    let decoded = decoding::decode(file, table);
     let end = decoded.end;
-    let table = decoded.table;
-    let types = table.types as usize;
+    let shape = decoded.shape;
+    let types = shape.types as usize;
     match end {
         End::Fault(fault) => Confirmation::Refused(fault),
         End::At(_) => {
-            let judged = judge_set(table, set);
+            let judged = judge_set(table, shape, set);
             let last = judged.end;
             let sums = judged.sums;
             match last {
@@ -157,4 +140,17 @@ pub fn confirm(file: &[u8], set: &[u32]) -> Confirmation
             }
         }
     }
+}
+
+// Whether a set is balanced in the plant of a file. A short file needs a short table.
+pub fn confirm(file: &[u8], set: &[u32]) -> Confirmation
+    ensures { λ r. ⌜ answerOf r ≡ owed (readPlant (now (file .entry))) (now (set .entry)) ⌝ }
+    ensures { λ r. ⌜ (answerOf r ≡ confirmed) ↔ ReadsBalanced (now (file .entry)) (now (set .entry)) ⌝ }
+{
+    if file.len() <= 64 {
+        let mut table = [0; 512];
+        return confirm_in(file, set, &mut table);
+    }
+    let mut table = [0; 8192];
+    confirm_in(file, set, &mut table)
 }

@@ -18,36 +18,39 @@ use Rattle.livelock.proofs.SumLaws.{sum-append, sum-equal, sum-mono, sum-zero, 
 use Rattle.plant.specs.Found.{found}
 use Rattle.plant.specs.Reading.{withRow, withMachine, readMachine}
 use Rattle.plant.specs.Limits.{Ascending, rowsOf, WithinLimits}
-use Rattle.decoding.specs.Inner.Steps.{FirstRows, MachinesRead}
-use Rattle.decoding.specs.Tables.{Columns, plantIn, rowsBefore, plantOf, tableOf, Ready}
-use Rattle.decoding.specs.declared.Stored.{Stored}
-use Rattle.decoding.specs.declared.PlantTable.{PlantTable}
+use Rattle.decoding.specs.Inner.Steps.{FirstRows}
+use Rattle.decoding.specs.Tables.{rowsBefore, plantOf, Ready}
+use Rattle.decoding.specs.declared.Shape.{Shape}
 use Rattle.plant.proofs.Bounds.{Each, each-then, each-found, byteIn-each, rowsByte-each, readRows-each, one-bit}
 use Rattle.plant.proofs.FileBounds.{each-moved}
-use Rattle.decoding.proofs.TableLaws.{rows-in, rows-counted}
+use Rattle.decoding.proofs.TableLaws.{rows-counted}
 
 -- ---- while the machines are read
 
--- Before machine n is read, every row belongs to a machine before n, so that the count of rows before n is the count of all of them:
--- that is its first row. The rows that it then adds have number n, so that no count of rows before a machine up to n changes.
+-- Before machine n is read, every row belongs to a machine before n, and the first n + 1 entries are stored. The rows that it then adds have
+-- number n, so that no count of rows before a machine up to n changes; and its last row is the last before machine n + 1.
 
--- Before the first machine is read there are no rows, and no first row is asked for yet.
-pub first-none : (first : List ℕ) (p : Plant) → length first ≡ 17 → p .rows ≡ [] → FirstRows first 0 p
-unfolding All
-first-none first p e none = record { room = e; at = λ m l. absurd (not-suc-le-zero l); numbered = subst⁻¹ (All (λ (r : Row). r .machine < 0)) none tt }
+-- Before the first machine is read there are no rows.
+pub first-none : (first : List ℕ) (p : Plant) → length first ≡ 17 → getD first 0 0 ≡ 0 → p .rows ≡ [] → FirstRows first 1 0 p
+unfolding All sum
+first-none first p e z none =
+    record { room = e; at = λ m l. at-0 m (omega arith); numbered = subst⁻¹ (All (λ (r : Row). r .machine < 0)) none tt }
+  where
+    at-0 : (m : ℕ) → m ≡ 0 → getD first m 0 ≡ rowsBefore p m
+    at-0 m q = rw (q, none) z
 
 -- Where all rows belong to machines before n, they are counted before n.
 all-before : (n : ℕ) (rs : List Row) → All (λ r. r .machine < n) rs → count (λ r. ltb (r .machine) n) rs ≡ length rs
 all-before n rs h =
     sum-equal (λ (r : Row). cond (ltb (r .machine) n) 1 0) (λ r. 1) rs (all-weaken (λ (r : Row). r .machine < n) _ (λ r l. simp (lt-ltb (r .machine) n l)) rs h) ∙ sum-ones rs
 
--- The first row of machine n, of which no row is read yet, is the count of rows.
-pub first-next : (first : List ℕ) (n rows : ℕ) (p : Plant) → rowCount p ≡ rows → n < 17 → FirstRows first n p → FirstRows (set first n rows) (n + 1) p
+-- The first row behind those of the machines before n is the count of rows.
+first-next : (first : List ℕ) (n rows : ℕ) (p : Plant) → rowCount p ≡ rows → n < 17 → FirstRows first n n p → FirstRows (set first n rows) (n + 1) n p
 first-next first n rows p e l f =
     record {
       room = length-set first n rows ∙ f .room;
       at = λ m h. go m h (ℕ-discrete m n);
-      numbered = all-weaken (λ r. r .machine < n) _ (λ r h. omega arith) (p .rows) (f .numbered);
+      numbered = f .numbered;
     }
   where
     go : (m : ℕ) → m < n + 1 → Dec (m ≡ n) → getD (set first n rows) m 0 ≡ rowsBefore p m
@@ -55,7 +58,7 @@ first-next first n rows p e l f =
     go m h (no q) = getD-set-other first n m rows 0 q ∙ f .at m (omega arith)
 
 -- A row of machine n is not counted before n.
-own-row : (first : List ℕ) (n : ℕ) (p : Plant) (r : Row) → r .machine ≡ n → FirstRows first (n + 1) p → FirstRows first (n + 1) (withRow p r)
+own-row : (first : List ℕ) (n : ℕ) (p : Plant) (r : Row) → r .machine ≡ n → FirstRows first (n + 1) (n + 1) p → FirstRows first (n + 1) (n + 1) (withRow p r)
 unfolding All sum
 own-row first n p r e f =
     record {
@@ -70,8 +73,8 @@ own-row first n p r e f =
     not-before m l = simp (le-ltb (r .machine) m (omega arith))
 
 -- The first rows of the machines so far, with that of the next, stay what they are while the next machine is read.
-first-each : (s : List ℕ) (at : ℕ) (first : List ℕ) (p : Plant) → FirstRows first (machineCount p + 1) p
-    → Each (λ q next. FirstRows first (machineCount p + 1) q) (length s) (readMachine s at p)
+first-each : (s : List ℕ) (at : ℕ) (first : List ℕ) (p : Plant) → FirstRows first (machineCount p + 1) (machineCount p) p
+    → Each (λ q next. FirstRows first (machineCount p + 1) (machineCount p + 1) q) (length s) (readMachine s at p)
 unfolding readMachine
 first-each s at first p f =
     each-then (byteIn-each s at 1 _ 3 (omega arith) (omega arith)) λ states a ha.
@@ -80,7 +83,7 @@ first-each s at first p f =
     (λ q next h. h .1)
     (readRows-each
     (drop b s)
-    (λ k i q. FirstRows first (machineCount p + 1) q)
+    (λ k i q. FirstRows first (machineCount p + 1) (machineCount p + 1) q)
     (machineCount p)
     states
     (λ k i next q r g l h. own-row first (machineCount p) q r (h .machine) g)
@@ -90,39 +93,27 @@ first-each s at first p f =
     (withMachine p states)
     (ha .1 .0)
     zero-le
-    (record { room = f .room; at = f .at; numbered = f .numbered }))
+    (record { room = f .room; at = f .at; numbered = all-weaken (λ r. r .machine < machineCount p) _ (λ r h. omega arith) (p .rows) (f .numbered) }))
 
--- The count of rows before machine n, stored as its first row once the machine is read.
-pub first-stored : (s : List ℕ) (at : ℕ) (first : List ℕ) (n used : ℕ) (p q : Plant) (next : ℕ) → machineCount p ≡ n → rowCount p ≡ used → n < 17
-    → FirstRows first n p → readMachine s at p ≡ found q next → FirstRows (set first n used) (n + 1) q
-first-stored s at first n used p q next m u l f e =
-    rw (← m) (each-found q next (first-each s at (set first (machineCount p) used) p (first-next first (machineCount p) used p u (rw m l) (rw m f))) e)
+-- The count of rows, stored as the first row of the next machine once machine n is read.
+pub first-stored : (s : List ℕ) (at : ℕ) (first : List ℕ) (n rows : ℕ) (p q : Plant) (next : ℕ) → machineCount p ≡ n → rowCount q ≡ rows → n < 16
+    → FirstRows first (n + 1) n p → readMachine s at p ≡ found q next → FirstRows (set first (n + 1) rows) (n + 1 + 1) (n + 1) q
+first-stored s at first n rows p q next m u l f e =
+    first-next first (n + 1) rows q u (omega arith)
+    (rw (← m) (each-found q next (first-each s at first p (rw m f)) e))
 
--- What was read makes a ready table, once the entries behind the last machine's first row are stored too.
-pub table-ready : {n : ℕ} {file : List ℕ} {from types : ℕ} {states first first′ : List ℕ} {cs : Columns} {r : Stored} → types ≤ 64
-    → MachinesRead n file from types states first cs r → ((p : Plant) → rowCount p ≡ r .rows → FirstRows first (r .machines) p → FirstRows first′ 17 p)
-    → Ready (tableOf types (r .machines) (r .rows) states first′ cs)
-table-ready {types = types} {states = states} {cs = cs} {r = r} few h ends =
+-- A shape without machines is ready, whatever the table.
+pub nothing-ready : (states first : List ℕ) → length states ≡ 16 → getD first 0 0 ≡ 0 → (table : List ℕ)
+    → Ready (record { types = 0; machines = 0; rows = 0; states = states; first = first }) table
+unfolding below sum
+nothing-ready states first long z table =
     record {
-      sound =
-          record {
-            few-machines = h .few-machines;
-            few-rows = h .few-rows;
-            few-types = few;
-            states-room = h .states-room;
-          };
-      first-row = λ m l. ends (plantIn types (take (r .machines) states) (r .rows) cs) (rows-in cs (r .rows)) (h .first-rows) .at m (omega arith);
+      sound = record { few-machines = zero-le; few-rows = zero-le; few-types = zero-le; states-room = long; room = omega arith };
+      first-row = λ m l. at-0 m (omega arith);
     }
-
--- So does nothing, with 0 as each machine's first row.
-pub nothing-ready : {first first′ : List ℕ} → length first ≡ 17 → ((p : Plant) → rowCount p ≡ 0 → FirstRows first 0 p → FirstRows first′ 17 p)
-    → (states : List ℕ) (cs : Columns) → length states ≡ 16 → Ready (tableOf 0 0 0 states first′ cs)
-unfolding below
-nothing-ready {first} room ends states cs states-room =
-    record {
-      sound = record { few-machines = zero-le; few-rows = zero-le; few-types = zero-le; states-room = states-room };
-      first-row = λ m l. let p = plantIn 0 [] 0 cs in ends p refl (first-none first p room refl) .at m (omega arith);
-    }
+  where
+    at-0 : (m : ℕ) → m ≡ 0 → getD first m 0 ≡ 0
+    at-0 m q = rw q z
 
 -- ---- for the crates that work on plants
 
@@ -190,13 +181,13 @@ rows-before-bound p m =
     omega (arith, sum-mono (λ (r : Row). cond (ltb (r .machine) m) 1 0) (λ r. 1) (p .rows) (all-always _ (λ r. one-bit (ltb (r .machine) m)) (p .rows)), sum-ones (p .rows))
 
 -- A table has the rows of machine m from its first row up to the next machine's: so many as the machine has, all of them rows of the table.
-pub machine-rows : (t : PlantTable) → Ready t → (m : ℕ) → m < 16
-    → (getD (t .first) m 0 ≤ getD (t .first) (m + 1) 0) × (getD (t .first) (m + 1) 0 ≤ t .rows) × (rowsOf (plantOf t) m ≡ getD (t .first) (m + 1) 0 - getD (t .first) m 0)
-machine-rows t ready m l =
+pub machine-rows : (s : Shape) (table : List ℕ) → Ready s table → (m : ℕ) → m < s .machines
+    → (getD (s .first) m 0 ≤ getD (s .first) (m + 1) 0) × (getD (s .first) (m + 1) 0 ≤ s .rows) × (rowsOf (plantOf s table) m ≡ getD (s .first) (m + 1) 0 - getD (s .first) m 0)
+machine-rows s table ready m l =
     let low = ready .first-row m (omega arith) in
     let high = ready .first-row (m + 1) (omega arith) in
-    let next = rows-of-next m (plantOf t .rows) in (
+    let next = rows-of-next m (plantOf s table .rows) in (
       omega (arith, low, high, next),
-      omega (arith, high, rows-before-bound (plantOf t) (m + 1), rows-counted t),
+      omega (arith, high, rows-before-bound (plantOf s table) (m + 1), rows-counted s table),
       omega (arith, low, high, next),
     )

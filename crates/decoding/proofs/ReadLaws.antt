@@ -1,26 +1,34 @@
--- Laws of a machine that was read into columns.
-use mathlib.Core.Path.{_≡_}
-use mathlib.Core.List.{List}
-use Prim.Native.Nat.{ℕ, _+_, _-_}
-use lib.ListN.{take}
+-- Laws of a machine that was read into a table.
+use mathlib.Core.Path.{_≡_, _∙_, ap, sym}
+use mathlib.Core.List.{List, [], _∷_, _++_}
+use Prim.Native.Nat.{ℕ, _+_, _≤_, _<_}
+use native.Mathlib.Omega.{arith}
+use lib.ListN.{length, take, set}
+use lib.Seq.{length-take-le}
+use Rattle.livelock.specs.Plants.{Plant}
 use Rattle.plant.specs.Found.{found, fault}
 use Rattle.plant.specs.Reading.{readMachine}
-use Rattle.decoding.specs.Tables.{Columns, plantIn}
 use Rattle.plant.specs.Steps.{endFound}
-use Rattle.decoding.specs.Inner.Steps.{MachineRead}
 use Rattle.plant.specs.declared.Fault.{Fault}
-use Rattle.plant.specs.declared.End.{End}
 use Rattle.plant.specs.declared.End.the-variants as Ends
 use Rattle.plant.proofs.Told.{told}
+use Rattle.tables.specs.Tables.{plantIn}
+use Rattle.tables.proofs.RowLaws.{with-machine}
+use Rattle.decoding.specs.Inner.Steps.{MachineRead}
+use Rattle.decoding.specs.declared.MachineEnd.{MachineEnd}
 
--- What the end of reading a machine says of `readMachine`.
-module _ {file : List ℕ} {at m types used : ℕ} {states : List ℕ} {before : Columns} {rows : ℕ} {states′ : List ℕ} {after : Columns} {e : End}
-    (r : MachineRead file at m types used states before rows states′ after e) where
+-- What the end of reading machine m says of `readMachine`, where the machines before it stand in the first m entries of `states`.
+module _ {file : List ℕ} {at m types used : ℕ} {before after : List ℕ} {r : MachineEnd} (h : MachineRead file at m types used before after r) (states : List ℕ) (l : m < length states) where
+  long : length (take m states) ≡ m
+  long = length-take-le m states (omega arith)
+
   -- It finds the fault at which reading ended,
-  pub machine-fault : (f : Fault) → e ≡ Ends.Fault f → readMachine file at (plantIn types (take m states) used before) ≡ fault (f .number) (f .place)
-  machine-fault f q = told (λ x. endFound x (plantIn types (take (m + 1) states′) rows after)) (r .holds) q
+  pub machine-fault : (f : Fault) → r .end ≡ Ends.Fault f → readMachine file at (plantIn types (take m states) used before) ≡ fault (f .number) (f .place)
+  machine-fault f q = told (λ x. endFound x (plantIn types (take m states ++ (r .states ∷ [])) (r .rows) after)) (h .holds (take m states) long) q
 
   -- or the plant with machine m in it, up to the offset at which reading ended.
-  pub machine-found : (next : ℕ) → e ≡ Ends.At next
-      → readMachine file at (plantIn types (take m states) used before) ≡ found (plantIn types (take (m + 1) states′) rows after) next
-  machine-found next q = told (λ x. endFound x (plantIn types (take (m + 1) states′) rows after)) (r .holds) q
+  pub machine-found : (next : ℕ) → r .end ≡ Ends.At next
+      → readMachine file at (plantIn types (take m states) used before) ≡ found (plantIn types (take (m + 1) (set states m (r .states))) (r .rows) after) next
+  machine-found next q =
+      told (λ x. endFound x (plantIn types (take m states ++ (r .states ∷ [])) (r .rows) after)) (h .holds (take m states) long) q
+      ∙ ap (λ (p : Plant). found p next) (sym (with-machine types m (r .states) (r .rows) states after l))

@@ -1,5 +1,5 @@
 -- Laws of the edge list: while it grows row by row, and the limits of its edges.
-use mathlib.Core.Path.{_≡_, refl, sym, _∙_, subst}
+use mathlib.Core.Path.{_≡_, refl, sym, ap, _∙_, subst}
 use mathlib.Core.Logic.{_≢_, _⊎_, inl, inr}
 use mathlib.Core.Bool.{Bool, true, false, false≢true}
 use mathlib.Core.Option.{Option, none, some}
@@ -12,9 +12,11 @@ use lib.Seq.{getD-set-same, getD-set-other}
 use lib.IntN.{ℤ, pos, _-ℤ_}
 use Rattle.livelock.proofs.CycleWeights.{messageWeight}
 use Rattle.livelock.proofs.Differences.{difference-minus}
-use Rattle.plant.specs.Steps.{typeOf}
 use Rattle.deciding.specs.Signs.{rise, fall}
-use Rattle.edges.specs.Edges.{rowWeight, oneIfQuiet, Columns, EdgeOf, Edges, Has, Room, Listed, RowsBetween}
+use Rattle.livelock.specs.Plants.{Row}
+use Rattle.tables.specs.Tables.{rowIn, rowOf}
+use Rattle.tables.specs.declared.TableRow.{TableRow}
+use Rattle.edges.specs.Edges.{rowWeight, oneIfQuiet, EdgeOf, Edges, Has, Room, Listed, RowsBetween}
 use Rattle.deciding.specs.Rounds.{EdgesIn}
 use Rattle.deciding.proofs.SignLaws.{rise-at-most, fall-at-most}
 
@@ -33,23 +35,23 @@ one-at-most q true e = omega (arith, e)
 one-at-most q false e = omega (arith, e)
 
 -- No row yet, no edge.
-pub none-listed : (t : Columns) (ws : List ℕ) (low : ℕ) (from to : List ℕ) (weight : List ℤ) (row : List ℕ) → Room from to weight row
+pub none-listed : (t : List ℕ) (ws : List ℕ) (low : ℕ) (from to : List ℕ) (weight : List ℤ) (row : List ℕ) → Room from to weight row
     → Listed t ws low low (record { count = 0; from = from; to = to; weight = weight; row = row })
 none-listed t ws low from to weight row h = record { few = omega arith; room = h; each = λ i b. absurd (omega arith); every = λ j a b q. absurd (omega arith) }
 
 -- At the end of the rows all are listed.
-pub all-listed : (t : Columns) (ws : List ℕ) (low k high : ℕ) (e : Edges) → k ≡ high → Listed t ws low k e → Listed t ws low high e
+pub all-listed : (t : List ℕ) (ws : List ℕ) (low k high : ℕ) (e : Edges) → k ≡ high → Listed t ws low k e → Listed t ws low high e
 all-listed t ws low k high e q h = subst (λ (x : ℕ). Listed t ws low x e) q h
 
 -- Row k is stored at the end of the list, and counted if it is quiet.
-module _ (t : Columns) (ws : List ℕ) (low k : ℕ) (e : Edges) (h : Listed t ws low k e) (from-low : low ≤ k) (room : k < low + 255)
-    (w : ℤ) (weighs : w ≡ rowWeight ws (getD (t .sent) k 0) (getD (t .taken) k 0)) (q : ℕ) (counted : q ≡ oneIfQuiet (getD (t .progress) k false)) where
+module _ (t : List ℕ) (ws : List ℕ) (low k : ℕ) (e : Edges) (h : Listed t ws low k e) (from-low : low ≤ k) (room : k < low + 255)
+    (w : ℤ) (weighs : w ≡ rowWeight ws (rowIn t k)) (q : ℕ) (counted : q ≡ oneIfQuiet (rowIn t k .progress)) where
   -- The lists after the store, and the edges.
   from-after : List ℕ
-  from-after = set (e .from) (e .count) (getD (t .left) k 0)
+  from-after = set (e .from) (e .count) (rowIn t k .left)
 
   to-after : List ℕ
-  to-after = set (e .to) (e .count) (getD (t .entered) k 0)
+  to-after = set (e .to) (e .count) (rowIn t k .entered)
 
   weight-after : List ℤ
   weight-after = set (e .weight) (e .count) w
@@ -87,41 +89,41 @@ module _ (t : Columns) (ws : List ℕ) (low k : ℕ) (e : Edges) (h : Listed t w
       let other : i ≢ e .count = λ x. omega arith in
       rw (
         getD-set-other (e .row) (e .count) i k 0 other,
-        getD-set-other (e .from) (e .count) i (getD (t .left) k 0) 0 other,
-        getD-set-other (e .to) (e .count) i (getD (t .entered) k 0) 0 other,
+        getD-set-other (e .from) (e .count) i (rowIn t k .left) 0 other,
+        getD-set-other (e .to) (e .count) i (rowIn t k .entered) 0 other,
         getD-set-other (e .weight) (e .count) i w (pos 0) other,
       )
       (wider (getD (e .row) i 0) (getD (e .from) i 0) (getD (e .to) i 0) (getD (e .weight) i (pos 0)) (h .each i b))
 
   -- row k, if it is quiet, is an edge,
-  this : getD (t .progress) k false ≡ false → EdgeOf t ws low (k + 1) k (getD (t .left) k 0) (getD (t .entered) k 0) w
+  this : rowIn t k .progress ≡ false → EdgeOf t ws low (k + 1) k (rowIn t k .left) (rowIn t k .entered) w
   this quiet = record { from-low = from-low; below-high = omega arith; quiet = quiet; left = refl; entered = refl; weighs = weighs }
 
   -- and it stands behind them.
-  new : getD (t .progress) k false ≡ false → EdgeAt (e .count)
+  new : rowIn t k .progress ≡ false → EdgeAt (e .count)
   unfolding from-after to-after weight-after row-after
   new quiet =
       rw (
         getD-set-same (e .row) (e .count) k 0 (rw (h .room .row-room) in-room),
-        getD-set-same (e .from) (e .count) (getD (t .left) k 0) 0 (rw (h .room .from-room) in-room),
-        getD-set-same (e .to) (e .count) (getD (t .entered) k 0) 0 (rw (h .room .to-room) in-room),
+        getD-set-same (e .from) (e .count) (rowIn t k .left) 0 (rw (h .room .from-room) in-room),
+        getD-set-same (e .to) (e .count) (rowIn t k .entered) 0 (rw (h .room .to-room) in-room),
         getD-set-same (e .weight) (e .count) w (pos 0) (rw (h .room .weight-room) in-room),
       )
       (this quiet)
 
   -- There are no more edges than rows,
-  few-after : Counts q (getD (t .progress) k false) → (e .count + q) + low ≤ k + 1
+  few-after : Counts q (rowIn t k .progress) → (e .count + q) + low ≤ k + 1
   few-after (inl c) = omega (arith, h .few, c .0)
   few-after (inr c) = omega (arith, h .few, c .0)
 
   -- each edge is a quiet row,
-  each-after : Counts q (getD (t .progress) k false) → (i : ℕ) → i < e .count + q → Dec (i < e .count) → EdgeAt i
+  each-after : Counts q (rowIn t k .progress) → (i : ℕ) → i < e .count + q → Dec (i < e .count) → EdgeAt i
   each-after c i b (yes d) = old i d
   each-after (inl c) i b (no d) = subst EdgeAt (omega (arith, c .0)) (new (c .1))
   each-after (inr c) i b (no d) = absurd (omega (arith, c .0))
 
   -- and each quiet row is an edge.
-  every-after : Counts q (getD (t .progress) k false) → (j : ℕ) → low ≤ j → j < k + 1 → getD (t .progress) j false ≡ false → Dec (j < k) → Has edges-after j
+  every-after : Counts q (rowIn t k .progress) → (j : ℕ) → low ≤ j → j < k + 1 → rowIn t j .progress ≡ false → Dec (j < k) → Has edges-after j
   unfolding edges-after row-after
   every-after c j a b quiet (yes d) =
       let p = h .every j a d quiet in
@@ -132,20 +134,20 @@ module _ (t : Columns) (ws : List ℕ) (low k : ℕ) (e : Edges) (h : Listed t w
       record { place = e .count; within = omega (arith, c .0); is = getD-set-same (e .row) (e .count) k 0 (rw (h .room .row-room) in-room) ∙ same }
   every-after (inr c) j a b quiet (no d) =
       let same : j ≡ k = omega arith in
-      absurd (c .1 (subst (λ (x : ℕ). getD (t .progress) x false ≡ false) same quiet))
+      absurd (c .1 (subst (λ (x : ℕ). rowIn t x .progress ≡ false) same quiet))
 
   -- So the edges are the quiet rows up to row k.
-  pub next-listed : Listed t ws low (k + 1)
+  next-listed : Listed t ws low (k + 1)
       (record {
         count = e .count + q;
-        from = set (e .from) (e .count) (getD (t .left) k 0);
-        to = set (e .to) (e .count) (getD (t .entered) k 0);
+        from = set (e .from) (e .count) (rowIn t k .left);
+        to = set (e .to) (e .count) (rowIn t k .entered);
         weight = set (e .weight) (e .count) w;
         row = set (e .row) (e .count) k;
       })
   unfolding edges-after from-after to-after weight-after row-after
   next-listed =
-      let c : Counts q (getD (t .progress) k false) = rw counted (counts (getD (t .progress) k false)) in
+      let c : Counts q (rowIn t k .progress) = rw counted (counts (rowIn t k .progress)) in
       record {
         few = few-after c;
         room =
@@ -159,6 +161,31 @@ module _ (t : Columns) (ws : List ℕ) (low k : ℕ) (e : Edges) (h : Listed t w
         every = λ j a b quiet. every-after c j a b quiet (decLt j k);
       }
 
+-- The same for the row that was read.
+pub row-listed : (t ws : List ℕ) (low k : ℕ) (e : Edges) → Listed t ws low k e → low ≤ k → k < low + 255
+    → (r : TableRow) → rowOf r ≡ rowIn t k → (w : ℤ) → w ≡ rowWeight ws (rowOf r) → (q : ℕ) → q ≡ oneIfQuiet (r .progress)
+    → Listed t ws low (k + 1)
+    (record {
+      count = e .count + q;
+      from = set (e .from) (e .count) (r .left);
+      to = set (e .to) (e .count) (r .entered);
+      weight = set (e .weight) (e .count) w;
+      row = set (e .row) (e .count) k;
+    })
+row-listed t ws low k e h from-low room r is w weighs q counted =
+    subst
+    (λ (x : Row).
+    Listed t ws low (k + 1)
+    (record {
+      count = e .count + q;
+      from = set (e .from) (e .count) (x .left);
+      to = set (e .to) (e .count) (x .entered);
+      weight = set (e .weight) (e .count) w;
+      row = set (e .row) (e .count) k;
+    }))
+    (sym is)
+    (next-listed t ws low k e h from-low room w (weighs ∙ ap (rowWeight ws) is) q (counted ∙ ap (λ (x : Row). oneIfQuiet (x .progress)) is))
+
 -- ---- limits
 
 -- Where no weight is above 65,535, no message's is.
@@ -166,20 +193,20 @@ message-light : (ws : List ℕ) → ((i : ℕ) → getD ws i 0 ≤ 65535) → (o
 message-light ws light none = omega arith
 message-light ws light (some t) = light t
 
-module _ (t : Columns) (ws : List ℕ) (light : (i : ℕ) → getD ws i 0 ≤ 65535) (low high : ℕ) (e : Edges) (h : Listed t ws low high e) where
+module _ (t : List ℕ) (ws : List ℕ) (light : (i : ℕ) → getD ws i 0 ≤ 65535) (low high : ℕ) (e : Edges) (h : Listed t ws low high e) where
   -- No edge's rise is above 65,535,
   rise-light : (i : ℕ) → i < e .count → rise (getD (e .weight) i (pos 0)) ≤ 65535
   rise-light i l =
-      let a = messageWeight ws (typeOf (getD (t .sent) (getD (e .row) i 0) 0)) in
-      let b = messageWeight ws (typeOf (getD (t .taken) (getD (e .row) i 0) 0)) in
-      rw (h .each i l .weighs) (omega (arith, rise-at-most (pos a -ℤ pos b) a b (difference-minus a b), message-light ws light (typeOf (getD (t .sent) (getD (e .row) i 0) 0))))
+      let a = messageWeight ws (rowIn t (getD (e .row) i 0) .sent) in
+      let b = messageWeight ws (rowIn t (getD (e .row) i 0) .taken) in
+      rw (h .each i l .weighs) (omega (arith, rise-at-most (pos a -ℤ pos b) a b (difference-minus a b), message-light ws light (rowIn t (getD (e .row) i 0) .sent)))
 
   -- and no edge's fall.
   fall-light : (i : ℕ) → i < e .count → fall (getD (e .weight) i (pos 0)) ≤ 65535
   fall-light i l =
-      let a = messageWeight ws (typeOf (getD (t .sent) (getD (e .row) i 0) 0)) in
-      let b = messageWeight ws (typeOf (getD (t .taken) (getD (e .row) i 0) 0)) in
-      rw (h .each i l .weighs) (omega (arith, fall-at-most (pos a -ℤ pos b) a b (difference-minus a b), message-light ws light (typeOf (getD (t .taken) (getD (e .row) i 0) 0))))
+      let a = messageWeight ws (rowIn t (getD (e .row) i 0) .sent) in
+      let b = messageWeight ws (rowIn t (getD (e .row) i 0) .taken) in
+      rw (h .each i l .weighs) (omega (arith, fall-at-most (pos a -ℤ pos b) a b (difference-minus a b), message-light ws light (rowIn t (getD (e .row) i 0) .taken)))
 
   -- The edges lead between the states that the rows do, and none weighs more than 65,535 either way.
   pub edges-in : (states : ℕ) → 1 ≤ states → states ≤ 64 → RowsBetween t low high states → EdgesIn states (e .count) (e .from) (e .to) (e .weight)

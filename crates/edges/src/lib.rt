@@ -4,7 +4,9 @@ ghost use mathlib.Core.Path.{_≡_};
 ghost use Prim.Native.Nat.{_+_, _≤_};
 ghost use Rattle.livelock.proofs.CycleWeights.{messageWeight};
 ghost use Rattle.plant.specs.Steps.{typeOf};
+ghost use Rattle.tables.specs.Tables.{rowOf, RoomFor};
 ghost use Rattle.edges.specs.Edges.{rowWeight, oneIfQuiet, Room, Listed};
+use tables::TableRow;
 
 // The weight of a message: 0 for none.
 fn message_weight(message: u8, weights: &[u16]) -> u16
@@ -18,11 +20,11 @@ fn message_weight(message: u8, weights: &[u16]) -> u16
 }
 
 // What a row sends less what it takes.
-fn row_weight(sent: u8, taken: u8, weights: &[u16]) -> i64
-    ensures { λ r. ⌜ r ≡ rowWeight (now (weights .entry)) sent taken ⌝ }
+fn row_weight(row: TableRow, weights: &[u16]) -> i64
+    ensures { λ r. ⌜ r ≡ rowWeight (now (weights .entry)) (rowOf row) ⌝ }
 {
-    let up = message_weight(sent, weights);
-    let down = message_weight(taken, weights);
+    let up = message_weight(row.sent, weights);
+    let down = message_weight(row.taken, weights);
     up as i64 - down as i64
 }
 
@@ -35,11 +37,7 @@ fn one_if_quiet(progress: bool) -> usize
 // Lists the quiet rows from `low` up to, and not including, `high`, and hands back how many they are: edge i leads from state from[i] to state to[i],
 // weighs weight[i] and is row row[i]. Each row is stored; only a quiet one is counted, so that the next takes its place otherwise.
 pub fn edges_of(
-    left: &[u8; 1024],
-    entered: &[u8; 1024],
-    sent: &[u8; 1024],
-    taken: &[u8; 1024],
-    progress: &[bool; 1024],
+    table: &[u8],
     low: usize,
     high: usize,
     weights: &[u16],
@@ -48,17 +46,18 @@ pub fn edges_of(
     weight: &mut [i64; 256],
     row: &mut [u16; 256],
 ) -> usize
-    requires { ⌜ (high ≤ 1024) × (low ≤ high) × (high ≤ low + 255) × Room (now from) (now to) (now weight) (now row) ⌝ }
-    ensures { λ r. ⌜ Listed (record { left = now (left .entry); entered = now (entered .entry); sent = now (sent .entry); taken = now (taken .entry); progress = now (progress .entry) }) (now (weights .entry)) low high (record { count = r; from = now (from .exit); to = now (to .exit); weight = now (weight .exit); row = now (row .exit) }) ⌝ }
+    requires { ⌜ RoomFor high (now table) × (high ≤ 1024) × (low ≤ high) × (high ≤ low + 255) × Room (now from) (now to) (now weight) (now row) ⌝ }
+    ensures { λ r. ⌜ Listed (now (table .entry)) (now (weights .entry)) low high (record { count = r; from = now (from .exit); to = now (to .exit); weight = now (weight .exit); row = now (row .exit) }) ⌝ }
 {
     let mut count = 0;
     let mut k = low;
     while k < high {
-        from[count] = left[k];
-        to[count] = entered[k];
-        weight[count] = row_weight(sent[k], taken[k], weights);
+        let r = tables::row_in(table, k);
+        from[count] = r.left;
+        to[count] = r.entered;
+        weight[count] = row_weight(r, weights);
         row[count] = k as u16;
-        count += one_if_quiet(progress[k]);
+        count += one_if_quiet(r.progress);
         k += 1;
     }
     count

@@ -1,4 +1,4 @@
--- Laws of the answer: a machine's rows are fit to be listed, the checks 12 to 14, and what the answer and the list owe.
+-- Laws of the answer: the checks 12 to 14, and what the answer and the list owe.
 use mathlib.Core.Path.{_≡_, refl, sym, ap, _∙_, subst}
 use mathlib.Core.Bool.{and-false}
 use mathlib.Core.List.{List, [], _∷_, _++_}
@@ -6,50 +6,20 @@ use Prim.Native.Nat.{ℕ, suc, _+_, _≤_, _<_, min}
 use native.Mathlib.Nat.{zero-add}
 use native.Mathlib.Omega.{arith}
 use borrow.Author.Tests.{lt-ltb, le-ltb, le-leb, lt-leb}
-use lib.ListN.{length, getD}
+use lib.ListN.{length}
 use lib.Dec.{leb}
-use lib.Seq.{sets-eq, getD-take}
+use lib.Seq.{sets-eq}
 use Rattle.livelock.specs.Plants.{Plant, machineCount, stateCount}
 use Rattle.plant.specs.Found.{Found, fault, andThen}
 use Rattle.plant.specs.Limits.{rowsOf}
 use Rattle.plant.specs.Reading.{readPlant}
-use Rattle.decoding.specs.Tables.{plantOf}
-use Rattle.decoding.specs.declared.PlantTable.{PlantTable}
 use Rattle.listing.specs.Answers.{entries, refused, answerOf}
 use Rattle.listing.specs.Listing.{entriesNeeded, checkedRoom, checkedSize, checked, judged, answered, filled, Means}
-use Rattle.cycle_paths.specs.Listings.{flattened}
-use Rattle.state_marks.specs.Marks.{RowsBelow}
-use Rattle.cycle_paths.specs.Entries.{Added, allEntries}
-use Rattle.listing.specs.Inner.Machines.{Listable, Answers}
+use Rattle.cycle_paths.specs.Entries.{Added}
+use Rattle.listing.specs.Inner.Machines.{Answers}
 use Rattle.listing.specs.declared.Listed.{Listed}
 use Rattle.listing.specs.declared.Listed.the-variants as Variants
-use Rattle.listing.proofs.TableCycles.{rows-range, states-below, table-cycles}
 use Rattle.listing.proofs.ListingLaws.{owed-means}
-
--- ---- the rows of a machine
-
-module _ (t : PlantTable) (m : ℕ) (ok : Listable t m) (first last : ℕ) (first-is : first ≡ getD (t .first) m 0) (last-is : last ≡ getD (t .first) (m + 1) 0) where
-  -- The machine's rows leave and enter states below 24,
-  pub left-in : RowsBelow (t .left) first last
-  left-in =
-      let range = rows-range t (ok .ready) (ok .limits) m (ok .machine-in) in
-      record {
-        ordered = omega (arith, first-is, last-is, range .0);
-        few = omega (arith, last-is, range .1);
-        below-24 = λ k a b. omega (arith, ok .few-states, states-below t (ok .ready) (ok .limits) m (ok .machine-in) k (omega (arith, first-is)) (omega (arith, last-is)) .0);
-      }
-
-  pub entered-in : RowsBelow (t .entered) first last
-  entered-in =
-      record {
-        ordered = left-in .ordered;
-        few = left-in .few;
-        below-24 = λ k a b. omega (arith, ok .few-states, states-below t (ok .ready) (ok .limits) m (ok .machine-in) k (omega (arith, first-is)) (omega (arith, last-is)) .1);
-      }
-
-  -- and the entries of their cycles are those needed.
-  pub entries-are : allEntries (t .left) (t .entered) first last ≡ entriesNeeded (plantOf t) m
-  entries-are = rw (first-is, last-is) (ap flattened (sym (table-cycles t (ok .ready) (ok .limits) m (ok .machine-in) (ok .few-states))))
 
 -- ---- room for the entries
 
@@ -82,10 +52,6 @@ module _ (all needed before : List ℕ) (are : all ≡ needed) (n : ℕ) (counte
 
 -- ---- the checks
 
--- The count of states of a machine of the table.
-pub states-are : (t : PlantTable) (m : ℕ) → m < t .machines → stateCount (plantOf t) m ≡ getD (t .states) m 0
-states-are t m within = getD-take (t .machines) (t .states) m 0 within
-
 module _ (m room : ℕ) (P : Plant) (end : ℕ) where
   -- No such machine: fault 12.
   pub refuse-12 : machineCount P ≤ m → fault 12 0 ≡ checked m room P end
@@ -117,9 +83,12 @@ refusal number place x e before r is = subst (λ (y : Found (List ℕ)). Answers
 pub answers-same : {x y : Found (List ℕ)} {before after : List ℕ} {r : Listed} → x ≡ y → Answers x before after r → Answers y before after r
 answers-same {x} {y} {before} {after} {r} e a = subst (λ (z : Found (List ℕ)). Answers z before after r) e a
 
--- What `list` ensures, once the file is read.
-pub owed : (file : List ℕ) (m : ℕ) (before after : List ℕ) (r : Listed) (x : Found Plant) → readPlant file ≡ x → Answers (andThen x (checked m (length before))) before after r
+-- What answers what was read answers the file.
+pub file-answers : (file : List ℕ) (m : ℕ) (before after : List ℕ) (r : Listed) (x : Found Plant) → readPlant file ≡ x → Answers (andThen x (checked m (length before))) before after r
+    → Answers (judged file m (length before)) before after r
+file-answers file m before after r x read a = answers-same (ap (λ (y : Found Plant). andThen y (checked m (length before))) (sym read)) a
+
+-- What `list` ensures.
+pub owed : (file : List ℕ) (m : ℕ) (before after : List ℕ) (r : Listed) → Answers (judged file m (length before)) before after r
     → (answerOf r ≡ answered (judged file m (length before))) × ((after ≡ filled (judged file m (length before)) before) × Means file m (answerOf r) after)
-owed file m before after r x read a =
-    let b = answers-same {before = before} {after = after} {r = r} (ap (λ (y : Found Plant). andThen y (checked m (length before))) (sym read)) a in
-    (b .answer, (b .list-after, owed-means file m before after (answerOf r) (b .answer) (b .list-after)))
+owed file m before after r a = (a .answer, (a .list-after, owed-means file m before after (answerOf r) (a .answer) (a .list-after)))

@@ -1,92 +1,147 @@
--- The cycles of a machine from the columns of a decoded table, and the range of the machine's rows.
-use mathlib.Core.Path.{_≡_, ap, _∙_}
+-- The cycles of a machine from columns copied of a decoded table, and the range of the machine's rows.
+use mathlib.Core.Path.{_≡_, sym, ap, _∙_}
+use mathlib.Core.List.{List}
 use Prim.Native.Nat.{ℕ, _+_, _-_, _≤_, _<_}
+use native.Mathlib.Decide.{ℕ-discrete}
 use native.Mathlib.Omega.{arith}
-use lib.ListN.{getD}
+use lib.ListN.{length, getD, set}
+use lib.Seq.{getD-set-same, getD-set-other}
 use Rattle.livelock.specs.Plants.{Row, rowCount, stateCount}
 use Rattle.livelock.specs.Cycles.{leaves, enters, RowOf}
 use Rattle.livelock.proofs.QuietGraphs.{row-within}
 use Rattle.decoding.specs.Tables.{plantOf, Ready}
-use Rattle.plant.specs.Limits.{rowsOf, WithinLimits}
-use Rattle.decoding.specs.declared.PlantTable.{PlantTable}
-use Rattle.decoding.proofs.TableLaws.{row-is, rows-counted}
+use Rattle.plant.specs.Limits.{WithinLimits}
+use Rattle.decoding.specs.declared.Shape.{Shape}
+use Rattle.tables.specs.Tables.{rowIn}
+use Rattle.decoding.proofs.TableLaws.{plant-row-is, rows-counted}
 use Rattle.decoding.proofs.FirstRowLaws.{row-of-machine, machine-rows}
-use Rattle.cycle_paths.specs.Listings.{In}
-use Rattle.cycle_paths.specs.Cycles.{cyclesThrough, rowNumbers, cyclesOf}
+use Rattle.listing.specs.Listing.{entriesNeeded}
+use Rattle.listing.specs.Inner.Machines.{Copied, Listable, entriesBetween}
+use Rattle.cycle_paths.specs.Listings.{In, flattened}
+use Rattle.cycle_paths.specs.Cycles.{cyclesThrough, rowNumbers}
 use Rattle.cycle_paths.specs.Rows.{upFrom}
 use Rattle.state_marks.specs.Marks.{column}
+use Rattle.state_marks.specs.Marks.{RowsBelow}
+use Rattle.cycle_paths.specs.Entries.{allEntries}
 use Rattle.cycle_paths.proofs.ElementLaws.{in-all, up-from-in, in-up-from}
 use Rattle.cycle_paths.proofs.OrderLaws.{increasing-same, increasing-up-from}
 use Rattle.cycle_paths.proofs.CycleLaws.{number-row, row-number, numbers-increasing, same-cycles, through-same}
 
-module _ (t : PlantTable) (ready : Ready t) (limits : WithinLimits (plantOf t)) (m : ℕ) (within : m < t .machines) where
+-- ---- the columns
+
+-- Before the first row nothing is copied.
+pub none-copied : (table : List ℕ) (first : ℕ) (left entered : List ℕ) → Copied table first first left entered
+none-copied table first left entered = record { left-is = λ k from below. absurd (omega arith); entered-is = λ k from below. absurd (omega arith) }
+
+-- One state more of a column is stored.
+stored : (is : ℕ → ℕ) (column : List ℕ) (first n : ℕ) → n < length column → ((k : ℕ) → first ≤ k → k < n → getD column k 0 ≡ is k)
+    → (k : ℕ) → first ≤ k → k < n + 1 → getD (set column n (is n)) k 0 ≡ is k
+stored is column first n room h k from below = go (ℕ-discrete k n)
+  where
+    go : Dec (k ≡ n) → getD (set column n (is n)) k 0 ≡ is k
+    go (yes e) = rw e (getD-set-same column n (is n) 0 room)
+    go (no e) =
+        let l : k < n = omega arith in
+        getD-set-other column n k (is n) 0 e ∙ h k from l
+
+-- Row n is copied behind the others.
+pub row-copied : (table : List ℕ) (first n : ℕ) (left entered : List ℕ) → n < length left → n < length entered → Copied table first n left entered
+    → Copied table first (n + 1) (set left n (rowIn table n .left)) (set entered n (rowIn table n .entered))
+row-copied table first n left entered room room′ h =
+    record {
+      left-is = stored (λ k. rowIn table k .left) left first n room (h .left-is);
+      entered-is = stored (λ k. rowIn table k .entered) entered first n room′ (h .entered-is);
+    }
+
+module _ (table : List ℕ) (first last : ℕ) (ok : Listable table first last) (left entered : List ℕ) (copied : Copied table first last left entered) where
+  -- Columns copied of rows that are fit to be listed have states below 24,
+  pub left-in : RowsBelow left first last
+  left-in = record { ordered = ok .ordered; few = ok .few; below-24 = λ k from below. omega (arith, copied .left-is k from below, ok .below-24 k from below .0) }
+
+  pub entered-in : RowsBelow entered first last
+  entered-in = record { ordered = ok .ordered; few = ok .few; below-24 = λ k from below. omega (arith, copied .entered-is k from below, ok .below-24 k from below .1) }
+
+  -- and the entries of their cycles are those of the rows.
+  pub entries-are : allEntries left entered first last ≡ entriesBetween table first last
+  entries-are =
+      ap flattened
+      (through-same (column left) (column entered) (λ k. rowIn table k .left) (λ k. rowIn table k .entered) (upFrom first (last - first))
+      (in-all _ (upFrom first (last - first)) (λ k i.
+      let h = up-from-in first (last - first) k i in
+      let below : k < last = omega (arith, h .1, ok .ordered) in
+      (copied .left-is k (h .0) below, copied .entered-is k (h .0) below))) 24)
+
+-- ---- the rows of a machine
+
+module _ (s : Shape) (table : List ℕ) (ready : Ready s table) (limits : WithinLimits (plantOf s table)) (m : ℕ) (within : m < s .machines) where
   -- The number of the machine's first row,
   abbrev low : ℕ
-  low = getD (t .first) m 0
+  low = getD (s .first) m 0
 
   -- and that of the next machine's.
   abbrev high : ℕ
-  high = getD (t .first) (m + 1) 0
-
-  -- From the one up to the other there are as many numbers as the machine has rows, none of them above 1,023.
-  pub rows-range : (getD (t .first) m 0 ≤ getD (t .first) (m + 1) 0) × (getD (t .first) (m + 1) 0 ≤ 1024) × (rowsOf (plantOf t) m ≡ getD (t .first) (m + 1) 0 - getD (t .first) m 0)
-  rows-range =
-      let rows = machine-rows t ready m (omega (arith, ready .sound .few-machines)) in
-      (rows .0, omega (arith, rows .1, ready .sound .few-rows), rows .2)
+  high = getD (s .first) (m + 1) 0
 
   -- The numbers of that range are rows of the machine,
-  range-row : (k : ℕ) → low ≤ k → k < high → RowOf (plantOf t) m k
+  range-row : (k : ℕ) → low ≤ k → k < high → RowOf (plantOf s table) m k
   range-row k from below =
-      let sixteen : m < 16 = omega (arith, ready .sound .few-machines) in
-      let there : k < rowCount (plantOf t) = omega (arith, machine-rows t ready m sixteen .1, rows-counted t) in (
+      let there : k < rowCount (plantOf s table) = omega (arith, machine-rows s table ready m within .1, rows-counted s table) in (
         there,
-        row-of-machine (plantOf t) limits m k there .1 (omega (arith, ready .first-row m (omega arith)), omega (arith, ready .first-row (m + 1) (omega arith))),
+        row-of-machine (plantOf s table) limits m k there .1 (omega (arith, ready .first-row m (omega arith)), omega (arith, ready .first-row (m + 1) (omega arith))),
       )
 
   -- and all rows of the machine are there.
-  row-range : (k : ℕ) → RowOf (plantOf t) m k → (low ≤ k) × (k < high)
+  row-range : (k : ℕ) → RowOf (plantOf s table) m k → (low ≤ k) × (k < high)
   row-range k row =
-      let sixteen : m < 16 = omega (arith, ready .sound .few-machines) in
-      let between = row-of-machine (plantOf t) limits m k (row .0) .0 (row .1) in
+      let between = row-of-machine (plantOf s table) limits m k (row .0) .0 (row .1) in
       (omega (arith, between .0, ready .first-row m (omega arith)), omega (arith, between .1, ready .first-row (m + 1) (omega arith)))
-
-  -- There the columns have the states that the plant's rows leave and enter,
-  columns-are : (k : ℕ) → low ≤ k → k < high → (leaves (plantOf t) k ≡ column (t .left) k) × (enters (plantOf t) k ≡ column (t .entered) k)
-  columns-are k from below =
-      let is = row-is t k (omega (arith, range-row k from below .0, rows-counted t)) in
-      (ap (λ (r : Row). r .left) is, ap (λ (r : Row). r .entered) is)
-
-  -- which are states of the machine.
-  pub states-below : (k : ℕ) → getD (t .first) m 0 ≤ k → k < getD (t .first) (m + 1) 0
-      → (column (t .left) k < stateCount (plantOf t) m) × (column (t .entered) k < stateCount (plantOf t) m)
-  states-below k from below =
-      let are = columns-are k from below in
-      let states = row-within (plantOf t) (limits .formed) m k (range-row k from below) in
-      (omega (arith, are .0, states .0), omega (arith, are .1, states .1))
 
   -- An element of the range lies in it.
   in-range : (k : ℕ) → In k (upFrom low (high - low)) → (low ≤ k) × (k < high)
   in-range k i =
       let h = up-from-in low (high - low) k i in
-      (h .0, omega (arith, h .1, rows-range .0))
+      (h .0, omega (arith, h .1, machine-rows s table ready m within .0))
 
   -- So the machine's row numbers are the numbers of the range,
-  numbers-are : rowNumbers (plantOf t) m ≡ upFrom low (high - low)
+  numbers-are : rowNumbers (plantOf s table) m ≡ upFrom low (high - low)
   numbers-are =
-      increasing-same (rowNumbers (plantOf t) m) (upFrom low (high - low)) (numbers-increasing (plantOf t) m) (increasing-up-from low (high - low))
+      increasing-same (rowNumbers (plantOf s table) m) (upFrom low (high - low)) (numbers-increasing (plantOf s table) m) (increasing-up-from low (high - low))
       (λ k i.
-      let between = row-range k (number-row (plantOf t) m k i) in
+      let between = row-range k (number-row (plantOf s table) m k i) in
       in-up-from low (high - low) k (between .0) (omega (arith, between .0, between .1)))
       (λ k i.
       let between = in-range k i in
-      row-number (plantOf t) m k (range-row k (between .0) (between .1)))
+      row-number (plantOf s table) m k (range-row k (between .0) (between .1)))
 
-  -- and its cycles are those through the range by the columns. Marks for 24 states do as well as for its own number of states.
-  pub table-cycles : stateCount (plantOf t) m ≤ 24
-      → cyclesOf (plantOf t) m
-      ≡ cyclesThrough 24 (column (t .left)) (column (t .entered)) (upFrom (getD (t .first) m 0) (getD (t .first) (m + 1) 0 - getD (t .first) m 0))
-  table-cycles few =
-      same-cycles (plantOf t) (limits .formed) m 24 few
-      ∙ ap (cyclesThrough 24 (leaves (plantOf t)) (enters (plantOf t))) numbers-are
-      ∙ through-same (leaves (plantOf t)) (enters (plantOf t)) (column (t .left)) (column (t .entered)) (upFrom low (high - low))
-      (in-all _ (upFrom low (high - low)) (λ k i. let between = in-range k i in columns-are k (between .0) (between .1))) 24
+  -- There the table has the states that the plant's rows leave and enter,
+  states-are : (k : ℕ) → low ≤ k → k < high → (leaves (plantOf s table) k ≡ rowIn table k .left) × (enters (plantOf s table) k ≡ rowIn table k .entered)
+  states-are k from below =
+      let is = plant-row-is s table k (omega (arith, range-row k from below .0, rows-counted s table)) in
+      (ap (λ (r : Row). r .left) is, ap (λ (r : Row). r .entered) is)
+
+  module _ (few : stateCount (plantOf s table) m ≤ 24) (first last : ℕ) (first-is : first ≡ getD (s .first) m 0) (last-is : last ≡ getD (s .first) (m + 1) 0) where
+    -- so that the machine's rows are fit to be listed,
+    pub machine-listable : Listable table first last
+    machine-listable =
+        let rows = machine-rows s table ready m within in
+        record {
+          ordered = omega (arith, first-is, last-is, rows .0);
+          few = omega (arith, last-is, rows .1, ready .sound .few-rows);
+          room = omega (arith, last-is, rows .1, ready .sound .room);
+          below-24 = λ k a b.
+              let from : low ≤ k = omega (arith, first-is) in
+              let below : k < high = omega (arith, last-is) in
+              let are = states-are k from below in
+              let states = row-within (plantOf s table) (limits .formed) m k (range-row k from below) in
+              (omega (arith, are .0, states .0, few), omega (arith, are .1, states .1, few));
+        }
+
+    -- and the entries of their cycles are those needed. Marks for 24 states do as well as for its own number of states.
+    pub machine-entries : entriesBetween table first last ≡ entriesNeeded (plantOf s table) m
+    machine-entries =
+        rw (first-is, last-is)
+        (ap flattened
+        (sym (same-cycles (plantOf s table) (limits .formed) m 24 few
+        ∙ ap (cyclesThrough 24 (leaves (plantOf s table)) (enters (plantOf s table))) numbers-are
+        ∙ through-same (leaves (plantOf s table)) (enters (plantOf s table)) (λ k. rowIn table k .left) (λ k. rowIn table k .entered) (upFrom low (high - low))
+        (in-all _ (upFrom low (high - low)) (λ k i. let between = in-range k i in states-are k (between .0) (between .1))) 24)))

@@ -1,12 +1,14 @@
 // Listing the simple cycles of a machine.
 ghost use mathlib.Core.Path.{_≡_};
+ghost use Prim.Native.Nat.{min};
 ghost use lib.ListN.{length};
 ghost use Rattle.plant.specs.Limits.{WithinLimits};
+ghost use Rattle.tables.specs.Tables.{RoomFor};
 ghost use Rattle.decoding.specs.Tables.{plantOf, Ready};
 ghost use Rattle.listing.specs.Answers.{answerOf, refused};
 ghost use Rattle.listing.specs.Listing.{judged, answered, filled, Means};
-ghost use Rattle.listing.specs.Inner.Machines.{Listable, AnswersMachine, AnswersChecked};
-use decoding::PlantTable;
+ghost use Rattle.listing.specs.Inner.Machines.{Copied, Listable, Answers, AnswersRows, AnswersChecked};
+use decoding::Shape;
 use plant::End;
 use plant::Fault;
 
@@ -16,6 +18,12 @@ pub enum Listed {
     Refused(Fault),
 }
 
+// The states that rows leave and enter, by row number.
+struct Columns {
+    left: [u8; 1024],
+    entered: [u8; 1024],
+}
+
 // A refusal at place 0.
 fn refused(number: u8) -> Listed
     ensures { λ r. ⌜ answerOf r ≡ refused number 0 ⌝ }
@@ -23,18 +31,33 @@ fn refused(number: u8) -> Listed
     Listed::Refused(Fault { number, place: 0 })
 }
 
-// Lists the cycles of a machine: counts their entries first, then stores them if the list has room.
-fn list_machine(table: PlantTable, m: usize, out: &mut [u16]) -> Listed
-    requires { ⌜ Listable table m ⌝ }
-    ensures { λ r. ⌜ AnswersMachine table m (now (out .entry)) (now (out .exit)) r ⌝ }
+// Copies the states of the rows from `first` up to, and not including, `last` into columns, which the search reads once for each step.
+fn columns_of(table: &[u8], first: usize, last: usize) -> Columns
+    requires { ⌜ Listable (now table) first last ⌝ }
+    ensures { λ r. ⌜ Copied (now (table .entry)) first last (r .left) (r .entered) ⌝ }
 {
-    let first = casts::index_u16(table.first[m]);
-    let last = casts::index_u16(table.first[m + 1]);
-    let links = cycle_paths::link(&table.left, first, last);
+    let mut left = [0; 1024];
+    let mut entered = [0; 1024];
+    let mut k = first;
+    while k < last {
+        left[k] = tables::left_of(table, k);
+        entered[k] = tables::entered_of(table, k);
+        k += 1;
+    }
+    Columns { left, entered }
+}
+
+// Lists the cycles of the rows from `first` up to, and not including, `last`: counts their entries first, then stores them if the list has room.
+fn list_between(table: &[u8], first: usize, last: usize, out: &mut [u16]) -> Listed
+    requires { ⌜ Listable (now table) first last ⌝ }
+    ensures { λ r. ⌜ AnswersRows (now (table .entry)) first last (now (out .entry)) (now (out .exit)) r ⌝ }
+{
+    let columns = columns_of(table, first, last);
+    let links = cycle_paths::link(&columns.left, first, last);
     let room = out.len();
     let needed = cycle_paths::list_rows(
-        &table.left,
-        &table.entered,
+        &columns.left,
+        &columns.entered,
         &links.next,
         &links.head,
         first,
@@ -46,8 +69,8 @@ fn list_machine(table: PlantTable, m: usize, out: &mut [u16]) -> Listed
         return refused(14);
     }
     let used = cycle_paths::list_rows(
-        &table.left,
-        &table.entered,
+        &columns.left,
+        &columns.entered,
         &links.next,
         &links.head,
         first,
@@ -59,36 +82,49 @@ fn list_machine(table: PlantTable, m: usize, out: &mut [u16]) -> Listed
 }
 
 // Checks 12 and 13, and lists.
-fn list_checked(table: PlantTable, machine: u32, out: &mut [u16]) -> Listed
-    requires { ⌜ Ready table × WithinLimits (plantOf table) ⌝ }
-    ensures { λ r. ⌜ AnswersChecked table machine (now (out .entry)) (now (out .exit)) r ⌝ }
+fn list_checked(table: &[u8], shape: Shape, machine: u32, out: &mut [u16]) -> Listed
+    requires { ⌜ Ready shape (now table) × WithinLimits (plantOf shape (now table)) ⌝ }
+    ensures { λ r. ⌜ AnswersChecked shape (now (table .entry)) machine (now (out .entry)) (now (out .exit)) r ⌝ }
 {
     let m = machine as usize;
-    if m >= table.machines {
+    if m >= shape.machines {
         return refused(12);
     }
-    if table.states[m] > 24 {
+    if shape.states[m] > 24 {
         return refused(13);
     }
-    let first = casts::index_u16(table.first[m]);
-    let last = casts::index_u16(table.first[m + 1]);
+    let first = casts::index_u16(shape.first[m]);
+    let last = casts::index_u16(shape.first[m + 1]);
     if last - first > 48 {
         return refused(13);
     }
-    list_machine(table, m, out)
+    list_between(table, first, last, out)
 }
 
-// Lists every simple cycle of a machine of the plant of a file.
+// Reads a file into a lent table, and lists.
+fn list_in(file: &[u8], machine: u32, table: &mut [u8], out: &mut [u16]) -> Listed
+    requires { ⌜ RoomFor (min 1024 (length (now file))) (now table) ⌝ }
+    ensures { λ r. ⌜ Answers (judged (now (file .entry)) machine (length (now (out .entry)))) (now (out .entry)) (now (out .exit)) r ⌝ }
+{
+    let decoded = decoding::decode(file, table);
+    let end = decoded.end;
+    let shape = decoded.shape;
+    match end {
+        End::Fault(fault) => Listed::Refused(fault),
+        End::At(_) => list_checked(table, shape, machine, out),
+    }
+}
+
+// Lists every simple cycle of a machine of the plant of a file. A short file needs a short table.
 pub fn list(file: &[u8], machine: u32, out: &mut [u16]) -> Listed
     ensures { λ r. ⌜ answerOf r ≡ answered (judged (now (file .entry)) machine (length (now (out .entry)))) ⌝ }
     ensures { λ r. ⌜ now (out .exit) ≡ filled (judged (now (file .entry)) machine (length (now (out .entry)))) (now (out .entry)) ⌝ }
     ensures { λ r. ⌜ Means (now (file .entry)) machine (answerOf r) (now (out .exit)) ⌝ }
 {
-    let decoded = decoding::decode(file);
-    let end = decoded.end;
-    let table = decoded.table;
-    match end {
-        End::Fault(fault) => Listed::Refused(fault),
-        End::At(_) => list_checked(table, machine, out),
+    if file.len() <= 64 {
+        let mut table = [0; 512];
+        return list_in(file, machine, &mut table, out);
     }
+    let mut table = [0; 8192];
+    list_in(file, machine, &mut table, out)
 }

@@ -1,2 +1,3 @@
--- Laws of the machines, one after the other.
+-- Laws of one machine, and of the machines one after the other.
+pub mod MachineLaws
 pub mod TurnLaws

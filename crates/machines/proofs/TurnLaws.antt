@@ -1,19 +1,25 @@
 -- Laws of one machine after the other: what deciding says of its edges, it says of the machine.
-use mathlib.Core.Path.{_≡_, sym, subst}
+use mathlib.Core.Path.{_≡_, sym, subst, _∙_}
 use mathlib.Core.Bool.{Bool, true, false, false≢true}
 use mathlib.Core.List.{List}
 use Prim.Native.Nat.{ℕ, _+_, _≤_, _<_}
 use native.Mathlib.Decide.{decLt}
 use native.Mathlib.Omega.{arith}
-use lib.ListN.{length, getD}
-use Rattle.livelock.specs.Lists.{below, greatest}
+use lib.ListN.{getD}
+use Rattle.livelock.specs.Plants.{machineCount, stateCount}
+use Rattle.livelock.specs.Figures.{mostStates}
 use Rattle.livelock.proofs.SumLaws.{greatest-below}
 use Rattle.livelock.proofs.Graphs.{Graph}
+use Rattle.tables.specs.Tables.{RoomFor}
+use Rattle.decoding.specs.Tables.{plantOf}
+use Rattle.decoding.specs.declared.Shape.{Shape}
+use Rattle.decoding.proofs.TableLaws.{machines-counted, states-at}
 use Rattle.deciding.specs.Rounds.{EdgesIn, AllBelowZero, SomeZeroOrMore, Decided}
-use Rattle.edges.specs.Edges.{Columns, Edges, Listed}
+use Rattle.edges.specs.Edges.{Edges, Listed}
 use Rattle.edges.proofs.ListedLaws.{edges-in}
-use Rattle.figures.proofs.FigureLaws.{greatest-limit}
-use Rattle.machines.specs.Machines.{Machines, graphOf, PassingRows, FailingRows}
+use Rattle.figures.proofs.FigureLaws.{states-limit, most-limit}
+use Rattle.machines.specs.Machines.{Weighable, graphOf, PassingRows, FailingRows}
+use Rattle.machines.proofs.MachineLaws.{rows-between}
 
 -- ---- deciding
 
@@ -38,37 +44,45 @@ below-next F m h f j l = go (decLt j m)
     go (no x) = let e : m ≡ j = omega arith in subst F e f
 
 -- Machine m has the rows from `low` up to, and not including, `high`.
-module _ (c : Columns) (first states ws : List ℕ) (given : Machines c first states) (m : ℕ) (within : m < length states)
-    (low high : ℕ) (low-is : low ≡ getD first m 0) (high-is : high ≡ getD first (m + 1) 0) where
-  -- They are few enough for an edge list.
-  pub turn-rows : (high ≤ 1024) × (low ≤ high) × (high ≤ low + 255)
-  turn-rows =
-      let x = given .rows m within in
-      (omega (arith, high-is, x .in-table), omega (arith, low-is, high-is, x .ordered), omega (arith, low-is, high-is, x .few))
+module _ (s : Shape) (table ws : List ℕ) (ok : Weighable s table ws) where
+  -- The machines of the shape are the plant's.
+  pub machines-are : machineCount (plantOf s table) ≡ s .machines
+  machines-are = machines-counted s table (ok .ready .sound)
 
-  module _ (e : Edges) (listed : Listed c ws low high e) where
-    -- The edges are the machine's.
-    turn-listed : Listed c ws (getD first m 0) (getD first (m + 1) 0) e
-    turn-listed = subst (λ (x : ℕ). Listed c ws x (getD first (m + 1) 0) e) low-is (subst (λ (y : ℕ). Listed c ws low y e) high-is listed)
+  module _ (m : ℕ) (within : m < s .machines) where
+    -- The machine has a state, and 64 at most.
+    pub states-in : (1 ≤ stateCount (plantOf s table) m) × (stateCount (plantOf s table) m ≤ 64)
+    states-in = states-limit (plantOf s table) (ok .limits) m (omega (arith, machines-are))
 
-    -- They are within the limits.
-    pub turn-edges : ((i : ℕ) → getD ws i 0 ≤ 65535) → (n : ℕ) → n ≡ getD states m 0 → EdgesIn n (e .count) (e .from) (e .to) (e .weight)
-    turn-edges light n n-is =
-        subst (λ (s : ℕ). EdgesIn s (e .count) (e .from) (e .to) (e .weight)) (sym n-is)
-        (edges-in c ws light (getD first m 0) (getD first (m + 1) 0) e turn-listed (getD states m 0) (given .some-state m within) (given .few-states m within) (given .rows m within))
+    -- No machine has more than n states, and n is at most 64.
+    pub turn-states : (k n : ℕ) → k ≡ getD (s .states) m 0 → n ≡ mostStates (plantOf s table) → (k ≤ n) × (n ≤ 64)
+    turn-states k n k-is n-is = (
+      omega (arith, k-is, n-is, states-at s table m within, greatest-below (stateCount (plantOf s table)) (machineCount (plantOf s table)) m (omega (arith, machines-are))),
+      omega (arith, n-is, most-limit (plantOf s table) (ok .limits)),
+    )
 
-    -- The machine passes if every cycle is below zero,
-    pub turn-passes : AllBelowZero (graphOf e) → PassingRows c ws (getD first m 0) (getD first (m + 1) 0)
-    turn-passes below-zero = record { edges = e; listed = turn-listed; below-zero = below-zero }
+    module _ (low high : ℕ) (low-is : low ≡ getD (s .first) m 0) (high-is : high ≡ getD (s .first) (m + 1) 0) where
+      -- The rows are few enough for an edge list.
+      pub turn-rows : RoomFor high table × (high ≤ 1024) × (low ≤ high) × (high ≤ low + 255)
+      turn-rows =
+          let x = rows-between s table (ok .ready) (ok .limits) m within in
+          (omega (arith, high-is, x .room), omega (arith, high-is, x .in-table), omega (arith, low-is, high-is, x .ordered), omega (arith, low-is, high-is, x .few))
 
-    -- and fails if one is not.
-    pub turn-fails : SomeZeroOrMore (graphOf e) → FailingRows c ws (getD first m 0) (getD first (m + 1) 0) e
-    turn-fails zero-or-more = record { listed = turn-listed; zero-or-more = zero-or-more }
+      module _ (e : Edges) (listed : Listed table ws low high e) where
+        -- The edges are the machine's.
+        turn-listed : Listed table ws (getD (s .first) m 0) (getD (s .first) (m + 1) 0) e
+        turn-listed = subst (λ (x : ℕ). Listed table ws x (getD (s .first) (m + 1) 0) e) low-is (subst (λ (y : ℕ). Listed table ws low y e) high-is listed)
 
--- No machine has more than n states, and n is at most 64.
-pub turn-states : (c : Columns) (first states : List ℕ) → Machines c first states → (m : ℕ) → m < length states → (s n : ℕ) → s ≡ getD states m 0
-    → n ≡ greatest (λ k. getD states k 0) (below (length states)) → (s ≤ n) × (n ≤ 64)
-turn-states c first states given m within s n s-is n-is = (
-  omega (arith, s-is, n-is, greatest-below (λ k. getD states k 0) (length states) m within),
-  omega (arith, n-is, greatest-limit (λ k. getD states k 0) 64 (length states) (given .few-states)),
-)
+        -- They are within the limits.
+        pub turn-edges : ((i : ℕ) → getD ws i 0 ≤ 65535) → (n : ℕ) → n ≡ getD (s .states) m 0 → EdgesIn n (e .count) (e .from) (e .to) (e .weight)
+        turn-edges light n n-is =
+            subst (λ (k : ℕ). EdgesIn k (e .count) (e .from) (e .to) (e .weight)) (sym (n-is ∙ states-at s table m within))
+            (edges-in table ws light (getD (s .first) m 0) (getD (s .first) (m + 1) 0) e turn-listed (stateCount (plantOf s table) m) (states-in .0) (states-in .1) (rows-between s table (ok .ready) (ok .limits) m within))
+
+        -- The machine passes if every cycle is below zero,
+        pub turn-passes : AllBelowZero (graphOf e) → PassingRows table ws (getD (s .first) m 0) (getD (s .first) (m + 1) 0)
+        turn-passes below-zero = record { edges = e; listed = turn-listed; below-zero = below-zero }
+
+        -- and fails if one is not.
+        pub turn-fails : SomeZeroOrMore (graphOf e) → FailingRows table ws (getD (s .first) m 0) (getD (s .first) (m + 1) 0) e
+        turn-fails zero-or-more = record { listed = turn-listed; zero-or-more = zero-or-more }

@@ -1,2 +1,2 @@
--- The machines of a plant as lent columns, and the first that fails.
+-- The machines of a plant in a table, and the first that fails.
 pub mod Machines

@@ -1,5 +1,5 @@
--- What the test over the columns tells: whether rows are a quiet simple cycle of the plant.
-use mathlib.Core.Path.{_≡_, refl, sym, _∙_, subst}
+-- What the test over the table tells: whether rows are a quiet simple cycle of the plant.
+use mathlib.Core.Path.{_≡_, refl, sym, ap, _∙_, subst}
 use mathlib.Core.Logic.{_≢_, _↔_}
 use mathlib.Core.Bool.{Bool, true, false, false≢true}
 use mathlib.Core.List.{List, [], _∷_, map}
@@ -10,12 +10,13 @@ use lib.ListN.{length, getD, set, length-set, replicate}
 use lib.Seq.{getD-set-same, getD-set-other}
 use borrow.Author.Tests.{eqb-true, eq-eqb}
 use Rattle.livelock.specs.Lists.{All, Distinct}
-use Rattle.livelock.specs.Plants.{Plant, hasProgress}
+use Rattle.livelock.specs.Plants.{Row, Plant, hasProgress}
 use Rattle.livelock.specs.Cycles.{Walk, leaves, enters, RowOf, firstLeft, SimpleCycle, Quiet}
 use Rattle.livelock.proofs.ListLaws.{all-weaken, all-always, all-both, all-of-map, all-map-of, getD-replicate-default}
 use Rattle.livelock.proofs.Tests.{and-iff, both-iff, equal-iff, not-iff, simple-cycle-iff, quiet-iff}
+use Rattle.tables.specs.Tables.{rowIn}
 use Rattle.set_entries.specs.Sets.{isQuietCycleOf}
-use Rattle.set_entries.specs.Entries.{Columns, ColumnsOf}
+use Rattle.set_entries.specs.Entries.{TableOf}
 use Rattle.set_entries.specs.Inner.Steps.{goesOn, leads}
 
 -- "a quiet simple cycle of that machine": the test of the definitions tells it.
@@ -39,13 +40,12 @@ marked seen s x l e q = false≢true (sym e ∙ rw (← q) (getD-set-same seen s
 -- ---- the rows one after the other
 
 -- The test of one row, in parts.
-goes-on-iff : (machine left : List ℕ) (progress : List Bool) (k m s : ℕ) (seen : List Bool)
-    → (goesOn machine left progress k m s seen ≡ true) ↔ ((getD machine k 0 ≡ m) × ((getD progress k false ≡ false) × ((getD left k 0 ≡ s) × (getD seen s false ≡ false))))
-goes-on-iff machine left progress k m s seen =
-    both-iff _ _ (equal-iff (getD machine k 0) m)
-    (both-iff _ _ (not-iff (getD progress k false)) (both-iff _ _ (equal-iff (getD left k 0) s) (not-iff (getD seen s false))))
+goes-on-iff : (r : Row) (m s : ℕ) (seen : List Bool)
+    → (goesOn r m s seen ≡ true) ↔ ((r .machine ≡ m) × ((r .progress ≡ false) × ((r .left ≡ s) × (getD seen s false ≡ false))))
+goes-on-iff r m s seen =
+    both-iff _ _ (equal-iff (r .machine) m) (both-iff _ _ (not-iff (r .progress)) (both-iff _ _ (equal-iff (r .left) s) (not-iff (getD seen s false))))
 
-module _ (P : Plant) (rows : ℕ) (c : Columns) (is : ColumnsOf P rows c) (m end : ℕ) where
+module _ (P : Plant) (rows : ℕ) (c : List ℕ) (is : TableOf P rows c) (m end : ℕ) where
   -- What the test asks of rows that begin at state s, where some states are marked.
   record Leading (s : ℕ) (seen : List Bool) (ks : List ℕ) : Type 0 where
     of-machine : All (RowOf P m) ks
@@ -59,15 +59,15 @@ module _ (P : Plant) (rows : ℕ) (c : Columns) (is : ColumnsOf P rows c) (m end
   unfolding leads All Distinct Walk hasProgress
   leading s seen [] room l e = record { of-machine = tt; quiet = tt; walk = eqb-true s end e; unmarked = tt; once = tt }
   leading s seen (k ∷ ks) room l e =
-      let b = and-iff (goesOn (c .machine) (c .left) (c .progress) k m s seen) _ .0 e in
-      let g = goes-on-iff (c .machine) (c .left) (c .progress) k m s seen .0 (b .0) in
-      let here : leaves P k ≡ s = is .left-is k (l .0) ∙ g .1 .1 .0 in
+      let b = and-iff (goesOn (rowIn c k) m s seen) _ .0 e in
+      let g = goes-on-iff (rowIn c k) m s seen .0 (b .0) in
+      let here : leaves P k ≡ s = ap (λ (r : Row). r .left) (is .row-is k (l .0)) ∙ g .1 .1 .0 in
       let byte : s < length seen = omega (arith, room, here, is .byte k (l .0)) in
-      let rest = leading (getD (c .entered) k 0) (set seen s true) ks (length-set seen s true ∙ room) (l .1) (b .1) in
+      let rest = leading (rowIn c k .entered) (set seen s true) ks (length-set seen s true ∙ room) (l .1) (b .1) in
       record {
-        of-machine = ((rw (is .rows-are) (l .0), is .machine-is k (l .0) ∙ g .0), rest .of-machine);
-        quiet = (is .progress-is k (l .0) ∙ g .1 .0, rest .quiet);
-        walk = (here, subst (λ (x : ℕ). Walk (leaves P) (enters P) x ks end) (sym (is .entered-is k (l .0))) (rest .walk));
+        of-machine = ((rw (is .rows-are) (l .0), ap (λ (r : Row). r .machine) (is .row-is k (l .0)) ∙ g .0), rest .of-machine);
+        quiet = (ap (λ (r : Row). r .progress) (is .row-is k (l .0)) ∙ g .1 .0, rest .quiet);
+        walk = (here, subst (λ (x : ℕ). Walk (leaves P) (enters P) x ks end) (sym (ap (λ (r : Row). r .entered) (is .row-is k (l .0)))) (rest .walk));
         unmarked = (rw here (g .1 .1 .1), all-weaken _ _ (λ j h. unmarked-before seen s (leaves P j) (g .1 .1 .1) h) ks (rest .unmarked));
         once = (
           all-of-map (λ y. leaves P k ≢ y) (leaves P) ks (all-weaken _ _ (λ j h q. marked seen s (leaves P j) byte h (sym here ∙ q)) ks (rest .unmarked)),
@@ -81,16 +81,16 @@ module _ (P : Plant) (rows : ℕ) (c : Columns) (is : ColumnsOf P rows c) (m end
   leads-so s seen [] l w = eq-eqb s end (w .walk)
   leads-so s seen (k ∷ ks) l w =
       let here : leaves P k ≡ s = w .walk .0 in
-      and-iff (goesOn (c .machine) (c .left) (c .progress) k m s seen) _ .1 (
-        goes-on-iff (c .machine) (c .left) (c .progress) k m s seen .1 (
-          sym (is .machine-is k (l .0)) ∙ w .of-machine .0 .1,
-          (sym (is .progress-is k (l .0)) ∙ w .quiet .0, (sym (is .left-is k (l .0)) ∙ here, rw (← here) (w .unmarked .0))),
+      and-iff (goesOn (rowIn c k) m s seen) _ .1 (
+        goes-on-iff (rowIn c k) m s seen .1 (
+          sym (ap (λ (r : Row). r .machine) (is .row-is k (l .0))) ∙ w .of-machine .0 .1,
+          (sym (ap (λ (r : Row). r .progress) (is .row-is k (l .0))) ∙ w .quiet .0, (sym (ap (λ (r : Row). r .left) (is .row-is k (l .0))) ∙ here, rw (← here) (w .unmarked .0))),
         ),
-        leads-so (getD (c .entered) k 0) (set seen s true) ks (l .1)
+        leads-so (rowIn c k .entered) (set seen s true) ks (l .1)
             (record {
               of-machine = w .of-machine .1;
               quiet = w .quiet .1;
-              walk = subst (λ (x : ℕ). Walk (leaves P) (enters P) x ks end) (is .entered-is k (l .0)) (w .walk .1);
+              walk = subst (λ (x : ℕ). Walk (leaves P) (enters P) x ks end) (ap (λ (r : Row). r .entered) (is .row-is k (l .0))) (w .walk .1);
               unmarked =
                   all-weaken
                   (λ j. (getD seen (leaves P j) false ≡ false) × (leaves P k ≢ leaves P j))
@@ -109,7 +109,7 @@ same-test false true h = h .1 refl
 same-test false false h = refl
 
 -- For rows of the plant, at least one, with no state marked, the test tells whether they are a quiet simple cycle.
-pub leads-is : (P : Plant) (rows : ℕ) (c : Columns) → ColumnsOf P rows c → (m : ℕ) (ks : List ℕ) → 0 < length ks → All (λ k. k < rows) ks
+pub leads-is : (P : Plant) (rows : ℕ) (c : List ℕ) → TableOf P rows c → (m : ℕ) (ks : List ℕ) → 0 < length ks → All (λ k. k < rows) ks
     → leads c m (firstLeft P ks) (firstLeft P ks) (replicate 256 false) ks ≡ isQuietCycleOf P m ks
 leads-is P rows c is m ks some l = same-test _ _ (
   λ e.

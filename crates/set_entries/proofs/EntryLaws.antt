@@ -7,14 +7,15 @@ use native.Mathlib.Nat.{le-refl, add-zero}
 use native.Mathlib.Omega.{arith}
 use lib.ListN.{getD, replicate}
 use lib.Seq.{getD-take, getD-drop}
-use Rattle.livelock.specs.Plants.{Plant, rowCount, machineCount}
+use Rattle.livelock.specs.Plants.{Row, Plant, rowCount, machineCount}
 use Rattle.livelock.specs.Cycles.{firstLeft}
 use Rattle.livelock.specs.CycleSets.{Entry}
 use Rattle.plant.specs.Found.{Found, found, fault, andThen}
 use Rattle.plant.specs.declared.End.{End}
 use Rattle.plant.specs.declared.End.the-variants as Ends
+use Rattle.tables.specs.Tables.{rowIn}
 use Rattle.set_entries.specs.Sets.{numberIn, rowsAt, isQuietCycleOf, entryEnds, entryAt}
-use Rattle.set_entries.specs.Entries.{valueFound, part, NumbersBelow, Columns, ColumnsOf, entryIn}
+use Rattle.set_entries.specs.Entries.{valueFound, part, NumbersBelow, TableOf, entryIn}
 use Rattle.set_entries.specs.Inner.Steps.{leads, firstNumbers, JudgedEnd}
 use Rattle.set_entries.proofs.FoundLaws.{chained, three-stop, tested, value-same, place-same}
 use Rattle.set_entries.proofs.NumberLaws.{number-read, RowsRead, rows-read, part-length, part-below}
@@ -23,8 +24,8 @@ use Rattle.set_entries.proofs.CycleTestLaws.{leads-is}
 -- ---- the test of the rows in the list
 
 -- For row numbers that the list has, the test over the columns tells whether they are a quiet simple cycle of the plant.
-rows-test : (P : Plant) (rows : ℕ) (c : Columns) → ColumnsOf P rows c → (set : List ℕ) (m a b : ℕ) → a < b → NumbersBelow rows set a b
-    → leads c m (getD (c .left) (getD set a 0) 0) (getD (c .left) (getD set a 0) 0) (replicate 256 false) (part set a b) ≡ isQuietCycleOf P m (part set a b)
+rows-test : (P : Plant) (rows : ℕ) (c : List ℕ) → TableOf P rows c → (set : List ℕ) (m a b : ℕ) → a < b → NumbersBelow rows set a b
+    → leads c m (rowIn c (getD set a 0) .left) (rowIn c (getD set a 0) .left) (replicate 256 false) (part set a b) ≡ isQuietCycleOf P m (part set a b)
 rows-test P rows c is set m a b l h =
     subst (λ (s : ℕ). leads c m s s (replicate 256 false) (part set a b) ≡ isQuietCycleOf P m (part set a b)) first-is
     (leads-is P rows c is m (part set a b) (omega (arith, part-length set a b (h .there))) (part-below rows set (b - a) a b (omega arith) h))
@@ -32,15 +33,15 @@ rows-test P rows c is set m a b l h =
     first-number : getD (part set a b) 0 0 ≡ getD set a 0
     first-number = getD-take (b - a) _ 0 0 (omega arith) ∙ (getD-drop a set 0 0 ∙ ap (λ (i : ℕ). getD set i 0) (add-zero a))
 
-    first-is : firstLeft P (part set a b) ≡ getD (c .left) (getD set a 0) 0
-    first-is = rw first-number (is .left-is (getD set a 0) (h .small a (le-refl a) l))
+    first-is : firstLeft P (part set a b) ≡ rowIn c (getD set a 0) .left
+    first-is = rw first-number (ap (λ (r : Row). r .left) (is .row-is (getD set a 0) (h .small a (le-refl a) l)))
 
 -- ---- where an entry ends
 
-module _ (c : Columns) (set : List ℕ) (at end : ℕ) (some : at + 3 < end) (b : Bool)
-    (b-is : b ≡ leads c (getD set at 0) (getD (c .left) (getD set (at + 3) 0) 0) (getD (c .left) (getD set (at + 3) 0) 0) (replicate 256 false) (part set (at + 3) end)) where
+module _ (c : List ℕ) (set : List ℕ) (at end : ℕ) (some : at + 3 < end) (b : Bool)
+    (b-is : b ≡ leads c (getD set at 0) (rowIn c (getD set (at + 3) 0) .left) (rowIn c (getD set (at + 3) 0) .left) (replicate 256 false) (part set (at + 3) end)) where
   -- What the code's test says is what the definition's test says.
-  tested-so : (P : Plant) (rows : ℕ) → ColumnsOf P rows c → NumbersBelow rows set (at + 3) end → isQuietCycleOf P (getD set at 0) (part set (at + 3) end) ≡ b
+  tested-so : (P : Plant) (rows : ℕ) → TableOf P rows c → NumbersBelow rows set (at + 3) end → isQuietCycleOf P (getD set at 0) (part set (at + 3) end) ≡ b
   tested-so P rows is below = sym (b-is ∙ rows-test P rows c is set (getD set at 0) (at + 3) end some below)
 
   -- "not a quiet simple cycle of that machine"
@@ -100,10 +101,10 @@ module _ (machines : ℕ) (set : List ℕ) (at : ℕ) where
       let x3 = settled set 1 65 (c2 .next) (at + 2) n next (at + 3) (c2 .second) (x2 .1) (omega arith) in
       record { first = x1 .0; second = x2 .0; third = x3 .0 }
 
-module _ (c : Columns) (rows machines : ℕ) (set : List ℕ) (at : ℕ) where
+module _ (c : List ℕ) (rows machines : ℕ) (set : List ℕ) (at : ℕ) where
   -- x is what the entry reads as in every plant with these columns.
   abbrev pub Reads : Found Entry → Type 0
-  Reads x = (P : Plant) → ColumnsOf P rows c → machineCount P ≡ machines → x ≡ entryAt P set at
+  Reads x = (P : Plant) → TableOf P rows c → machineCount P ≡ machines → x ≡ entryAt P set at
 
   -- A fault of the first three numbers is the entry's.
   pub numbers-stop : (number place : ℕ) → firstNumbers machines set at ≡ fault number place → Reads (fault number place)

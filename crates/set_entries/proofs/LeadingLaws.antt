@@ -7,14 +7,15 @@ use native.Mathlib.Omega.{arith}
 use lib.Dec.{eqb}
 use lib.ListN as Cells
 use lib.ListN.{length, getD}
-use Rattle.set_entries.specs.Entries.{part, Columns}
+use Rattle.tables.specs.Tables.{rowIn}
+use Rattle.set_entries.specs.Entries.{part}
 use Rattle.set_entries.specs.Inner.Steps.{goesOn, leads}
 use Rattle.set_entries.proofs.NumberLaws.{part-first, part-empty}
 
-module _ (c : Columns) (set : List ℕ) (m goal s : ℕ) (seen : List Bool) (i end : ℕ) (x : Bool) (rest : leads c m goal s seen (part set i end) ≡ x) where
-  module _ (more : i < end) (there : end ≤ length set) (b : Bool) (is : b ≡ goesOn (c .machine) (c .left) (c .progress) (getD set i 0) m s seen) where
+module _ (c : List ℕ) (set : List ℕ) (m goal s : ℕ) (seen : List Bool) (i end : ℕ) (x : Bool) (rest : leads c m goal s seen (part set i end) ≡ x) where
+  module _ (more : i < end) (there : end ≤ length set) (b : Bool) (is : b ≡ goesOn (rowIn c (getD set i 0)) m s seen) where
     -- One row, and the rest.
-    one-more : (b && leads c m goal (getD (c .entered) (getD set i 0) 0) (Cells.set seen s true) (part set (i + 1) end)) ≡ x
+    one-more : (b && leads c m goal (rowIn c (getD set i 0) .entered) (Cells.set seen s true) (part set (i + 1) end)) ≡ x
     unfolding leads
     one-more = let l : i < length set = omega arith in rw is (rw (part-first set i end more l) at rest)
 
@@ -23,7 +24,7 @@ module _ (c : Columns) (set : List ℕ) (m goal s : ℕ) (seen : List Bool) (i e
     row-fails e = rw e at one-more
 
     -- after one that does the others decide,
-    pub row-passes : b ≡ true → leads c m goal (getD (c .entered) (getD set i 0) 0) (Cells.set seen s true) (part set (i + 1) end) ≡ x
+    pub row-passes : b ≡ true → leads c m goal (rowIn c (getD set i 0) .entered) (Cells.set seen s true) (part set (i + 1) end) ≡ x
     row-passes e = rw e at one-more
 
   -- and after the last it is whether they have come to the goal.

@@ -3,11 +3,13 @@ ghost use mathlib.Core.Path.{_≡_};
 ghost use mathlib.Core.Bool.{false};
 ghost use Prim.Native.Nat.{_+_, _-_, _^_, _≤_, _<_, min};
 ghost use lib.ListN.{length, getD, replicate};
+ghost use Rattle.tables.specs.Tables.{rowIn, rowOf, RoomFor};
 ghost use Rattle.set_entries.specs.Sets.{numberIn, rowsAt, entryBegins};
-ghost use Rattle.set_entries.specs.Entries.{valueFound, part, NumbersBelow, JudgedEntry};
+ghost use Rattle.set_entries.specs.Entries.{valueFound, part, RowsThere, JudgedEntry};
 ghost use Rattle.set_entries.specs.Inner.Steps.{goesOn, leads, firstNumbers, JudgedEnd};
 use plant::End;
 use plant::Fault;
+use tables::TableRow;
 
 // What is judged where an entry begins: whether the list has it, and whether fewer than 256 came before.
 pub fn entry_begins(set: &[u32], at: usize, before: usize) -> End
@@ -93,64 +95,39 @@ fn rows_in(set: &[u32], at: usize, end: usize, rows: u32) -> End
     judged
 }
 
-// Whether row k is a quiet row of machine m that leaves state `at`, which no row before it has left.
-fn goes_on<'a>(
-    machine: &'a [u8; 1024],
-    left: &'a [u8; 1024],
-    progress: &'a [bool; 1024],
-    k: usize,
-    m: u8,
-    at: u8,
-    seen: &[bool; 256],
-) -> bool
-    requires { ⌜ k < 1024 ⌝ }
-    ensures { λ r. ⌜ r ≡ goesOn (now (machine .entry)) (now (left .entry)) (now (progress .entry)) k m at (now (seen .entry)) ⌝ }
+// Whether a row is a quiet row of machine m that leaves state `at`, which no row before it has left.
+fn goes_on(row: TableRow, m: u8, at: u8, seen: &[bool; 256]) -> bool
+    ensures { λ r. ⌜ r ≡ goesOn (rowOf row) m at (now (seen .entry)) ⌝ }
 {
-    if machine[k] != m {
+    if row.machine != m {
         return false;
     }
-    if progress[k] {
+    if row.progress {
         return false;
     }
-    if left[k] != at {
+    if row.left != at {
         return false;
     }
     !seen[at as usize]
 }
 
-// The state of row k in a column of states.
-fn state_of(column: &[u8; 1024], k: usize) -> u8
-    requires { ⌜ k < 1024 ⌝ }
-    ensures { λ r. ⌜ r ≡ getD (now (column .entry)) k 0 ⌝ }
-{
-    column[k]
-}
-
 // Whether the rows at `at` up to `end` are a quiet simple cycle of machine m.
-fn is_quiet_cycle<'a>(
-    machine: &'a [u8; 1024],
-    left: &'a [u8; 1024],
-    entered: &'a [u8; 1024],
-    progress: &'a [bool; 1024],
-    set: &[u32],
-    at: usize,
-    end: usize,
-    m: u8,
-) -> bool
-    requires { ⌜ (at < end) × NumbersBelow 1024 (now set) at end ⌝ }
-    ensures { λ r. ⌜ r ≡ leads (record { machine = now (machine .entry); left = now (left .entry); entered = now (entered .entry); progress = now (progress .entry) }) m (getD (now (left .entry)) (getD (now (set .entry)) at 0) 0) (getD (now (left .entry)) (getD (now (set .entry)) at 0) 0) (replicate 256 false) (part (now (set .entry)) at end) ⌝ }
+fn is_quiet_cycle(table: &[u8], set: &[u32], at: usize, end: usize, m: u8) -> bool
+    requires { ⌜ (at < end) × RowsThere (now table) (now set) at end ⌝ }
+    ensures { λ r. ⌜ r ≡ leads (now (table .entry)) m (rowIn (now (table .entry)) (getD (now (set .entry)) at 0) .left) (rowIn (now (table .entry)) (getD (now (set .entry)) at 0) .left) (replicate 256 false) (part (now (set .entry)) at end) ⌝ }
 {
-    let start = state_of(left, set[at] as usize);
+    let start = tables::left_of(table, set[at] as usize);
     let mut state = start;
     let mut seen = [false; 256];
     let mut i = at;
     while i < end {
-        let k = set[i] as usize;
-        if !goes_on(machine, left, progress, k, m, state, &seen) {
+        let row = tables::row_in(table, set[i] as usize);
+        let next = row.entered;
+        if !goes_on(row, m, state, &seen) {
             return false;
         }
         seen[state as usize] = true;
-        state = state_of(entered, k);
+        state = next;
         i += 1;
     }
     state == start
@@ -182,20 +159,12 @@ fn first_numbers(set: &[u32], first: usize, machines: u32) -> End
 }
 
 // What is judged where the entry that begins at `first` ends: whether its rows, up to `end`, are a quiet simple cycle of its machine.
-fn entry_ends<'a>(
-    machine: &'a [u8; 1024],
-    left: &'a [u8; 1024],
-    entered: &'a [u8; 1024],
-    progress: &'a [bool; 1024],
-    set: &[u32],
-    first: usize,
-    end: usize,
-) -> End
-    requires { ⌜ (first + 3 < end) × NumbersBelow 1024 (now set) (first + 3) end × (getD (now set) first 0 < 256) ⌝ }
-    ensures { λ r. ⌜ JudgedEnd (record { machine = now (machine .entry); left = now (left .entry); entered = now (entered .entry); progress = now (progress .entry) }) (now (set .entry)) first end r ⌝ }
+fn entry_ends(table: &[u8], set: &[u32], first: usize, end: usize) -> End
+    requires { ⌜ (first + 3 < end) × RowsThere (now table) (now set) (first + 3) end × (getD (now set) first 0 < 256) ⌝ }
+    ensures { λ r. ⌜ JudgedEnd (now (table .entry)) (now (set .entry)) first end r ⌝ }
 {
     let m = set[first] as u8;
-    if is_quiet_cycle(machine, left, entered, progress, set, first + 3, end, m) {
+    if is_quiet_cycle(table, set, first + 3, end, m) {
         return End::At(end);
     }
     End::Fault(Fault {
@@ -205,18 +174,9 @@ fn entry_ends<'a>(
 }
 
 // The entry that begins at `first`: its numbers, one by one, and what is judged where it ends.
-pub fn judge_entry<'a>(
-    machine: &'a [u8; 1024],
-    left: &'a [u8; 1024],
-    entered: &'a [u8; 1024],
-    progress: &'a [bool; 1024],
-    set: &[u32],
-    first: usize,
-    machines: u32,
-    rows: u32,
-) -> End
-    requires { ⌜ (first ≤ 2 ^ 32) × (machines ≤ 16) × (rows ≤ 1024) ⌝ }
-    ensures { λ r. ⌜ JudgedEntry (record { machine = now (machine .entry); left = now (left .entry); entered = now (entered .entry); progress = now (progress .entry) }) rows machines (now (set .entry)) first r ⌝ }
+pub fn judge_entry(table: &[u8], set: &[u32], first: usize, machines: u32, rows: u32) -> End
+    requires { ⌜ (first ≤ 2 ^ 32) × (machines ≤ 16) × RoomFor rows (now table) ⌝ }
+    ensures { λ r. ⌜ JudgedEntry (now (table .entry)) rows machines (now (set .entry)) first r ⌝ }
 {
     let numbers_read = first_numbers(set, first, machines);
     match numbers_read {
@@ -229,5 +189,5 @@ pub fn judge_entry<'a>(
         End::Fault(fault) => return End::Fault(fault),
         End::At(_) => {}
     }
-    entry_ends(machine, left, entered, progress, set, first, end)
+    entry_ends(table, set, first, end)
 }

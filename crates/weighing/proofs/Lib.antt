@@ -1,5 +1,4 @@
--- Laws of weighing: the machines of a decoded table, the checks, what is owed, and demand 3 from the side of the answer.
+-- Laws of the edge list, the rounds, the search and the figures.
 pub mod BasicExamples
-pub mod MachineLaws
 pub mod WeighingLaws
 pub mod PassedLaws

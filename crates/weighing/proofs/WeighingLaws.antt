@@ -11,8 +11,8 @@ use lib.ListN.{length, getD, take, drop, drop-of-length-le, length-map}
 use lib.Seq.{drop-cons}
 use lib.Dec.{eqb, ltb}
 use borrow.Author.Tests.{eq-eqb, ne-eqb, lt-ltb, le-ltb, eqb-true, ltb-false}
-use Rattle.livelock.specs.Lists.{below, sum, greatest}
-use Rattle.livelock.specs.Plants.{Plant, machineCount, WellFormed}
+use Rattle.livelock.specs.Lists.{sum}
+use Rattle.livelock.specs.Plants.{Plant, machineCount, stateCount, WellFormed}
 use Rattle.livelock.specs.Weights.{Passes, FailingCycle}
 use Rattle.livelock.specs.Figures.{base, mostStates, perProgress}
 use Rattle.livelock.proofs.SumLaws.{greatest-below}
@@ -26,18 +26,19 @@ use Rattle.decoding.specs.Tables.{plantOf, Ready}
 use Rattle.plant.specs.Steps.{endFound}
 use Rattle.plant.specs.Limits.{WithinLimits}
 use Rattle.plant.specs.declared.End.{End}
-use Rattle.decoding.specs.declared.PlantTable.{PlantTable}
+use Rattle.decoding.specs.declared.Shape.{Shape}
+use Rattle.tables.specs.Tables.{RoomFor}
 use Rattle.plant.proofs.FileBounds.{within-limits}
 use Rattle.plant.proofs.OneToOne.{same-fault}
-use Rattle.decoding.proofs.TableLaws.{machines-counted}
+use Rattle.decoding.proofs.TableLaws.{machines-counted, states-at}
 use Rattle.weighing.specs.Answers.{Answer, passed, cycle, refused, answerOf, HasFigures, Judgement, judgementOf}
 use Rattle.weighing.specs.Answers as Answers
 use Rattle.weighing.specs.Weighing.{firstAbove, checkedSizes, checkedWeights, judgedWeights, checkedRoom, checked, judged}
 use Rattle.weighing.specs.Weighing.{OnPassing, OnFailing, Owed, for-fault, for-plant, OnPassingVerdict, OwedVerdict, verdict-for-fault, verdict-for-plant}
-use Rattle.machines.specs.Machines.{Machines, graphOf, PassingRows, FailingRows, FirstFailing}
-use Rattle.machines.proofs.TurnLaws.{turn-edges}
-use Rattle.weighing.specs.Inner.Checks.{WeightsChecked, RoomChecked, Weighable, Lent, Shows}
-use Rattle.edges.specs.Edges.{Columns, columnsOf, Edges, Listed}
+use Rattle.machines.specs.Machines.{Weighable, graphOf, FirstFailing}
+use Rattle.machines.proofs.TurnLaws.{machines-are, states-in, turn-edges}
+use Rattle.weighing.specs.Inner.Checks.{WeightsChecked, RoomChecked, Shows}
+use Rattle.edges.specs.Edges.{Edges, Listed}
 use Rattle.figures.specs.FigureSums.{FiguresOf}
 use Rattle.deciding.specs.Rounds.{EdgesIn, AllBelowZero, SomeZeroOrMore, Decided}
 use Rattle.searching.specs.Searches.{ShownRows}
@@ -46,9 +47,9 @@ use Rattle.weighing.specs.declared.Weighed.{Weighed}
 use Rattle.weighing.specs.declared.Weighed.the-variants as Variants
 use Rattle.weighing.specs.declared.Verdict.{Verdict}
 use Rattle.weighing.specs.declared.Verdict.the-variants as Verdicts
-use Rattle.figures.proofs.FigureLaws.{states-limit, greatest-limit}
+use Rattle.figures.proofs.FigureLaws.{states-limit, most-limit}
 use Rattle.edges.proofs.ListedLaws.{edges-in}
-use Rattle.weighing.proofs.MachineLaws.{rows-between, machine-passes, machine-fails}
+use Rattle.machines.proofs.MachineLaws.{machine-passes, machine-fails}
 
 -- ---- the first number above a limit
 
@@ -68,111 +69,78 @@ module _ (limit : ℕ) (ws : List ℕ) (i x : ℕ) (rest : i + firstAbove limit 
   unfolding firstAbove
   above-ends b = omega (arith, rw (drop-of-length-le ws b) at rest)
 
--- ---- the machine that fails
-
--- Where machine m fails, there is a cycle for the search to find.
-search-begins : (c : Columns) (first states ws : List ℕ) → Machines c first states → (m : ℕ) (e : Edges) → FirstFailing c first states ws m e → m < length states
-    → ((i : ℕ) → getD ws i 0 ≤ 65535) → (s : ℕ) → s ≡ getD states m 0 → EdgesIn s (e .count) (e .from) (e .to) (e .weight) × SomeZeroOrMore (graphOf e)
-search-begins c first states ws given m e failing within light s s-is =
-    let x = failing .fails within in
-    (turn-edges c first states ws given m within _ _ refl refl e (x .listed) light s s-is, x .zero-or-more)
-
 -- ---- the machines of a table
 
-module _ (t : PlantTable) (ws : List ℕ) (ok : Weighable t ws) where
-  -- The machines of the table are the plant's.
-  pub machines-are : machineCount (plantOf t) ≡ t .machines
-  machines-are = machines-counted t (ok .ready .sound)
+module _ (s : Shape) (table ws : List ℕ) (ok : Weighable s table ws) where
+  -- The verdict with the figures f: it is owed where the weights pass, and the bound holds.
+  module _ (f : Figures) (figures : FiguresOf (take (s .machines) (s .states)) ws f) where
+    -- They are the plant's: n,
+    pub most-is : f .«most_states» ≡ mostStates (plantOf s table)
+    most-is = figures (plantOf s table) refl (sym (ok .one-each)) .1
 
-  -- What weighing the machines asks of the columns.
-  pub machines-good : Machines (columnsOf t) (t .first) (take (t .machines) (t .states))
-  machines-good =
-      record {
-        few = ok .limits .few-machines;
-        some-state = λ m l. states-limit (plantOf t) (ok .limits) m l .0;
-        few-states = λ m l. states-limit (plantOf t) (ok .limits) m l .1;
-        rows = λ m l. rows-between t (ok .ready) (ok .limits) m (omega (arith, machines-are));
-      }
+    -- and all three,
+    figures-are : Answers.passing (f .base) (f .«most_states») (f .«per_progress») ≡ Answers.passing (base (plantOf s table) ws) (mostStates (plantOf s table)) (perProgress (plantOf s table) ws)
+    figures-are = let x = figures (plantOf s table) refl (sym (ok .one-each)) in rw (x .0, x .1, x .2)
 
-  module _ (c : Columns) (first states : List ℕ) (lent : Lent t c first states) where
-    -- A count of states is lent for each machine.
-    one-count-each : length states ≡ t .machines
-    one-count-each = sym (ap length (lent .counts)) ∙ machines-are
+    -- and so the verdict is owed.
+    pub passing-verdict : Passes (plantOf s table) ws → (end : ℕ) → OwedVerdict ws (Answers.passing (f .base) (f .«most_states») (f .«per_progress»)) (found (plantOf s table) end)
+    passing-verdict p end =
+        verdict-for-plant
+        (λ q. record { figures = figures-are; bounded = ceiling (plantOf s table) (ok .limits .formed) ws p })
+        (λ q. absurd (q p))
 
-    -- The verdict with the figures f: it is owed where the weights pass, and the bound holds.
-    module _ (f : Figures) (figures : FiguresOf states ws f) (p : Passes (plantOf t) ws) where
-      -- They are the plant's,
-      figures-are : Answers.passing (f .base) (f .«most_states») (f .«per_progress») ≡ Answers.passing (base (plantOf t) ws) (mostStates (plantOf t)) (perProgress (plantOf t) ws)
-      figures-are = let x = figures (plantOf t) (lent .counts) (sym (ok .one-each)) in rw (x .0, x .1, x .2)
+  -- Machine m is the first that fails, and e are its edges.
+  module _ (m : ℕ) (e : Edges) (failing : FirstFailing s table ws m e) where
+    -- Where there is none, the weights pass.
+    pub none-fails : s .machines ≤ m → Passes (plantOf s table) ws
+    none-fails h k rows c q =
+        let within : k < s .machines = omega (arith, cycle-machine (plantOf s table) (ok .limits .formed) k rows c, machines-are s table ws ok) in
+        let p = failing .before k (omega arith) in
+        machine-passes s table (ok .ready) (ok .limits) ws k within (p .edges) (p .listed) (p .below-zero) rows c q
 
-      -- and so the verdict is owed.
-      pub passing-verdict : (end : ℕ) → OwedVerdict ws (Answers.passing (f .base) (f .«most_states») (f .«per_progress»)) (found (plantOf t) end)
-      passing-verdict end =
-          verdict-for-plant
-          (λ q. record { figures = figures-are; bounded = ceiling (plantOf t) (ok .limits .formed) ws p })
-          (λ q. absurd (q p))
+    module _ (within : m < s .machines) where
+      -- Else the rows of a cycle of the edges that is zero or more are a failing cycle,
+      failing-rows : (es : List ℕ) → Cycle (graphOf e) es → sum (graphOf e .minus) es ≤ sum (graphOf e .plus) es → FailingCycle (plantOf s table) ws (map (λ i. getD (e .row) i 0) es)
+      failing-rows es simple weighs =
+          let f = machine-fails s table (ok .ready) (ok .limits) ws m within e (failing .fails within .listed) es simple weighs in
+          record { machine = m; simple = f .0; quiet = f .1; weighs = f .2 }
 
-    -- Machine m is the first that fails, and e are its edges.
-    module _ (m : ℕ) (e : Edges) (failing : FirstFailing c first states ws m e) where
-      -- So it is in the table.
-      in-table : FirstFailing (columnsOf t) (t .first) (take (t .machines) (t .states)) ws m e
-      in-table =
-          subst (λ (x : Columns). FirstFailing x (t .first) (take (t .machines) (t .states)) ws m e) (sym (lent .columns))
-          (subst (λ (x : List ℕ). FirstFailing c x (take (t .machines) (t .states)) ws m e) (sym (lent .first-rows))
-          (subst (λ (x : List ℕ). FirstFailing c first x ws m e) (sym (lent .counts)) failing))
+      -- so the weights do not pass,
+      one-fails : Passes (plantOf s table) ws → ⊥
+      one-fails p = let x = failing .fails within .zero-or-more in not-both (plantOf s table) ws _ p (failing-rows (x .0) (x .1) (x .2))
 
-      -- Where there is none, the weights pass.
-      pub none-fails : length states ≤ m → Passes (plantOf t) ws
-      none-fails h k rows s q =
-          let within : k < t .machines = omega (arith, cycle-machine (plantOf t) (ok .limits .formed) k rows s, machines-are) in
-          let p = in-table .before k (omega (arith, one-count-each)) in
-          machine-passes t (ok .ready) (ok .limits) ws k within (p .edges) (p .listed) (p .below-zero) rows s q
+      -- the verdict that they fail is owed,
+      pub failing-verdict : (end : ℕ) → OwedVerdict ws Answers.failing (found (plantOf s table) end)
+      failing-verdict end = verdict-for-plant (λ p. absurd (one-fails p)) (λ q. refl)
 
-      module _ (within : m < length states) where
-        of-plant : m < machineCount (plantOf t)
-        of-plant = omega (arith, one-count-each, machines-are)
+      -- and the cycle that is shown is owed.
+      failing-owed : (n : ℕ) → n ≡ getD (s .states) m 0 → (k : ℕ) (before after : List ℕ) → ShownRows (graphOf e) n (e .row) k before after
+          → (end : ℕ) → Owed ws before after (cycle k) (found (plantOf s table) end)
+      failing-owed n n-is k before after x end =
+          let w = x .written in
+          let rows : List ℕ = map (λ i. getD (e .row) i 0) (w .cycle) in
+          let long : length rows ≡ k = length-map (w .cycle) (λ i. getD (e .row) i 0) ∙ w .long in
+          for-plant
+          (λ p. absurd (one-fails p))
+          (λ q.
+          record {
+            rows = rows;
+            fails = failing-rows (w .cycle) (w .simple) (w .weighs);
+            few = omega (arith, long, x .few, n-is, states-at s table m within, states-in s table ws ok m within .1);
+            count = ap cycle (sym long);
+            shown = subst (λ (i : ℕ). after ≡ rows ++ drop i before) (sym long) (w .shown);
+          })
 
-        fails : FailingRows (columnsOf t) ws (getD (t .first) m 0) (getD (t .first) (m + 1) 0) e
-        fails = in-table .fails of-plant
-
-        -- Else the rows of a cycle of the edges that is zero or more are a failing cycle,
-        failing-rows : (es : List ℕ) → Cycle (graphOf e) es → sum (graphOf e .minus) es ≤ sum (graphOf e .plus) es → FailingCycle (plantOf t) ws (map (λ i. getD (e .row) i 0) es)
-        failing-rows es simple weighs =
-            let f = machine-fails t (ok .ready) (ok .limits) ws m (omega (arith, one-count-each)) e (fails .listed) es simple weighs in
-            record { machine = m; simple = f .0; quiet = f .1; weighs = f .2 }
-
-        -- so the weights do not pass,
-        one-fails : Passes (plantOf t) ws → ⊥
-        one-fails p = let x = fails .zero-or-more in not-both (plantOf t) ws _ p (failing-rows (x .0) (x .1) (x .2))
-
-        -- the verdict that they fail is owed,
-        pub failing-verdict : (end : ℕ) → OwedVerdict ws Answers.failing (found (plantOf t) end)
-        failing-verdict end = verdict-for-plant (λ p. absurd (one-fails p)) (λ q. refl)
-
-        -- and the cycle that is shown is owed.
-        failing-owed : (s : ℕ) → s ≡ getD states m 0 → (k : ℕ) (before after : List ℕ) → ShownRows (graphOf e) s (e .row) k before after
-            → (end : ℕ) → Owed ws before after (cycle k) (found (plantOf t) end)
-        failing-owed s s-is k before after x end =
-            let w = x .written in
-            let rows : List ℕ = map (λ i. getD (e .row) i 0) (w .cycle) in
-            let long : length rows ≡ k = length-map (w .cycle) (λ i. getD (e .row) i 0) ∙ w .long in
-            for-plant
-            (λ p. absurd (one-fails p))
-            (λ q.
-            record {
-              rows = rows;
-              fails = failing-rows (w .cycle) (w .simple) (w .weighs);
-              few = omega (arith, long, x .few, s-is, ap (λ (l : List ℕ). getD l m 0) (lent .counts), states-limit (plantOf t) (ok .limits) m of-plant .1);
-              count = ap cycle (sym long);
-              shown = subst (λ (i : ℕ). after ≡ rows ++ drop i before) (sym long) (w .shown);
-            })
-
-        -- So the search can begin with the edges.
-        pub failing-shows : Machines c first states → ((i : ℕ) → getD ws i 0 ≤ 65535) → (s : ℕ) → s ≡ getD states m 0
-            → (end : ℕ) → Shows ws (e .from) (e .to) (e .weight) (e .row) (e .count) s (found (plantOf t) end)
-        failing-shows given light s s-is end =
-            let begins = search-begins c first states ws given m e failing within light s s-is in
-            record { edges-in = begins .0; zero-or-more = begins .1; owed = λ k before after x. failing-owed s s-is k before after x end }
+      -- So the search can begin with the edges.
+      pub failing-shows : ((i : ℕ) → getD ws i 0 ≤ 65535) → (n : ℕ) → n ≡ getD (s .states) m 0
+          → (end : ℕ) → Shows ws (e .from) (e .to) (e .weight) (e .row) (e .count) n (found (plantOf s table) end)
+      failing-shows light n n-is end =
+          let x = failing .fails within in
+          record {
+            edges-in = turn-edges s table ws ok m within _ _ refl refl e (x .listed) light n n-is;
+            zero-or-more = x .zero-or-more;
+            owed = λ k before after y. failing-owed n n-is k before after y end;
+          }
 
 -- ---- the checks
 
@@ -250,13 +218,13 @@ pub judged-plant : (file ws : List ℕ) (room : ℕ) (P : Plant) (end : ℕ) →
 judged-plant file ws room P end e = rw e
 
 -- A table that reading the file gave, where it ended, and where the checks of the weights and of the lent list ended: so it is judged.
-pub checks-judged : {t : PlantTable} → Ready t → (file ws : List ℕ) (read : End) → endFound read (plantOf t) ≡ readPlant file
+pub checks-judged : {t : Shape} {table : List ℕ} → Ready t table → (file ws : List ℕ) (read : End) → endFound read (plantOf t table) ≡ readPlant file
     → (weighed : End) (types : ℕ) → WeightsChecked types ws read weighed → t .types ≡ types
-    → (room : ℕ) (end : End) → RoomChecked room weighed end → (told-end : End) → end ≡ told-end → endFound told-end (plantOf t) ≡ judged file ws room
-checks-judged {t} ready file ws read reads weighed types weights types-are room end in-room told-end e =
-    ap (λ (x : End). endFound x (plantOf t)) (sym e)
-    ∙ in-room (plantOf t)
-    ∙ ap (λ (x : Found Plant). andThen x (checkedRoom room)) (weights (plantOf t) types-are ∙ ap (λ (x : Found Plant). andThen x (checkedWeights ws)) reads)
+    → (room : ℕ) (end : End) → RoomChecked room weighed end → (told-end : End) → end ≡ told-end → endFound told-end (plantOf t table) ≡ judged file ws room
+checks-judged {t} {table} ready file ws read reads weighed types weights types-are room end in-room told-end e =
+    ap (λ (x : End). endFound x (plantOf t table)) (sym e)
+    ∙ in-room (plantOf t table)
+    ∙ ap (λ (x : Found Plant). andThen x (checkedRoom room)) (weights (plantOf t table) types-are ∙ ap (λ (x : Found Plant). andThen x (checkedWeights ws)) reads)
     ∙ judged-room file ws room
 
 -- ---- what the answer says
@@ -352,7 +320,7 @@ judged-good file ws room P end e =
     (subst (λ (z : Plant). WithinLimits z × Good ws z z) (y .0) (judged-weights file ws (x .0) (x .1) (x .2)), y .1)
 
 -- So the table that holds it can be weighed.
-pub judged-weighable : {t : PlantTable} → Ready t → (file ws : List ℕ) (room end : ℕ) → found (plantOf t) end ≡ judged file ws room → Weighable t ws
+pub judged-weighable : {s : Shape} {table : List ℕ} → Ready s table → (file ws : List ℕ) (room end : ℕ) → found (plantOf s table) end ≡ judged file ws room → Weighable s table ws
 judged-weighable ready file ws room end e =
     let good = judged-good file ws room _ end (sym e) .0 in
     record { ready = ready; limits = good .0; one-each = good .1 .one-each }

@@ -1,12 +1,16 @@
 // Weighing a plant.
-ghost use Prim.Native.Nat.{_≤_};
+ghost use Prim.Native.Nat.{_≤_, min};
 ghost use mathlib.Core.Path.{_≡_};
 ghost use lib.ListN.{length};
 ghost use Rattle.weighing.specs.Answers.{answerOf, judgementOf};
 ghost use Rattle.weighing.specs.Weighing.{firstAbove, judgedWeights, judged, Owed, OwedVerdict};
+ghost use Rattle.livelock.specs.Figures.{mostStates};
+ghost use Rattle.tables.specs.Tables.{RoomFor};
+ghost use Rattle.decoding.specs.Tables.{plantOf};
 ghost use Rattle.edges.specs.Edges.{Room};
-ghost use Rattle.machines.specs.Machines.{Machines};
+ghost use Rattle.machines.specs.Machines.{Weighable};
 ghost use Rattle.weighing.specs.Inner.Checks.{WeightsChecked, RoomChecked, OwedJudged, JudgedFor};
+use decoding::Shape;
 use plant::End;
 use plant::Fault;
 
@@ -107,47 +111,39 @@ fn check_room(end: End, room: usize) -> End
     }
 }
 
-// Decides whether the weights pass the machines of lent columns. Where they do not, the edges of the first machine that fails stay in the lists.
-fn judge_columns(
-    left: &[u8; 1024],
-    entered: &[u8; 1024],
-    sent: &[u8; 1024],
-    taken: &[u8; 1024],
-    progress: &[bool; 1024],
-    first: &[u16; 17],
-    states: &[u8],
+// Decides whether the weights pass the machines of a table. Where they do not, the edges of the first machine that fails stay in the lists.
+fn judge_table(
+    table: &[u8],
+    shape: Shape,
     weights: &[u16],
     from: &mut [u8; 256],
     to: &mut [u8; 256],
     weight: &mut [i64; 256],
     row: &mut [u16; 256],
 ) -> Judged
-    requires { ⌜ Machines (record { left = now left; entered = now entered; sent = now sent; taken = now taken; progress = now progress }) (now first) (now states) × (1 ≤ length (now states)) × Room (now from) (now to) (now weight) (now row) ⌝ }
-    ensures { λ r. ⌜ JudgedFor (record { left = now (left .entry); entered = now (entered .entry); sent = now (sent .entry); taken = now (taken .entry); progress = now (progress .entry) }) (now (first .entry)) (now (states .entry)) (now (weights .entry)) (now (from .exit)) (now (to .exit)) (now (weight .exit)) (now (row .exit)) r ⌝ }
+    requires { ⌜ Weighable shape (now table) (now weights) × Room (now from) (now to) (now weight) (now row) ⌝ }
+    ensures { λ r. ⌜ JudgedFor shape (now (table .entry)) (now (weights .entry)) (now (from .exit)) (now (to .exit)) (now (weight .exit)) (now (row .exit)) r ⌝ }
 {
+    let states = shape.states;
+    let figures = figures::figures_of(&states[..shape.machines], weights);
     let failing = machines::first_failing(
-        left,
-        entered,
-        sent,
-        taken,
-        progress,
-        first,
-        states,
+        table,
+        shape,
         weights,
+        figures.most_states,
         from,
         to,
         weight,
         row,
     );
     let m = failing.machine;
-    if m < states.len() {
+    if m < shape.machines {
         return Judged {
             verdict: Verdict::Fails,
             count: failing.count,
             states: casts::index_u8(states[m]),
         };
     }
-    let figures = figures::figures_of(states, weights);
     let verdict = Verdict::Passes {
         base: figures.base,
         most_states: figures.most_states,
@@ -156,7 +152,31 @@ fn judge_columns(
     without_edges(verdict)
 }
 
-// Reads a file, makes the checks 9 to 11 and decides. The columns are locals of this function, and lent.
+// Reads a file into a lent table, makes the checks 9 to 11 and decides.
+fn judge_in(
+    file: &[u8],
+    weights: &[u16],
+    room: usize,
+    table: &mut [u8],
+    from: &mut [u8; 256],
+    to: &mut [u8; 256],
+    weight: &mut [i64; 256],
+    row: &mut [u16; 256],
+) -> Judged
+    requires { ⌜ RoomFor (min 1024 (length (now file))) (now table) × Room (now from) (now to) (now weight) (now row) ⌝ }
+    ensures { λ r. ⌜ OwedJudged (now (weights .entry)) (now (from .exit)) (now (to .exit)) (now (weight .exit)) (now (row .exit)) r (judged (now (file .entry)) (now (weights .entry)) room) ⌝ }
+{
+    let decoded = decoding::decode(file, table);
+    let read = decoded.end;
+    let shape = decoded.shape;
+    let end = check_room(check_weights(read, shape.types as usize, weights), room);
+    match end {
+        End::Fault(fault) => without_edges(Verdict::Refused(fault)),
+        End::At(_) => judge_table(table, shape, weights, from, to, weight, row),
+    }
+}
+
+// The same with a table of its own: a short file needs a short one, and clearing 8,192 bytes would be half of its time.
 fn judge_file(
     file: &[u8],
     weights: &[u16],
@@ -169,44 +189,12 @@ fn judge_file(
     requires { ⌜ Room (now from) (now to) (now weight) (now row) ⌝ }
     ensures { λ r. ⌜ OwedJudged (now (weights .entry)) (now (from .exit)) (now (to .exit)) (now (weight .exit)) (now (row .exit)) r (judged (now (file .entry)) (now (weights .entry)) room) ⌝ }
 {
-    let mut states = [0; 16];
-    let mut first = [0; 17];
-    let mut machine = [0; 1024];
-    let mut left = [0; 1024];
-    let mut entered = [0; 1024];
-    let mut sent = [0; 1024];
-    let mut taken = [0; 1024];
-    let mut progress = [false; 1024];
-    let filled = decoding::decode_columns(
-        file,
-        &mut states,
-        &mut first,
-        &mut machine,
-        &mut left,
-        &mut entered,
-        &mut sent,
-        &mut taken,
-        &mut progress,
-    );
-    let read = filled.end;
-    let end = check_room(check_weights(read, filled.types as usize, weights), room);
-    match end {
-        End::Fault(fault) => without_edges(Verdict::Refused(fault)),
-        End::At(_) => judge_columns(
-            &left,
-            &entered,
-            &sent,
-            &taken,
-            &progress,
-            &first,
-            &states[..filled.machines],
-            weights,
-            from,
-            to,
-            weight,
-            row,
-        ),
+    if file.len() <= 64 {
+        let mut table = [0; 512];
+        return judge_in(file, weights, room, &mut table, from, to, weight, row);
     }
+    let mut table = [0; 8192];
+    judge_in(file, weights, room, &mut table, from, to, weight, row)
 }
 
 // Weighs the plant of a file: demands 2 and 3.

@@ -1,68 +1,34 @@
--- `confirm` meets its contract: faults of the file and of the list are handed on, and otherwise the sums are looked through.
-use mathlib.Core.Path.{_∙_}
-use native.Mathlib.Omega.{arith}
-use Rattle.decoding.specs.Tables.{plantOf}
-use Rattle.plant.specs.Steps.{endFound}
-use Rattle.plant.proofs.Told.{told}
-use Rattle.plant.proofs.FileBounds.{within-limits}
-use Rattle.cycle_sets.proofs.ConfirmingLaws.{answered, file-refused, set-refused, sums-answer}
+-- `confirm` meets its contract: the answer that is owed is "confirmed" for a balanced set, and for no other.
 use borrow.Author.Needs.{needs}
+use Rattle.cycle_sets.proofs.ConfirmingLaws.{answered}
 use Rattle.cycle_sets.proofs.confirm.Statement.{statement}
 use Rattle.cycle_sets.proofs.confirm.Tie as tie
 
-decode-requires : tie.Need-decode-requires
-decode-requires c κs = search needs
+slice-aggregate-confirm-in : tie.Need-slice-aggregate-confirm-in
+slice-aggregate-confirm-in c = search needs
 
-cast-types : tie.Need-cast-types
-cast-types c = record { fits = omega (arith, c .before .before .decode .ensures .1 .sound .few-types) }
-
-enum-known-end : tie.Need-enum-known-end
-enum-known-end c = search needs
-
-enum-told : tie.Need-enum-told
-enum-told c = search needs
-
-judge-set-requires : tie.Need-judge-set-requires
-judge-set-requires c κs = (c .before .before .before .before .decode .ensures .1, within-limits (c .before .before .before .before .before .before .before .args .file .now) _ _ (told (λ e. endFound e (plantOf (c .before .before .before .before .decode .result .table))) (c .before .before .before .before .decode .ensures .0) (c .enum-told .given .1)))
-
-enum-known-last : tie.Need-enum-known-last
-enum-known-last c = search needs
-
-enum-told-2 : tie.Need-enum-told-2
-enum-told-2 c = search needs
-
-lowest-negative-requires : tie.Need-lowest-negative-requires
-lowest-negative-requires c κs = omega (arith, c .before .before .before .before .before .before .before .before .before .decode .ensures .1 .sound .few-types)
+confirm-in-requires : tie.Need-confirm-in-requires
+confirm-in-requires c κs = search needs
 
 returns : tie.Need-returns
-returns c =
-    let a = c .before .before .before .before .before .before .before .before .args in
-    answered (a .file .now) (a .set .now) _ (file-refused (a .file .now) (a .set .now) _ _ (told (λ e. endFound e (plantOf (c .before .before .before .before .before .decode .result .table))) (c .before .before .before .before .before .decode .ensures .0) (c .before .end .given .1)))
+returns c = answered (c .before .before .before .before .before .before .args .file .now) (c .before .before .before .before .before .before .args .set .now) _ (c .before .confirm-in .ensures)
+
+slice-aggregate-confirm-in-2 : tie.Need-slice-aggregate-confirm-in-2
+slice-aggregate-confirm-in-2 c = search needs
+
+confirm-in-requires-2 : tie.Need-confirm-in-requires-2
+confirm-in-requires-2 c κs = search needs
 
 returns-2 : tie.Need-returns-2
-returns-2 c =
-    let a = c .before .before .before .before .before .before .before .before .before .before .before .before .args in
-    answered (a .file .now) (a .set .now) _ (set-refused (a .file .now) (a .set .now) _ _ (told (λ e. endFound e (plantOf (c .before .before .before .before .before .before .before .before .before .decode .result .table))) (c .before .before .before .before .before .before .before .before .before .decode .ensures .0) (c .before .before .before .before .before .enum-told .given .1)) (c .before .before .before .before .judge-set .result .sums) _ (c .before .before .before .before .judge-set .ensures) _ (c .before .last .given .1))
-
-returns-3 : tie.Need-returns-3
-returns-3 c =
-    let a = c .before .before .before .before .before .before .before .before .before .before .before .before .before .args in
-    answered (a .file .now) (a .set .now) _
-    (c .lowest-negative .ensures
-    ∙ sums-answer (a .file .now) (a .set .now) _ _ (told (λ e. endFound e (plantOf (c .before .before .before .before .before .before .before .before .before .before .decode .result .table))) (c .before .before .before .before .before .before .before .before .before .before .decode .ensures .0) (c .before .before .before .before .before .before .enum-told .given .1)) (c .before .before .before .before .before .judge-set .result .sums) _ (c .before .before .before .before .before .judge-set .ensures) _ (c .before .before .enum-told2 .given .1))
+returns-2 c = answered (c .before .before .before .before .before .before .args .file .now) (c .before .before .before .before .before .before .args .set .now) _ (c .before .confirm-in2 .ensures)
 
 pub confirm-spec : {M : Type 1} → statement M
 confirm-spec =
     tie.close
     (tie.spec
-    decode-requires
-    cast-types
-    enum-known-end
-    enum-told
-    judge-set-requires
-    enum-known-last
-    enum-told-2
-    lowest-negative-requires
+    slice-aggregate-confirm-in
+    confirm-in-requires
     returns
-    returns-2
-    returns-3)
+    slice-aggregate-confirm-in-2
+    confirm-in-requires-2
+    returns-2)

@@ -1,6 +1,7 @@
 -- What the private functions of confirming ask and give.
 use mathlib.Core.Path.{_≡_}
 use mathlib.Core.Bool.{cond}
+use mathlib.Core.Option.{Option}
 use mathlib.Core.List.{List}
 use Prim.Native.Nat.{ℕ, _+_, _-_, _*_, _≤_}
 use lib.Dec.{ltb}
@@ -8,13 +9,13 @@ use lib.ListN as Cells
 use lib.ListN.{length, getD}
 use lib.IntN.{ℤ, pos, natAbs, _+ℤ_}
 use Rattle.livelock.specs.Lists.{count}
-use Rattle.livelock.specs.Plants.{Plant}
+use Rattle.livelock.specs.Plants.{Row, Plant}
 use Rattle.livelock.specs.Cycles.{isOfType}
 use Rattle.livelock.specs.CycleSets.{Entry, setEffect}
 use Rattle.livelock.proofs.Differences.{Difference}
 use Rattle.plant.specs.Found.{Found, found}
 use Rattle.plant.specs.Steps.{faultFound}
-use Rattle.plant.specs.Steps.{typeOf}
+use Rattle.tables.specs.Tables.{rowIn}
 use Rattle.plant.specs.declared.End.{End}
 use Rattle.plant.specs.declared.End.the-variants as Ends
 
@@ -26,15 +27,15 @@ raised sums x z = cond (ltb x 64) (Cells.set sums x (getD sums x (pos 0) +ℤ z)
 abbrev pub Within : ℕ → List ℤ → Type 0
 Within x sums = (i : ℕ) → natAbs (getD sums i (pos 0)) ≤ x
 
--- How many of the rows have type t in a column.
-abbrev pub having : List ℕ → ℕ → List ℕ → ℕ
-having column t rows = count (λ k. isOfType (typeOf (getD column k 0)) t) rows
+-- How many of the rows of a table have type t in a field.
+abbrev pub having : (Row → Option ℕ) → List ℕ → ℕ → List ℕ → ℕ
+having field table t rows = count (λ k. isOfType (field (rowIn table k)) t) rows
 
 -- To the sum of each type the rows add what they send and take from it what they take, so many times; a row changes no sum by more than 2,000,000.
-pub record Added (sent taken : List ℕ) (repeats : ℕ) (rows : List ℕ) (before after : List ℤ) : Type 0 where
+pub record Added (table : List ℕ) (repeats : ℕ) (rows : List ℕ) (before after : List ℤ) : Type 0 where
   pub room : length after ≡ 64
   pub sums : (t a b : ℕ) → Difference (getD before t (pos 0)) a b
-      → Difference (getD after t (pos 0)) (a + repeats * having sent t rows) (b + repeats * having taken t rows)
+      → Difference (getD after t (pos 0)) (a + repeats * having (λ r. r .sent) table t rows) (b + repeats * having (λ r. r .taken) table t rows)
   pub within : (x : ℕ) → Within x before → Within (x + length rows * 2000000) after
 
 -- The sums are those of the entries.

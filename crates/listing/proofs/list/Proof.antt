@@ -1,60 +1,42 @@
--- `list` meets its contract: a fault of the file is handed on, and the table of a file that reads is checked and the machine listed.
+-- `list` meets its contract: what answers the file owes no more.
 use borrow.Author.Needs.{needs}
-use mathlib.Core.Path.{refl}
-use Rattle.decoding.specs.Tables.{plantOf}
-use Rattle.plant.specs.Steps.{endFound}
-use Rattle.plant.proofs.Told.{told}
-use Rattle.plant.proofs.FileBounds.{within-limits}
-use Rattle.listing.specs.declared.Listed.the-variants as Variants
 use Rattle.listing.proofs.AnswerLaws.{owed}
 use Rattle.listing.proofs.list.Statement.{statement}
 use Rattle.listing.proofs.list.Tie as tie
 
-decode-requires : tie.Need-decode-requires
-decode-requires c κs = search needs
+slice-aggregate-list-in : tie.Need-slice-aggregate-list-in
+slice-aggregate-list-in c = search needs
 
-enum-known-end : tie.Need-enum-known-end
-enum-known-end c = search needs
-
-enum-told : tie.Need-enum-told
-enum-told c = search needs
-
-list-checked-requires : tie.Need-list-checked-requires
-list-checked-requires c κs =
-    let b = c .before .before .before .before .before .before .before in
-    let file = b .args .file .now in
-    let d = c .before .before .before .before .decode in
-    let read = told (λ e. endFound e (plantOf (d .result .table))) (d .ensures .0) (c .before .enum-told .given .1) in
-    (d .ensures .1, within-limits file _ _ read)
-
-returns : tie.Need-returns
-returns c =
-    let b = c .before .before .before .before .before .before .before in
-    let file = b .args .file .now in
-    let d = c .before .before .before .before .decode in
-    let read = told (λ e. endFound e (plantOf (d .result .table))) (d .ensures .0) (c .before .end .given .1) in
-    let before = b .args .out .now in
-    owed file (b .args .machine) before before (Variants.Refused (c .before .end .given .0 .0)) _ read (record { answer = refl; list-after = refl })
+list-in-requires : tie.Need-list-in-requires
+list-in-requires c κs = search needs
 
 same-length : tie.Need-same-length
 same-length c = search needs
 
+returns : tie.Need-returns
+returns c = let a = c .before .before .before .before .before .before .before .before .before .args in owed (a .file .now) (a .machine) (a .out .now) _ _ (c .before .before .before .list-in .ensures)
+
+slice-aggregate-list-in-2 : tie.Need-slice-aggregate-list-in-2
+slice-aggregate-list-in-2 c = search needs
+
+list-in-requires-2 : tie.Need-list-in-requires-2
+list-in-requires-2 c κs = search needs
+
+same-length-2 : tie.Need-same-length-2
+same-length-2 c = search needs
+
 returns-2 : tie.Need-returns-2
-returns-2 c =
-    let b = c .before .before .before .before .before .before .before .before .before .before in
-    let file = b .args .file .now in
-    let d = c .before .before .before .before .before .before .before .decode in
-    let read = told (λ e. endFound e (plantOf (d .result .table))) (d .ensures .0) (c .before .before .before .before .enum-told .given .1) in
-    owed file (b .args .machine) (b .args .out .now) _ _ _ read (c .before .before .list-checked .ensures _)
+returns-2 c = let a = c .before .before .before .before .before .before .before .before .before .args in owed (a .file .now) (a .machine) (a .out .now) _ _ (c .before .before .before .list-in2 .ensures)
 
 pub list-spec : {M : Type 1} → statement M
 list-spec =
     tie.close
     (tie.spec
-    decode-requires
-    enum-known-end
-    enum-told
-    list-checked-requires
-    returns
+    slice-aggregate-list-in
+    list-in-requires
     same-length
+    returns
+    slice-aggregate-list-in-2
+    list-in-requires-2
+    same-length-2
     returns-2)

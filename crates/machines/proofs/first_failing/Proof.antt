@@ -11,89 +11,85 @@ use Rattle.machines.proofs.first_failing.Statement.{statement}
 use Rattle.machines.proofs.first_failing.Tie as tie
 
 abbrev Inv-loop : tie.InvT-loop
-Inv-loop left entered sent taken progress first states weights from₀ to₀ weight₀ row₀ n m₀ from to weight row m =
-    (m ≤ length states)
-    × ((j : ℕ) → j < m → PassingRows (record { left = left; entered = entered; sent = sent; taken = taken; progress = progress }) weights (getD first j 0) (getD first (j + 1) 0))
-    × Room from to weight row
+Inv-loop table weights n from₀ to₀ weight₀ row₀ shape m₀ from to weight row m =
+    (m ≤ shape .machines) × ((j : ℕ) → j < m → PassingRows table weights (getD (shape .first) j 0) (getD (shape .first) (j + 1) 0)) × Room from to weight row
 
 abbrev μ-loop : tie.MeasureT-loop
-μ-loop left entered sent taken progress first states weights from₀ to₀ weight₀ row₀ n m₀ from to weight row m = length states - m
-
-most-states-requires : tie.Need-most-states-requires Inv-loop μ-loop
-most-states-requires c κs = search needs
+μ-loop table weights n from₀ to₀ weight₀ row₀ shape m₀ from to weight row m = shape .machines - m
 
 loop-holds : tie.Need-loop-holds Inv-loop μ-loop
-loop-holds c = (search needs, λ j l. absurd (omega arith), c .before .before .before .pre .1)
+loop-holds c = (search needs, λ j l. absurd (omega arith), c .before .before .pre .2)
 
 mul-index-u16 : tie.Need-mul-index-u16 Inv-loop μ-loop
-mul-index-u16 c = record { fits = omega (arith, c .loop-test .taken, c .before .before .before .before .before .pre .0 .few) }
+mul-index-u16 c = record { fits = omega (arith, c .loop-test .taken, c .before .before .before .before .pre .0 .ready .sound .few-machines) }
 
 element-copy-out-index-u16 : tie.Need-element-copy-out-index-u16 Inv-loop μ-loop
-element-copy-out-index-u16 c = omega (arith, c .loop-test .taken, c .before .before .before .before .before .pre .0 .few)
+element-copy-out-index-u16 c = let few = c .before .before .before .before .pre .0 .ready .sound .few-machines in search needs
 
 index-u16-requires : tie.Need-index-u16-requires Inv-loop μ-loop
 index-u16-requires c κs = search needs
 
 add-index-u16 : tie.Need-add-index-u16 Inv-loop μ-loop
-add-index-u16 c = record { fits = omega (arith, c .before .before .loop-test .taken, c .before .before .before .before .before .before .before .pre .0 .few) }
+add-index-u16 c = record { fits = omega (arith, c .before .before .loop-test .taken, c .before .before .before .before .before .before .pre .0 .ready .sound .few-machines) }
 
 mul-index-u16-2 : tie.Need-mul-index-u16-2 Inv-loop μ-loop
-mul-index-u16-2 c = record { fits = omega (arith, c .before .before .loop-test .taken, c .before .before .before .before .before .before .before .pre .0 .few) }
+mul-index-u16-2 c = record { fits = omega (arith, c .before .before .loop-test .taken, c .before .before .before .before .before .before .pre .0 .ready .sound .few-machines) }
 
 element-copy-out-index-u16-2 : tie.Need-element-copy-out-index-u16-2 Inv-loop μ-loop
-element-copy-out-index-u16-2 c = omega (arith, c .before .before .loop-test .taken, c .before .before .before .before .before .before .before .pre .0 .few)
+element-copy-out-index-u16-2 c = let few = c .before .before .before .before .before .before .pre .0 .ready .sound .few-machines in search needs
 
 index-u16-requires-2 : tie.Need-index-u16-requires-2 Inv-loop μ-loop
 index-u16-requires-2 c κs = search needs
 
 edges-of-requires : tie.Need-edges-of-requires Inv-loop μ-loop
 edges-of-requires c κs =
-    let a = c .before .before .before .before .before .before .before .before .before .before .before .before .before .args in
-    let rows = turn-rows _ (a .first .now) (a .states .now) (a .weights .now) (c .before .before .before .before .before .before .before .before .before .before .before .before .before .pre .0) (c .before .before .before .before .before .before .before .before .before .loop .m) (c .before .before .before .before .before .before .before .before .loop-test .taken) _ _ (c .before .before .before .before .before .before .index-u16 .ensures) (c .before .before .before .before .index-u162 .ensures) in
-    (rows .0, rows .1, rows .2, c .before .before .before .before .before .before .before .before .before .loop .inv .2)
+    let l = c .before .before .before .before .before .before .before .before .before .loop in
+    let rows = turn-rows _ _ _ (c .before .before .before .before .before .before .before .before .before .before .before .before .pre .0) (l .m) (c .before .before .before .before .before .before .before .before .loop-test .taken) _ _ (c .before .before .before .before .before .before .index-u16 .ensures) (c .before .before .before .before .index-u162 .ensures) in
+    (rows .0, rows .1, rows .2, rows .3, l .inv .2)
 
-shared-slice-read-index-u8 : tie.Need-shared-slice-read-index-u8 Inv-loop μ-loop
-shared-slice-read-index-u8 c = c .before .before .before .before .before .before .before .before .before .before .before .before .before .loop-test .taken
+element-copy-out-index-u8 : tie.Need-element-copy-out-index-u8 Inv-loop μ-loop
+element-copy-out-index-u8 c = let few = c .before .before .before .before .before .before .before .before .before .before .before .before .before .before .before .before .pre .0 .ready .sound .few-machines in search needs
 
 index-u8-requires : tie.Need-index-u8-requires Inv-loop μ-loop
 index-u8-requires c κs = search needs
 
 decide-requires : tie.Need-decide-requires Inv-loop μ-loop
 decide-requires c κs =
-    let a = c .before .before .before .before .before .before .before .before .before .before .before .before .before .before .before .before .before .before .before .args in
-    let words = c .before .before .before .before .before .before .before .before .before .before .before .before .before .before .before .before .before .shared-slice-known2 .given in
-    let few = turn-states _ (a .first .now) (a .states .now) (c .before .before .before .before .before .before .before .before .before .before .before .before .before .before .before .before .before .before .before .pre .0) (c .before .before .before .before .before .before .before .before .before .before .before .before .before .before .before .loop .m) (c .before .before .before .before .before .before .before .before .before .before .before .before .before .before .loop-test .taken) _ _ (c .index-u8 .ensures) (c .before .before .before .before .before .before .before .before .before .before .before .before .before .before .before .before .most-states .ensures) in
-    (turn-edges _ (a .first .now) (a .states .now) (a .weights .now) (c .before .before .before .before .before .before .before .before .before .before .before .before .before .before .before .before .before .before .before .pre .0) (c .before .before .before .before .before .before .before .before .before .before .before .before .before .before .before .loop .m) (c .before .before .before .before .before .before .before .before .before .before .before .before .before .before .loop-test .taken) _ _ (c .before .before .before .before .before .before .before .before .before .before .before .before .index-u16 .ensures) (c .before .before .before .before .before .before .before .before .before .before .index-u162 .ensures) _ (c .before .before .before .before .before .edges-of .ensures) (λ i. omega (arith, words i .fits)) _ (c .index-u8 .ensures), few .0, few .1)
+    let p = c .before .before .before .before .before .before .before .before .before .before .before .before .before .before .before .before .before .before .pre in
+    let l = c .before .before .before .before .before .before .before .before .before .before .before .before .before .before .before .loop in
+    let words = c .before .before .before .before .before .before .before .before .before .before .before .before .before .before .before .before .shared-slice-known2 .given in
+    let more = c .before .before .before .before .before .before .before .before .before .before .before .before .before .before .loop-test .taken in
+    let few = turn-states _ _ _ (p .0) (l .m) more _ _ (c .index-u8 .ensures) (p .1) in
+    (turn-edges _ _ _ (p .0) (l .m) more _ _ (c .before .before .before .before .before .before .before .before .before .before .before .before .index-u16 .ensures) (c .before .before .before .before .before .before .before .before .before .before .index-u162 .ensures) _ (c .before .before .before .before .before .edges-of .ensures) (λ i. omega (arith, words i .fits)) _ (c .index-u8 .ensures), few .0, few .1)
 
 returns : tie.Need-returns Inv-loop μ-loop
 returns c =
-    let a = c .before .before .before .before .before .before .before .before .before .before .before .before .before .before .before .before .before .before .before .before .before .args in
     let l = c .before .before .before .before .before .before .before .before .before .before .before .before .before .before .before .before .before .loop in
     let no = when-false _ (c .before .decide .result) (not-true _ (c .if1 .taken)) (c .before .decide .ensures) in
     record {
-      within = omega (arith, l .inv .0);
-      before = λ j h. l .inv .1 j (omega (arith, h));
-      fails = λ h. turn-fails _ (a .first .now) (a .states .now) (a .weights .now) (c .before .before .before .before .before .before .before .before .before .before .before .before .before .before .before .before .before .before .before .before .before .pre .0) (c .before .before .before .before .before .before .before .before .before .before .before .before .before .before .before .before .before .loop .m) (c .before .before .before .before .before .before .before .before .before .before .before .before .before .before .before .before .loop-test .taken) _ _ (c .before .before .before .before .before .before .before .before .before .before .before .before .before .before .index-u16 .ensures) (c .before .before .before .before .before .before .before .before .before .before .before .before .index-u162 .ensures) _ (c .before .before .before .before .before .before .before .edges-of .ensures) no;
+      within = l .inv .0;
+      before = l .inv .1;
+      fails = λ h. turn-fails _ _ _ (c .before .before .before .before .before .before .before .before .before .before .before .before .before .before .before .before .before .before .before .before .pre .0) (l .m) (c .before .before .before .before .before .before .before .before .before .before .before .before .before .before .before .before .loop-test .taken) _ _ (c .before .before .before .before .before .before .before .before .before .before .before .before .before .before .index-u16 .ensures) (c .before .before .before .before .before .before .before .before .before .before .before .before .index-u162 .ensures) _ (c .before .before .before .before .before .before .before .edges-of .ensures) no;
     }
 
 add-m : tie.Need-add-m Inv-loop μ-loop
-add-m c = record { fits = omega (arith, c .before .before .before .before .before .before .before .before .before .before .before .before .before .before .before .before .loop-test .taken, c .before .before .before .before .before .before .before .before .before .before .before .before .before .before .before .before .before .before .before .before .before .pre .0 .few) }
+add-m c = record { fits = omega (arith, c .before .before .before .before .before .before .before .before .before .before .before .before .before .before .before .before .loop-test .taken, c .before .before .before .before .before .before .before .before .before .before .before .before .before .before .before .before .before .before .before .before .pre .0 .ready .sound .few-machines) }
 
 loop-less : tie.Need-loop-less Inv-loop μ-loop
 loop-less c = omega (arith, c .before .before .before .before .before .before .before .before .before .before .before .before .before .before .before .before .loop-test .taken)
 
 loop-again : tie.Need-loop-again Inv-loop μ-loop
 loop-again c =
-    let a = c .before .before .before .before .before .before .before .before .before .before .before .before .before .before .before .before .before .before .before .before .before .args in
     let l = c .before .before .before .before .before .before .before .before .before .before .before .before .before .before .before .before .before .loop in
+    let more = c .before .before .before .before .before .before .before .before .before .before .before .before .before .before .before .before .loop-test .taken in
     let yes = when-true _ (c .before .decide .result) (not-false _ (c .if1 .left)) (c .before .decide .ensures) in
-    let passes = turn-passes _ (a .first .now) (a .states .now) (a .weights .now) (c .before .before .before .before .before .before .before .before .before .before .before .before .before .before .before .before .before .before .before .before .before .pre .0) (c .before .before .before .before .before .before .before .before .before .before .before .before .before .before .before .before .before .loop .m) (c .before .before .before .before .before .before .before .before .before .before .before .before .before .before .before .before .loop-test .taken) _ _ (c .before .before .before .before .before .before .before .before .before .before .before .before .before .before .index-u16 .ensures) (c .before .before .before .before .before .before .before .before .before .before .before .before .index-u162 .ensures) _ (c .before .before .before .before .before .before .before .edges-of .ensures) yes in
-    (omega (arith, c .before .before .before .before .before .before .before .before .before .before .before .before .before .before .before .before .loop-test .taken), below-next _ (l .m) (l .inv .1) passes, c .before .before .before .before .before .before .before .edges-of .ensures .room)
+    let passes = turn-passes _ _ _ (c .before .before .before .before .before .before .before .before .before .before .before .before .before .before .before .before .before .before .before .before .pre .0) (l .m) more _ _ (c .before .before .before .before .before .before .before .before .before .before .before .before .before .before .index-u16 .ensures) (c .before .before .before .before .before .before .before .before .before .before .before .before .index-u162 .ensures) _ (c .before .before .before .before .before .before .before .edges-of .ensures) yes in
+    (omega (arith, more), below-next _ (l .m) (l .inv .1) passes, c .before .before .before .before .before .before .before .edges-of .ensures .room)
 
 returns-2 : tie.Need-returns-2 Inv-loop μ-loop
 returns-2 c =
     let l = c .before .loop in
-    record { within = omega (arith, l .inv .0); before = λ j h. l .inv .1 j (omega (arith, h)); fails = λ h. absurd (omega (arith, h, c .loop-test .left)) }
+    record { within = l .inv .0; before = l .inv .1; fails = λ h. absurd (omega (arith, h, c .loop-test .left)) }
 
 pub first-failing-spec : {M : Type 1} → statement M
 first-failing-spec =
@@ -101,7 +97,6 @@ first-failing-spec =
     (tie.spec
     Inv-loop
     μ-loop
-    most-states-requires
     loop-holds
     mul-index-u16
     element-copy-out-index-u16
@@ -111,7 +106,7 @@ first-failing-spec =
     element-copy-out-index-u16-2
     index-u16-requires-2
     edges-of-requires
-    shared-slice-read-index-u8
+    element-copy-out-index-u8
     index-u8-requires
     decide-requires
     returns

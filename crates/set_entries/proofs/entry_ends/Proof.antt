@@ -21,13 +21,13 @@ is-quiet-cycle-requires c κs = search needs
 
 returns : tie.Need-returns
 returns c =
-    let a = c .before .before .before .before .args in
-    cycle-good (record { machine = c .before .before .before .before .args .machine .now; left = c .before .before .before .before .args .left .now; entered = c .before .before .before .before .args .entered .now; progress = c .before .before .before .before .args .progress .now }) (a .set .now) (a .first) (a .end) (c .before .before .before .before .pre .0) _ (c .before .is-quiet-cycle .ensures) (c .if1 .taken)
+    let a = c .before .before .before .before .before .args in
+    cycle-good (c .before .before .before .before .before .args .table .now) (a .set .now) (a .first) (a .end) (c .before .before .before .before .before .pre .0) _ (c .before .is-quiet-cycle .ensures) (c .if1 .taken)
 
 returns-2 : tie.Need-returns-2
 returns-2 c =
-    let a = c .before .before .before .before .args in
-    cycle-stops (record { machine = c .before .before .before .before .args .machine .now; left = c .before .before .before .before .args .left .now; entered = c .before .before .before .before .args .entered .now; progress = c .before .before .before .before .args .progress .now }) (a .set .now) (a .first) (a .end) (c .before .before .before .before .pre .0) _ (c .before .is-quiet-cycle .ensures) (c .if1 .left)
+    let a = c .before .before .before .before .before .args in
+    cycle-stops (c .before .before .before .before .before .args .table .now) (a .set .now) (a .first) (a .end) (c .before .before .before .before .before .pre .0) _ (c .before .is-quiet-cycle .ensures) (c .if1 .left)
 
 pub entry-ends-spec : {M : Type 1} → statement M
 entry-ends-spec =

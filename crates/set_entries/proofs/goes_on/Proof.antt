@@ -10,39 +10,20 @@ use Rattle.set_entries.proofs.goes_on.Tie as tie
 last : {a b d : Bool} (x : Bool) → a ≡ true → b ≡ false → d ≡ true → x ≡ (a && (not b && (d && x)))
 last x p q r = rw (p, q, r)
 
-element-copy-out-if1 : tie.Need-element-copy-out-if1
-element-copy-out-if1 c = search needs
-
 returns : tie.Need-returns
 returns c = simp (ne-eqb _ _ (c .if1 .taken))
 
-element-copy-out-if2 : tie.Need-element-copy-out-if2
-element-copy-out-if2 c = search needs
-
 returns-2 : tie.Need-returns-2
-returns-2 c = simp (eq-eqb _ _ (c .before .before .if1 .left), c .if2 .taken)
-
-element-copy-out-if3 : tie.Need-element-copy-out-if3
-element-copy-out-if3 c = search needs
+returns-2 c = simp (eq-eqb _ _ (c .before .if1 .left), c .if2 .taken)
 
 returns-3 : tie.Need-returns-3
-returns-3 c = simp (eq-eqb _ _ (c .before .before .before .before .if1 .left), c .before .before .if2 .left, ne-eqb _ _ (c .if3 .taken))
+returns-3 c = simp (eq-eqb _ _ (c .before .before .before .if1 .left), c .before .before .if2 .left, ne-eqb _ _ (c .if3 .taken))
 
 element-copy-out-result : tie.Need-element-copy-out-result
 element-copy-out-result c = search needs
 
 returns-4 : tie.Need-returns-4
-returns-4 c = last _ (eq-eqb _ _ (c .before .before .before .before .before .if1 .left)) (c .before .before .before .if2 .left) (eq-eqb _ _ (c .before .if3 .left))
+returns-4 c = last _ (eq-eqb _ _ (c .before .before .before .before .if1 .left)) (c .before .before .before .if2 .left) (eq-eqb _ _ (c .before .if3 .left))
 
 pub goes-on-spec : {M : Type 1} → statement M
-goes-on-spec =
-    tie.close
-    (tie.spec
-    element-copy-out-if1
-    returns
-    element-copy-out-if2
-    returns-2
-    element-copy-out-if3
-    returns-3
-    element-copy-out-result
-    returns-4)
+goes-on-spec = tie.close (tie.spec returns returns-2 returns-3 element-copy-out-result returns-4)

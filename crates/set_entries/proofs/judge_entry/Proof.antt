@@ -14,34 +14,34 @@ use Rattle.set_entries.proofs.judge_entry.Statement.{statement}
 use Rattle.set_entries.proofs.judge_entry.Tie as tie
 
 -- What the calls read: the machine, the repeats and the row count,
-numbers : (c : tie.After-enum-told) → ThreeRead (c .before .before .before .before .args .machines) (c .before .before .before .before .args .set .now) (c .before .before .before .before .args .first)
+numbers : (c : tie.After-enum-told) → ThreeRead (c .before .before .before .before .before .args .machines) (c .before .before .before .before .before .args .set .now) (c .before .before .before .before .before .args .first)
 numbers c =
-    let a = c .before .before .before .before .args in
+    let a = c .before .before .before .before .before .args in
     three-read (a .machines) (a .set .now) (a .first) _ _ (told (valueFound (getD (a .set .now) (a .first + 2) 0)) (c .before .before .first-numbers .ensures) (c .enum-told .given .1))
 
 -- and the rows.
-rows : (c : tie.After-enum-told2) → rowsAt (c .before .before .before .before .before .before .before .before .args .first + 3 + getD (c .before .before .before .before .before .before .before .before .args .set .now) (c .before .before .before .before .before .before .before .before .args .first + 2) 0 - (c .before .before .before .before .before .before .before .before .args .first + 3)) (c .before .before .before .before .before .before .before .before .args .rows) (c .before .before .before .before .before .before .before .before .args .set .now) (c .before .before .before .before .before .before .before .before .args .first + 3)
-    ≡ found (part (c .before .before .before .before .before .before .before .before .args .set .now) (c .before .before .before .before .before .before .before .before .args .first + 3) (c .before .before .before .before .before .before .before .before .args .first + 3 + getD (c .before .before .before .before .before .before .before .before .args .set .now) (c .before .before .before .before .before .before .before .before .args .first + 2) 0)) (c .enum-told2 .given .0 .0)
+rows : (c : tie.After-enum-told2) → rowsAt (c .before .before .before .before .before .before .before .before .before .args .first + 3 + getD (c .before .before .before .before .before .before .before .before .before .args .set .now) (c .before .before .before .before .before .before .before .before .before .args .first + 2) 0 - (c .before .before .before .before .before .before .before .before .before .args .first + 3)) (c .before .before .before .before .before .before .before .before .before .args .rows) (c .before .before .before .before .before .before .before .before .before .args .set .now) (c .before .before .before .before .before .before .before .before .before .args .first + 3)
+    ≡ found (part (c .before .before .before .before .before .before .before .before .before .args .set .now) (c .before .before .before .before .before .before .before .before .before .args .first + 3) (c .before .before .before .before .before .before .before .before .before .args .first + 3 + getD (c .before .before .before .before .before .before .before .before .before .args .set .now) (c .before .before .before .before .before .before .before .before .before .args .first + 2) 0)) (c .enum-told2 .given .0 .0)
 rows c =
-    let a = c .before .before .before .before .before .before .before .before .args in
+    let a = c .before .before .before .before .before .before .before .before .before .args in
     told (valueFound (part (a .set .now) (a .first + 3) (a .first + 3 + getD (a .set .now) (a .first + 2) 0))) (c .before .before .rows-in .ensures) (c .enum-told2 .given .1)
 
 -- The list has the row count, and it is within its limits.
-count-there : (c : tie.After-enum-told) → (c .before .before .before .before .args .first + 2 < length (c .before .before .before .before .args .set .now)) × (getD (c .before .before .before .before .args .set .now) (c .before .before .before .before .args .first + 2) 0 < 65)
+count-there : (c : tie.After-enum-told) → (c .before .before .before .before .before .args .first + 2 < length (c .before .before .before .before .before .args .set .now)) × (getD (c .before .before .before .before .before .args .set .now) (c .before .before .before .before .before .args .first + 2) 0 < 65)
 count-there c =
-    let r = number-read 1 65 (c .before .before .before .before .args .set .now) (c .before .before .before .before .args .first + 2) _ _ (numbers c .third) in
+    let r = number-read 1 65 (c .before .before .before .before .before .args .set .now) (c .before .before .before .before .before .args .first + 2) _ _ (numbers c .third) in
     (r .there, r .below-end)
 
 first-numbers-requires : tie.Need-first-numbers-requires
-first-numbers-requires c κs = c .before .pre .0
+first-numbers-requires c κs = c .before .before .pre .0
 
 enum-known-numbers-read : tie.Need-enum-known-numbers-read
 enum-known-numbers-read c = search needs
 
 returns : tie.Need-returns
 returns c =
-    let a = c .before .before .before .before .before .args in
-    numbers-stop (record { machine = c .before .before .before .before .before .args .machine .now; left = c .before .before .before .before .before .args .left .now; entered = c .before .before .before .before .before .args .entered .now; progress = c .before .before .before .before .before .args .progress .now }) (a .rows) (a .machines) (a .set .now) (a .first) _ _ (told (valueFound (getD (a .set .now) (a .first + 2) 0)) (c .before .before .before .first-numbers .ensures) (c .before .numbers-read .given .1))
+    let a = c .before .before .before .before .before .before .args in
+    numbers-stop (c .before .before .before .before .before .before .args .table .now) (a .rows) (a .machines) (a .set .now) (a .first) _ _ (told (valueFound (getD (a .set .now) (a .first + 2) 0)) (c .before .before .before .first-numbers .ensures) (c .before .numbers-read .given .1))
 
 enum-told : tie.Need-enum-told
 enum-told c = search needs
@@ -62,7 +62,7 @@ cast-end : tie.Need-cast-end
 cast-end c = record { fits = omega (arith, count-there (c .before) .1) }
 
 add-end-3 : tie.Need-add-end-3
-add-end-3 c = record { fits = omega (arith, count-there (c .before) .1, c .before .before .before .before .before .pre .0) }
+add-end-3 c = record { fits = omega (arith, count-there (c .before) .1, c .before .before .before .before .before .before .pre .0) }
 
 add-rows-in : tie.Need-add-rows-in
 add-rows-in c = search needs
@@ -75,24 +75,24 @@ enum-known-rows-read c = search needs
 
 returns-2 : tie.Need-returns-2
 returns-2 c =
-    let a = c .before .before .before .before .before .before .before .before .before .args in
-    rows-stop (record { machine = c .before .before .before .before .before .before .before .before .before .args .machine .now; left = c .before .before .before .before .before .before .before .before .before .args .left .now; entered = c .before .before .before .before .before .before .before .before .before .args .entered .now; progress = c .before .before .before .before .before .before .before .before .before .args .progress .now }) (a .rows) (a .machines) (a .set .now) (a .first) (numbers (c .before .before .before .before .before)) _ _ (told (valueFound (part (a .set .now) (a .first + 3) (a .first + 3 + getD (a .set .now) (a .first + 2) 0))) (c .before .before .before .rows-in .ensures) (c .before .rows-read .given .1))
+    let a = c .before .before .before .before .before .before .before .before .before .before .args in
+    rows-stop (c .before .before .before .before .before .before .before .before .before .before .args .table .now) (a .rows) (a .machines) (a .set .now) (a .first) (numbers (c .before .before .before .before .before)) _ _ (told (valueFound (part (a .set .now) (a .first + 3) (a .first + 3 + getD (a .set .now) (a .first + 2) 0))) (c .before .before .before .rows-in .ensures) (c .before .rows-read .given .1))
 
 enum-told-2 : tie.Need-enum-told-2
 enum-told-2 c = search needs
 
 entry-ends-requires : tie.Need-entry-ends-requires
 entry-ends-requires c κs =
-    let a = c .before .before .before .before .before .before .before .before .args in
-    let p = c .before .before .before .before .before .before .before .before .pre in
+    let a = c .before .before .before .before .before .before .before .before .before .args in
+    let p = c .before .before .before .before .before .before .before .before .before .pre in
     let n = numbers (c .before .before .before .before) in
-    let h = rows-below (record { machine = c .before .before .before .before .before .before .before .before .args .machine .now; left = c .before .before .before .before .before .before .before .before .args .left .now; entered = c .before .before .before .before .before .before .before .before .args .entered .now; progress = c .before .before .before .before .before .before .before .before .args .progress .now }) (a .rows) (a .machines) (a .set .now) (a .first) n _ (rows c) in
-    (some-row (record { machine = c .before .before .before .before .before .before .before .before .args .machine .now; left = c .before .before .before .before .before .before .before .before .args .left .now; entered = c .before .before .before .before .before .before .before .before .args .entered .now; progress = c .before .before .before .before .before .before .before .before .args .progress .now }) (a .rows) (a .machines) (a .set .now) (a .first) n, record { there = h .there; small = λ i l u. omega (arith, h .small i l u, p .2) }, omega (arith, number-read 0 (a .machines) (a .set .now) (a .first) _ _ (n .first) .below-end, p .1))
+    let h = rows-below (c .before .before .before .before .before .before .before .before .before .args .table .now) (a .rows) (a .machines) (a .set .now) (a .first) n _ (rows c) in
+    (some-row (c .before .before .before .before .before .before .before .before .before .args .table .now) (a .rows) (a .machines) (a .set .now) (a .first) n, record { there = h .there; room = λ i from below. omega (arith, h .small i from below, p .2) }, omega (arith, number-read 0 (a .machines) (a .set .now) (a .first) _ _ (n .first) .below-end, p .1))
 
 returns-3 : tie.Need-returns-3
 returns-3 c =
-    let a = c .before .before .before .before .before .before .before .before .before .args in
-    entry-ended (record { machine = c .before .before .before .before .before .before .before .before .before .args .machine .now; left = c .before .before .before .before .before .before .before .before .before .args .left .now; entered = c .before .before .before .before .before .before .before .before .before .args .entered .now; progress = c .before .before .before .before .before .before .before .before .before .args .progress .now }) (a .rows) (a .machines) (a .set .now) (a .first) (numbers (c .before .before .before .before .before)) _ (rows (c .before)) (c .entry-ends .result) (c .entry-ends .ensures)
+    let a = c .before .before .before .before .before .before .before .before .before .before .args in
+    entry-ended (c .before .before .before .before .before .before .before .before .before .before .args .table .now) (a .rows) (a .machines) (a .set .now) (a .first) (numbers (c .before .before .before .before .before)) _ (rows (c .before)) (c .entry-ends .result) (c .entry-ends .ensures)
 
 pub judge-entry-spec : {M : Type 1} → statement M
 judge-entry-spec =

@@ -2,18 +2,15 @@
 use mathlib.Core.Path.{_≡_}
 use mathlib.Core.List.{List}
 use Prim.Native.Nat.{ℕ}
-use lib.ListN.{length, take}
 use lib.IntN.{ℤ}
 use Rattle.livelock.specs.Plants.{Plant}
-use Rattle.decoding.specs.Tables.{plantOf, Ready}
+use Rattle.decoding.specs.Tables.{plantOf}
 use Rattle.plant.specs.Steps.{endFound}
-use Rattle.plant.specs.Limits.{WithinLimits}
 use Rattle.plant.specs.Found.{Found, found, andThen}
 use Rattle.plant.specs.declared.End.{End}
-use Rattle.decoding.specs.declared.PlantTable.{PlantTable}
+use Rattle.decoding.specs.declared.Shape.{Shape}
 use Rattle.weighing.specs.Answers.{cycle, failing, judgementOf}
 use Rattle.weighing.specs.Weighing.{checkedWeights, checkedRoom, Owed, OwedVerdict}
-use Rattle.edges.specs.Edges.{Columns, columnsOf}
 use Rattle.deciding.specs.Rounds.{edgeGraph, EdgesIn, SomeZeroOrMore}
 use Rattle.searching.specs.Searches.{ShownRows}
 use Rattle.weighing.specs.declared.Judged.{Judged}
@@ -26,18 +23,6 @@ WeightsChecked types ws end r = (P : Plant) → P .types ≡ types → endFound 
 abbrev pub RoomChecked : ℕ → End → End → Type 0
 RoomChecked room end r = (P : Plant) → endFound r P ≡ andThen (endFound end P) (checkedRoom room)
 
--- A table that `decode` made of a file without a fault, and one weight for each of its types.
-pub record Weighable (t : PlantTable) (ws : List ℕ) : Type 0 where
-  pub ready : Ready t
-  pub limits : WithinLimits (plantOf t)
-  pub one-each : length ws ≡ t .types
-
--- These are the columns of a table, its machines' first rows and their counts of states.
-pub record Lent (t : PlantTable) (c : Columns) (first states : List ℕ) : Type 0 where
-  pub columns : columnsOf t ≡ c
-  pub first-rows : t .first ≡ first
-  pub counts : take (t .machines) (t .states) ≡ states
-
 -- The edges of a machine with a cycle that weighs zero or more: the search can begin, and whatever rows it shows are owed.
 pub record Shows (ws from to : List ℕ) (weight : List ℤ) (row : List ℕ) (count states : ℕ) (x : Found Plant) : Type 0 where
   pub edges-in : EdgesIn states count from to weight
@@ -49,7 +34,6 @@ pub record OwedJudged (ws from to : List ℕ) (weight : List ℤ) (row : List �
   pub verdict : OwedVerdict ws (judgementOf (r .verdict)) x
   pub shows : judgementOf (r .verdict) ≡ failing → Shows ws from to weight row (r .count) (r .states) x
 
--- So it is for the plant of every table of which these columns are lent, wherever its file ended.
-abbrev pub JudgedFor : Columns → (first states ws from to : List ℕ) → List ℤ → List ℕ → Judged → Type 0
-JudgedFor c first states ws from to weight row r =
-    (t : PlantTable) → Weighable t ws → Lent t c first states → (end : ℕ) → OwedJudged ws from to weight row r (found (plantOf t) end)
+-- So it is for the plant of a shape and a table, wherever its file ended.
+abbrev pub JudgedFor : Shape → (table ws from to : List ℕ) → List ℤ → List ℕ → Judged → Type 0
+JudgedFor s table ws from to weight row r = (end : ℕ) → OwedJudged ws from to weight row r (found (plantOf s table) end)

@@ -18,15 +18,16 @@ use Rattle.livelock.proofs.Graphs.{Cycle}
 use Rattle.livelock.proofs.Differences.{Difference, difference-minus}
 use Rattle.livelock.proofs.CycleWeights.{sentWeight, takenWeight, below-zero-iff, zero-or-more-iff}
 use Rattle.livelock.proofs.QuietGraphs.{QuietRowOf, row-within}
-use Rattle.decoding.specs.Tables.{plantOf, rowOf, rowsBefore, Ready}
+use Rattle.tables.specs.Tables.{rowIn}
+use Rattle.decoding.specs.Tables.{plantOf, rowsBefore, Ready}
 use Rattle.plant.specs.Limits.{WithinLimits}
-use Rattle.decoding.specs.declared.PlantTable.{PlantTable}
-use Rattle.decoding.proofs.TableLaws.{row-is, rows-counted}
+use Rattle.decoding.specs.declared.Shape.{Shape}
+use Rattle.decoding.proofs.TableLaws.{plant-row-is, rows-counted}
 use Rattle.decoding.proofs.FirstRowLaws.{row-of-machine, machine-rows}
 use Rattle.deciding.specs.Signs.{rise, fall}
-use Rattle.edges.specs.Edges.{columnsOf, Edges, Has, Listed, RowsBetween}
+use Rattle.edges.specs.Edges.{Edges, Has, Listed, RowsBetween}
 use Rattle.deciding.specs.Rounds.{AllBelowZero, Decided}
 use Rattle.machines.specs.Machines.{graphOf}
 use Rattle.deciding.proofs.SignLaws.{rise-fall, difference-same}
 
 -- ---- edges and rows
@@ -151,51 +152,48 @@ module _ (P : Plant) (formed : WellFormed P) (ws : List ℕ) (m : ℕ) (e : Edge
 
 -- ---- a decoded table
 
-module _ (t : PlantTable) (ready : Ready t) (limits : WithinLimits (plantOf t)) where
-  module _ (m : ℕ) (within : m < t .machines) where
-    -- The machine is one of the sixteen that a table has room for.
-    in-sixteen : m < 16
-    in-sixteen = omega (arith, ready .sound .few-machines)
-
+module _ (shape : Shape) (table : List ℕ) (ready : Ready shape table) (limits : WithinLimits (plantOf shape table)) where
+  module _ (m : ℕ) (within : m < shape .machines) where
     -- Its rows stand from its first row
-    low-is : getD (t .first) m 0 ≡ rowsBefore (plantOf t) m
-    low-is = ready .first-row m (omega (arith, in-sixteen))
+    low-is : getD (shape .first) m 0 ≡ rowsBefore (plantOf shape table) m
+    low-is = ready .first-row m (omega (arith, within))
 
     -- up to the next machine's.
-    high-is : getD (t .first) (m + 1) 0 ≡ rowsBefore (plantOf t) (m + 1)
-    high-is = ready .first-row (m + 1) (omega (arith, in-sixteen))
+    high-is : getD (shape .first) (m + 1) 0 ≡ rowsBefore (plantOf shape table) (m + 1)
+    high-is = ready .first-row (m + 1) (omega (arith, within))
 
     -- A row from there is the machine's,
-    row-between : (j : ℕ) → getD (t .first) m 0 ≤ j → j < getD (t .first) (m + 1) 0 → RowOf (plantOf t) m j
+    row-between : (j : ℕ) → getD (shape .first) m 0 ≤ j → j < getD (shape .first) (m + 1) 0 → RowOf (plantOf shape table) m j
     row-between j a b =
-        let there : j < rowCount (plantOf t) = omega (arith, machine-rows t ready m in-sixteen .1, rows-counted t) in
-        (there, row-of-machine (plantOf t) limits m j there .1 (omega (arith, low-is), omega (arith, high-is)))
+        let there : j < rowCount (plantOf shape table) = omega (arith, machine-rows shape table ready m within .1, rows-counted shape table) in
+        (there, row-of-machine (plantOf shape table) limits m j there .1 (omega (arith, low-is), omega (arith, high-is)))
 
-    -- and the columns have it.
-    row-columns : (j : ℕ) → RowOf (plantOf t) m j → rowAt (plantOf t) j ≡ rowOf t j
-    row-columns j r = row-is t j (omega (arith, r .0, rows-counted t))
+    -- and the table has it.
+    row-stored : (j : ℕ) → RowOf (plantOf shape table) m j → rowAt (plantOf shape table) j ≡ rowIn table j
+    row-stored j r = plant-row-is shape table j (omega (arith, r .0, rows-counted shape table))
 
     -- So its rows are between its states.
-    pub rows-between : RowsBetween (columnsOf t) (getD (t .first) m 0) (getD (t .first) (m + 1) 0) (stateCount (plantOf t) m)
+    pub rows-between : RowsBetween table (getD (shape .first) m 0) (getD (shape .first) (m + 1) 0) (stateCount (plantOf shape table) m)
     rows-between =
-        let rows = machine-rows t ready m in-sixteen in
+        let rows = machine-rows shape table ready m within in
         record {
           in-table = omega (arith, rows .1, ready .sound .few-rows);
+          room = omega (arith, rows .1, ready .sound .room);
           ordered = rows .0;
           few = omega (arith, rows .2, limits .rows-each m);
-          left-in = λ j a b. let r = row-between j a b in subst (λ (x : Row). x .left < stateCount (plantOf t) m) (row-columns j r) (row-within (plantOf t) (limits .formed) m j r .0);
-          entered-in = λ j a b. let r = row-between j a b in subst (λ (x : Row). x .entered < stateCount (plantOf t) m) (row-columns j r) (row-within (plantOf t) (limits .formed) m j r .1);
+          left-in = λ j a b. let r = row-between j a b in subst (λ (x : Row). x .left < stateCount (plantOf shape table) m) (row-stored j r) (row-within (plantOf shape table) (limits .formed) m j r .0);
+          entered-in = λ j a b. let r = row-between j a b in subst (λ (x : Row). x .entered < stateCount (plantOf shape table) m) (row-stored j r) (row-within (plantOf shape table) (limits .formed) m j r .1);
         }
 
-  module _ (ws : List ℕ) (m : ℕ) (within : m < t .machines) (e : Edges) (listed : Listed (columnsOf t) ws (getD (t .first) m 0) (getD (t .first) (m + 1) 0) e) where
+  module _ (ws : List ℕ) (m : ℕ) (within : m < shape .machines) (e : Edges) (listed : Listed table ws (getD (shape .first) m 0) (getD (shape .first) (m + 1) 0) e) where
     -- Each edge is a quiet row of the machine,
-    pub edge-row : (i : ℕ) → i < e .count → RowEdge (plantOf t) ws m (getD (e .row) i 0) (getD (e .from) i 0) (getD (e .to) i 0) (getD (e .weight) i (pos 0))
+    pub edge-row : (i : ℕ) → i < e .count → RowEdge (plantOf shape table) ws m (getD (e .row) i 0) (getD (e .from) i 0) (getD (e .to) i 0) (getD (e .weight) i (pos 0))
     unfolding hasProgress
     edge-row i l =
         let x = listed .each i l in
         let j = getD (e .row) i 0 in
         let r = row-between m within j (x .from-low) (x .below-high) in
-        let is = row-columns m within j r in
+        let is = row-stored m within j r in
         record {
           row = (r, ap (λ (r : Row). r .progress) is ∙ x .quiet);
           left = x .left ∙ sym (ap (λ (r : Row). r .left) is);
@@ -204,26 +202,26 @@ module _ (t : PlantTable) (ready : Ready t) (limits : WithinLimits (plantOf t)) 
         }
 
     -- and each of these is an edge.
-    pub row-edge : (j : ℕ) → QuietRowOf (plantOf t) m j → Has e j
+    pub row-edge : (j : ℕ) → QuietRowOf (plantOf shape table) m j → Has e j
     unfolding hasProgress
     row-edge j r =
-        let between = row-of-machine (plantOf t) limits m j (r .0 .0) .0 (r .0 .1) in
-        let is = row-columns m within j (r .0) in
+        let between = row-of-machine (plantOf shape table) limits m j (r .0 .0) .0 (r .0 .1) in
+        let is = row-stored m within j (r .0) in
         listed .every j (omega (arith, between .0, low-is m within)) (omega (arith, between .1, high-is m within)) (sym (ap (λ (r : Row). r .progress) is) ∙ r .1)
 
     -- Where every cycle of the edges is below zero, every quiet simple cycle of the machine is.
-    pub machine-passes : AllBelowZero (graphOf e) → (c : List ℕ) → SimpleCycle (plantOf t) m c → Quiet (plantOf t) c → cycleWeight (plantOf t) ws c <ℤ pos 0
-    machine-passes = cycles-pass (plantOf t) (limits .formed) ws m e edge-row row-edge
+    pub machine-passes : AllBelowZero (graphOf e) → (c : List ℕ) → SimpleCycle (plantOf shape table) m c → Quiet (plantOf shape table) c → cycleWeight (plantOf shape table) ws c <ℤ pos 0
+    machine-passes = cycles-pass (plantOf shape table) (limits .formed) ws m e edge-row row-edge
 
     -- The rows of a cycle of edges that is zero or more are a quiet simple cycle of the machine that weighs zero or more.
     pub machine-fails : (es : List ℕ) → Cycle (graphOf e) es
         → sum (graphOf e .minus) es ≤ sum (graphOf e .plus) es
-        → SimpleCycle (plantOf t) m (map (λ i. getD (e .row) i 0) es) × Quiet (plantOf t) (map (λ i. getD (e .row) i 0) es) × (pos 0 ≤ℤ cycleWeight (plantOf t) ws (map (λ i. getD (e .row) i 0) es))
-    machine-fails = cycle-fails (plantOf t) (limits .formed) ws m e edge-row
+        → SimpleCycle (plantOf shape table) m (map (λ i. getD (e .row) i 0) es) × Quiet (plantOf shape table) (map (λ i. getD (e .row) i 0) es) × (pos 0 ≤ℤ cycleWeight (plantOf shape table) ws (map (λ i. getD (e .row) i 0) es))
+    machine-fails = cycle-fails (plantOf shape table) (limits .formed) ws m e edge-row
 
     -- What `decide` says of the edges, it says of the machine: true exactly when every quiet simple cycle weighs below zero.
     pub machine-decided : (b : Bool) → Decided (graphOf e) b
-        → (b ≡ true) ↔ ((c : List ℕ) → SimpleCycle (plantOf t) m c → Quiet (plantOf t) c → cycleWeight (plantOf t) ws c <ℤ pos 0)
+        → (b ≡ true) ↔ ((c : List ℕ) → SimpleCycle (plantOf shape table) m c → Quiet (plantOf shape table) c → cycleWeight (plantOf shape table) ws c <ℤ pos 0)
     machine-decided true d = (λ q. machine-passes d, λ p. refl)
     machine-decided false d =
         let x = machine-fails (d .0) (d .1) (d .2) in

@@ -1,0 +1,97 @@
+-- A row takes a byte of the file at least, so that a file has room for fewer rows than bytes.
+use mathlib.Core.Path.{_≡_, subst}
+use mathlib.Core.Bool.{Bool, true, false}
+use mathlib.Core.Option.{Option}
+use mathlib.Core.List.{List, [], _∷_}
+use Prim.Native.Nat.{ℕ, zero, suc, _+_, _≤_, _<_}
+use native.Mathlib.Omega.{arith}
+use lib.ListN.{length, drop, length-drop, length-append}
+use Rattle.livelock.specs.Plants.{Row, Plant, rowCount, machineCount}
+use Rattle.plant.specs.Found.{Found, found, fault, andThen, movedBy}
+use Rattle.plant.specs.Reading.{byteIn, inRange, isMap, mapByte, hasBit, stateField, typeField, readRow, withRow, withMachine, readRows, rowsByte, readMachine}
+use Rattle.plant.proofs.Bounds.{Each, got, stopped, byteThat-each}
+
+-- P of a value that was found, and the offset after it.
+pub data Gives {A : Type 0} (P : A → ℕ → Type 0) : Found A → Type 0 where
+  value : {a : A} {next : ℕ} → P a next → Gives P (found a next)
+  none : {number place : ℕ} → Gives P (fault number place)
+
+gives-then : {A B : Type 0} {P : A → ℕ → Type 0} {R : B → ℕ → Type 0} {x : Found A} {k : A → ℕ → Found B}
+    → Gives P x → ((a : A) (next : ℕ) → P a next → Gives R (k a next)) → Gives R (andThen x k)
+gives-then (value p) f = f _ _ p
+gives-then none f = none
+
+gives-of : {A : Type 0} {P R : A → ℕ → Type 0} {n : ℕ} {x : Found A} → Each P n x → ((a : A) (next : ℕ) → P a next → R a next) → Gives R x
+gives-of (got p) f = value (f _ _ p)
+gives-of (stopped h) f = none
+
+gives-moved : {A : Type 0} {P R : A → ℕ → Type 0} (b : ℕ) {x : Found A} → Gives P x → ((a : A) (next : ℕ) → P a next → R a (b + next)) → Gives R (movedBy b x)
+gives-moved b (value p) f = value (f _ _ p)
+gives-moved b none f = none
+
+pub given-found : {A : Type 0} {P : A → ℕ → Type 0} {x : Found A} (a : A) (next : ℕ) → Gives P x → x ≡ found a next → P a next
+given-found {P = P} a next h e = go (subst (Gives P) e h)
+  where
+    go : Gives P (found a next) → P a next
+    go (value p) = p
+
+-- The offset after what was read is at least `from`, and in the file.
+abbrev pub Between : ℕ → List ℕ → ℕ → Type 0
+Between from s next = (from ≤ next) × (next ≤ length s)
+
+-- A byte takes a byte.
+pub byte-takes : (s : List ℕ) (at low end number : ℕ) → 2 ≤ number → number ≤ 8 → Gives (λ b next. Between (at + 1) s next) (byteIn low end number s at)
+unfolding byteIn
+byte-takes s at low end number l u = gives-of (byteThat-each s at (inRange low end) number l u) (λ b next h. (omega (arith, h .1), omega (arith, h .0, h .1)))
+
+pub rows-byte-takes : (s : List ℕ) (at used : ℕ) → Gives (λ b next. Between (at + 1) s next) (rowsByte used s at)
+unfolding rowsByte
+rows-byte-takes s at used = gives-of (byteThat-each s at _ 7 (omega arith) (omega arith)) (λ b next h. (omega (arith, h .1), omega (arith, h .0, h .1)))
+
+module _ (s : List ℕ) (from at : ℕ) (l : from ≤ at) (i : at ≤ length s) where
+  state-takes : (stands : Bool) (absent states : ℕ) → Gives (λ b next. Between from s next) (stateField stands absent states s at)
+  unfolding stateField byteIn
+  state-takes true absent states = gives-of (byteThat-each s at (inRange 0 states) 5 (omega arith) (omega arith)) (λ b next h. (omega (arith, h .1), omega (arith, h .0, h .1)))
+  state-takes false absent states = value (l, i)
+
+  type-takes : (stands : Bool) (types : ℕ) → Gives (λ o next. Between from s next) (typeField stands types s at)
+  unfolding typeField byteIn
+  type-takes true types =
+      gives-then
+      (gives-of {R = λ b next. Between from s next} (byteThat-each s at (inRange 0 types) 6 (omega arith) (omega arith)) (λ b next h. (omega (arith, h .1), omega (arith, h .0, h .1))))
+      (λ b next h. value h)
+  type-takes false types = value (l, i)
+
+-- A row takes a byte at least.
+pub row-takes : (s : List ℕ) (m states types implied at : ℕ) → Gives (λ r next. Between (at + 1) s next) (readRow m states types implied s at)
+unfolding readRow mapByte
+row-takes s m states types implied at =
+    gives-then
+    (gives-of {R = λ map next. Between (at + 1) s next} (byteThat-each s at isMap 4 (omega arith) (omega arith)) (λ b next h. (omega (arith, h .1), omega (arith, h .0, h .1)))) λ map a ha.
+    gives-then (state-takes s (at + 1) a (ha .0) (ha .1) (hasBit map 1) implied states) λ left b hb.
+    gives-then (state-takes s (at + 1) b (hb .0) (hb .1) (hasBit map 2) left states) λ entered c hc.
+    gives-then (type-takes s (at + 1) c (hc .0) (hc .1) (hasBit map 4) types) λ sent d hd.
+    gives-then (type-takes s (at + 1) d (hd .0) (hd .1) (hasBit map 8) types) λ taken e he.
+    value he
+
+-- n rows take n bytes at least.
+rows-take : (s : List ℕ) (m states : ℕ) (n implied at : ℕ) (p : Plant) → at ≤ length s
+    → Gives (λ q next. (rowCount q ≡ rowCount p + n) × Between (at + n) s next) (readRows n m states implied s at p)
+unfolding readRows
+rows-take s m states zero implied at p l = value {a = p} {next = at} (omega arith, (omega arith, l))
+rows-take s m states (suc n) implied at p l =
+    gives-then (row-takes s m states (p .types) implied at) λ r next h.
+    gives-then′ (rows-take s m states n (r .left) next (withRow p r) (h .1)) (λ q end g. (omega (arith, g .0, length-append (p .rows) (r ∷ [])), (omega (arith, g .1 .0, h .0), g .1 .1)))
+  where
+    gives-then′ : {P R : Plant → ℕ → Type 0} {x : Found Plant} → Gives P x → ((a : Plant) (next : ℕ) → P a next → R a next) → Gives R x
+    gives-then′ (value p) f = value (f _ _ p)
+    gives-then′ none f = none
+
+-- There are no more rows than bytes, after a machine too.
+pub machine-takes : (s : List ℕ) (at : ℕ) (p : Plant) → rowCount p ≤ at → Gives (λ q next. Between (rowCount q) s next) (readMachine s at p)
+unfolding readMachine
+machine-takes s at p l =
+    gives-then (byte-takes s at 1 65 3 (omega arith) (omega arith)) λ states a ha.
+    gives-then (rows-byte-takes s a (rowCount p)) λ n b hb.
+    gives-moved b (rows-take (drop b s) (machineCount p) states n 0 0 (withMachine p states) (omega arith))
+    (λ q next h. (omega (arith, h .0, h .1 .0, ha .0, hb .0), omega (arith, h .1 .1, hb .1, length-drop b s)))

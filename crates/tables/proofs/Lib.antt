@@ -1,0 +1,3 @@
+-- Laws of a table of rows.
+pub mod StoreLaws
+pub mod RowLaws

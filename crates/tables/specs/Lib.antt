@@ -1,0 +1,2 @@
+-- A table of rows in one list of bytes.
+pub mod Tables
