@@ -133,7 +133,7 @@ The proved calls against the same calls in plain C, against SPIN and against GLP
     bench/run
 
 which builds everything, measures, prints the tables and writes this page; `bench/run --quick` has fewer inputs and does not write it.
-It needs gcc, binutils, spin and glpk-utils, all from Debian, and the kit's `rt` where dist/ is not built. The gate does not run it.
+It needs gcc, binutils, spin and glpk-utils, all from Debian, and the kit's `rt`, which builds dist/ anew where the source changed. The gate does not run it.
 
 Every figure of time is a ratio of two things that were measured in turn, in one program (generating and compiling for SPIN: by processes, in turn).
 Against C and GLPK the order changed from one repetition to the next. A ratio is the median of {fast} repetitions, or of {slow} for the longest listing, for SPIN's search from

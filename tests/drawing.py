@@ -1,7 +1,8 @@
 """Compare the Graphviz text of tools/draw with texts written by hand from the plants.
 
 Plant A is compared whole. For the published test's running example, the rows of the cycle that `ceiling` shows are the
-red ones, and each client's computation is an edge without a message, client 0's with the mark of progress.
+red ones, and each client's computation is an edge without a message, client 0's with the mark of progress. tools/draw builds
+`ceiling` itself.
 
     python3 tests/drawing.py
 """
@@ -45,7 +46,6 @@ def files(name):
 
 
 def main():
-    subprocess.run(['rt', 'check', 'ceiling'], cwd=ROOT, capture_output=True, check=True)
     if draw(*files('plant_a')) != (0, PLANT_A, '') or draw('examples/plant_a/plant.bin') != (0, PLANT_A, ''):
         sys.exit('drawing.py: plant A is drawn otherwise')
     code, text, _ = draw(*files('two_clients'))

@@ -6,8 +6,10 @@
 - runs: long runs and exact maxima against the bound
 - program: `ceiling` as a process
 
-Every part also takes on planted errors, one after the other, and stops when it does not find one. All is drawn from the
-seed. The calls are those of the static library in dist/, which tools/dist makes; it is made here only if it is missing.
+Every part also takes on planted errors, one after the other, and stops when it does not find one: in what the product is held
+against, and in the product itself (evidence_product.py, evidence_program.py). Where networkx or glpsol is not installed, the
+part says what is not run. All is drawn from the seed. The calls are those of the static library in dist/, which is built here.
+What is counted must be what README's section Tests says (figures.py).
 
     python3 tests/evidence.py [--long] [--only PART] [SEED]
 """
@@ -15,6 +17,7 @@ import argparse
 import sys
 import tempfile
 import time
+from collections import Counter
 
 import evidence_answers
 import evidence_calls
@@ -22,9 +25,11 @@ import evidence_cycles
 import evidence_program
 import evidence_runs
 import evidence_solver
+import figures
 
+# A part gives what it counted, and the names of the figures that it could not count in full.
 PARTS = {
-    'answers': lambda program, folder, seed, long: evidence_answers.main(program, seed, long),
+    'answers': evidence_answers.main,
     'solver': lambda program, folder, seed, long: evidence_solver.main(program, seed, long),
     'cycles': lambda program, folder, seed, long: evidence_cycles.main(program, seed, long),
     'runs': evidence_runs.main,
@@ -32,20 +37,30 @@ PARTS = {
 }
 
 
+def hold_figures(counted, missing):
+    figures.hold(**{name: number for name, number in counted.items() if name not in missing})
+
+
 def main():
     parser = argparse.ArgumentParser()
     parser.add_argument('--long', action='store_true', help='several times as many cases')
     parser.add_argument('--only', choices=PARTS, help='one part only')
-    parser.add_argument('seed', nargs='?', type=int, default=2006)
+    parser.add_argument('seed', nargs='?', type=int, default=figures.SEED)
     given = parser.parse_args()
     sys.stdout.reconfigure(line_buffering=True)
-    start = time.time()
+    start, counted, missing = time.time(), Counter(), []
     with tempfile.TemporaryDirectory() as folder:
         program = evidence_calls.build(folder)
         for name, part in PARTS.items():
             if given.only in (None, name):
-                part(program, folder, given.seed, given.long)
-    print('evidence: seed %d, %d seconds' % (given.seed, time.time() - start))
+                numbers, absent = part(program, folder, given.seed, given.long)
+                counted.update(numbers)
+                missing += absent
+    planted = sum(number for name, number in counted.items() if name.startswith('planted_'))
+    print('evidence: seed %d, %d planted errors taken on and found, %d of them in the product; %d seconds'
+          % (given.seed, planted, counted['planted_in_the_product'], time.time() - start))
+    if given.only is None and not given.long and given.seed == figures.SEED:
+        hold_figures(dict(counted, planted_in_all=planted), missing)
 
 
 if __name__ == '__main__':

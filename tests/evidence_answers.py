@@ -13,6 +13,7 @@ import cycle_sets
 import evidence_calls as calls
 import evidence_independent
 import evidence_plants as plants
+import evidence_product
 import listing
 import quoting
 import reading
@@ -45,8 +46,8 @@ def owed(other, call, plant, q, got):
     answer = other.weigh(plant, q.weights, q.cycle_room)
     if answer is not None:
         return answer + ' kept'
-    words = got.split()
-    shown = words[0] == 'cycle' and words[-1] == 'kept' and other.shows(plant, q.weights, [int(x) for x in words[1:-1]])
+    first, *rows, last = got.split()
+    shown = first == 'cycle' and last == 'kept' and all(x.isdigit() for x in rows) and other.shows(plant, q.weights, [int(x) for x in rows])
     return got if shown else 'a quiet simple cycle of weight zero or more, the rest kept'
 
 
@@ -239,6 +240,33 @@ def catches(pairs):
     return found
 
 
+def asked(pairs, made):
+    """The requests with those of the calls that are wanted, and the library's answers to these."""
+    kept = [(q._replace(calls=[c for c in q.calls if c in made]), got) for q, got in pairs]
+    return [(q, {c: got[c] for c in q.calls}) for q, got in kept if q.calls]
+
+
+def finds(program, pairs):
+    """What the comparison finds in a program that stands in for the library, or None. The library's own answers are judged already."""
+    for (q, known), got in zip(pairs, calls.answers(program, [q for q, _ in pairs])):
+        wrong = disagreement(INDEPENDENT, q, got) if got != known else None
+        if wrong:
+            return wrong
+    return None
+
+
+def product_catches(folder, pairs):
+    """How many wrong programs the comparison finds, by the calls that must show them; in the unchanged calls in C it finds nothing."""
+    peer, wrong = evidence_product.build(folder)
+    found = finds(peer, pairs)
+    if found:
+        sys.exit('evidence: answers: bench/peer.c, unchanged: %s' % found)
+    for error, program in wrong:
+        if not finds(program, asked(pairs, error.calls)):
+            sys.exit('evidence: answers: the error "%s", planted in the product, is not found' % error.name)
+    return len(wrong)
+
+
 def kinds(pairs):
     """How often each answer was met."""
     count = {}
@@ -256,7 +284,7 @@ NEEDED = (['read counts', 'weigh passed', 'weigh cycle', 'quote ceiling', 'list 
           + ['list refused %d' % k for k in (12, 13, 14)] + ['confirm refused %d' % k for k in (15, 16, 17, 18)])
 
 
-def main(program, seed, long):
+def main(program, folder, seed, long):
     rng = random.Random(seed)
     limits = compare('limits', program, list(edges()))
     whole = compare('plants', program, shaped(rng, PLANTS * (10 if long else 1)))
@@ -266,9 +294,13 @@ def main(program, seed, long):
     for kind in NEEDED:
         if met.get(kind, 0) < 3:
             sys.exit('evidence: answers: %s was met %d times only' % (kind, met.get(kind, 0)))
-    found = catches(limits + whole[:3000] + harmed[:5000] + lent[:500])
+    some = limits + whole[:3000] + harmed[:5000] + lent[:500]
+    found, in_product = catches(some), product_catches(folder, some)
     unlisted = sum('list' not in q.calls for q, _ in whole + harmed)
+    files = len({q.file for q, _ in harmed})
     print('evidence: answers: %d plants, %d damaged files, %d lists of other lengths and %d limits agree with the independent '
-          'implementation (%d pass, %d show a cycle, %d machines of them judged by means; %d listings, %d left out for too many cycles); %d planted errors found'
-          % (len(whole), len({q.file for q, _ in harmed}), len(lent), len(limits), met['weigh passed'], met['weigh cycle'], INDEPENDENT.by_mean,
-             met['list listed'], unlisted, found))
+          'implementation (%d pass, %d show a cycle, %d machines of them judged by means; %d listings, %d left out for too many cycles); '
+          '%d errors planted there are found, and %d in the product'
+          % (len(whole), files, len(lent), len(limits), met['weigh passed'], met['weigh cycle'], INDEPENDENT.by_mean, met['list listed'], unlisted, found, in_product))
+    return dict(shaped_plants=len(whole), damaged_files=files, other_lengths=len(lent), judged_by_mean=INDEPENDENT.by_mean,
+                planted_in_the_product=in_product, planted_in_implementations=found), []

@@ -10,6 +10,8 @@ import subprocess
 import sys
 from collections import namedtuple
 
+import building
+
 ROOT = os.path.dirname(os.path.dirname(os.path.abspath(__file__)))
 CALLS = ('read', 'weigh', 'quote', 'list', 'confirm')
 
@@ -127,8 +129,7 @@ def compiled(folder, name, source, library=True):
 
 
 def build(folder):
-    if not os.path.exists(os.path.join(ROOT, 'dist', 'libhemtaluq.a')):
-        run(['tools/dist'])
+    building.dist()
     return compiled(folder, 'calls', DRIVER)
 
 
@@ -146,9 +147,7 @@ def answers(program, requests):
     result = []
     for line in lines:
         parts = line.split(';')
-        if len(parts) != 5:
-            sys.exit('evidence: %s' % line[:400])
-        result.append({c: a for c, a in zip(CALLS, parts) if a})
+        result.append({c: a + ''.join(parts[5:]) for c, a in zip(CALLS, parts) if a})
     return result
 
 

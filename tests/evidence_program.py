@@ -10,15 +10,22 @@ import subprocess
 import sys
 import tempfile
 
-import evidence_calls as calls
+import building
 import evidence_independent
 import evidence_plants as plants
 import reading
 
 CASES = 600
 INDEPENDENT = evidence_independent.Independent()
-PROGRAM = os.path.join(calls.ROOT, 'target', 'bin', 'ceiling')
 NOT_WRITTEN = b'ceiling: the line could not be written to standard output\n'
+# Errors planted in the program's line: what is wrong, the line's first word, and the other words changed.
+LINE_ERRORS = [
+    ('n and G are exchanged', 'passed', lambda f, n, g: [f, g, n]),
+    ('F is one too low', 'passed', lambda f, n, g: [str(int(f) - 1), n, g]),
+    ('a place is one too far', 'refused', lambda number, place: [number, str(int(place) + 1)]),
+    ('the last row of a cycle is left out', 'cycle', lambda *rows: rows[:-1]),
+    ('a number has a zero before it', 'cycle', lambda first, *rows: ['0' + first, *rows]),
+]
 
 
 def weights_bytes(weights):
@@ -70,7 +77,7 @@ def line_of(plant, weights, odd):
     with tempfile.TemporaryDirectory() as folder:
         put(folder, 'plant.bin', plant, odd)
         put(folder, 'weights.bin', weights, odd)
-        done = subprocess.run([PROGRAM], cwd=folder, capture_output=True, timeout=60)
+        done = subprocess.run([building.ceiling()], cwd=folder, capture_output=True, timeout=60)
     if done.returncode != 0 or done.stderr:
         sys.exit('evidence: program: exit code %d, %s' % (done.returncode, done.stderr[-300:]))
     return done.stdout.decode('ascii')
@@ -78,14 +85,29 @@ def line_of(plant, weights, odd):
 
 def hold_not_written():
     for output in ('> /dev/full', '>&-'):
-        done = subprocess.run(['sh', '-c', 'exec "$0" ' + output, PROGRAM], cwd=os.path.join(calls.ROOT, 'examples', 'plant_a'), capture_output=True, timeout=60)
+        done = subprocess.run(['sh', '-c', 'exec "$0" ' + output, building.ceiling()], cwd=os.path.join(building.ROOT, 'examples', 'plant_a'),
+                              capture_output=True, timeout=60)
         if (done.returncode, done.stdout, done.stderr) != (0, b'', NOT_WRITTEN):
             sys.exit('evidence: program: ceiling %s: exit code %d, %r, %r' % (output, done.returncode, done.stdout, done.stderr))
 
 
+def changed_line(line, first, change):
+    words = line.split()
+    return ' '.join([first, *change(*words[1:])]) + '\n' if words[0] == first else line
+
+
+def catches(pairs):
+    """How many planted errors are found: in the independent implementation, and in the program's line."""
+    for name, other in evidence_independent.PROGRAM_ERRORS:
+        if not any(other.judge_line(*pair) for pair in pairs):
+            sys.exit('evidence: program: the planted error "%s" is not found' % name)
+    for name, first, change in LINE_ERRORS:
+        if not any(INDEPENDENT.judge_line(plant, weights, changed_line(line, first, change)) for plant, weights, line in pairs):
+            sys.exit('evidence: program: the error "%s", planted in the product, is not found' % name)
+    return len(evidence_independent.PROGRAM_ERRORS), len(LINE_ERRORS)
+
+
 def main(seed, long):
-    if not os.path.exists(PROGRAM):
-        calls.run(['rt', 'check', 'ceiling'])
     hold_not_written()
     cases = list(fixed_cases()) + list(drawn_cases(random.Random(seed + 4), CASES * (5 if long else 1)))
     pairs = [(plant, weights, line_of(plant, weights, i % 3)) for i, (plant, weights) in enumerate(cases)]
@@ -98,9 +120,9 @@ def main(seed, long):
         kinds[line.split()[0]] = kinds.get(line.split()[0], 0) + 1
     if pairs[0][2] != 'passed 10 2 9\n' or len(kinds) != 3 or min(kinds.values()) < 30:
         sys.exit('evidence: program: %r for plant A; %s' % (pairs[0][2], kinds))
-    for name, other in evidence_independent.PROGRAM_ERRORS:
-        if not any(other.judge_line(*pair) for pair in pairs):
-            sys.exit('evidence: program: the planted error "%s" is not found' % name)
+    found, in_product = catches(pairs)
     missing = sum(plant is None or weights is None for plant, weights in cases)
-    print('evidence: program: %d runs of ceiling (%d pass, %d show a cycle, %d are refused; a file is missing in %d); %d planted errors found'
-          % (len(pairs), kinds['passed'], kinds['cycle'], kinds['refused'], missing, len(evidence_independent.PROGRAM_ERRORS)))
+    print('evidence: program: %d runs of ceiling (%d pass, %d show a cycle, %d are refused; a file is missing in %d); '
+          '%d errors planted in the independent implementation are found, and %d in the program\'s line'
+          % (len(pairs), kinds['passed'], kinds['cycle'], kinds['refused'], missing, found, in_product))
+    return dict(program_runs=len(pairs), program_missing=missing, planted_in_implementations=found, planted_in_the_product=in_product), []

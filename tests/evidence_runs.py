@@ -34,9 +34,10 @@ SIMULATOR = r'''/* Runs of plants. Each job has a plant, weights, figures, and a
 #include <stdio.h>
 #include <stdlib.h>
 #define ROWS 1024
+#define LACKING 2 /* a list of events may open with messages of so many types that the plant lacks */
 static int types, machines, rows, states[16], machine[ROWS], left[ROWS], entered[ROWS], sent[ROWS], taken[ROWS], progress[ROWS];
 static int error, state[16];
-static long long weight[64], content[64], potential[16][64], f, n, per_progress, factor;
+static long long weight[64], content[64 + LACKING], potential[16][64], f, n, per_progress, factor;
 static long long quiet, others, lost, offered, happened, opening;
 static uint64_t seed;
 static unsigned draw(unsigned below) { seed = seed * 6364136223846793005u + 1442695040888963407u; return (unsigned)((seed >> 33) % below); }
@@ -51,8 +52,8 @@ static void happen(int k) {
     if (progress[k] && error != 4) others++; else quiet++;
     happened++;
 }
-static void event_row(int k) { offered++; if (can(k)) happen(k); }
-static void event_loss(int t) { offered++; if (t < types && content[t] > 0) { content[t]--; lost++; happened++; } }
+static int event_row(int k) { offered++; if (!can(k)) return 0; happen(k); return 1; }
+static int event_loss(int t) { offered++; if (t >= types || content[t] == 0) return 0; content[t]--; lost++; happened++; return 1; }
 static long long bound(void) { return f + factor * opening + per_progress * others; }
 static void begin(int most) {
     opening = quiet = others = 0;
@@ -92,13 +93,19 @@ static void drawn(int mode, long long wanted) {
     printf("held %lld %lld %lld\n", offered, happened, lost);
 }
 static long long number(void) { long long x; if (scanf("%lld", &x) != 1) exit(1); return x; }
+/* Prints the run, the quiet rows and the others, and the states and contents after it. */
 static void replay(void) {
     quiet = others = 0;
     for (int m = 0; m < machines; m++) state[m] = (int)number();
-    for (int t = 0; t < types; t++) content[t] = number();
-    for (int count = (int)number(); count > 0; count--) { long long kind = number(); if (kind) event_loss((int)number()); else event_row((int)number()); }
-    printf("ran %lld %lld", quiet, others);
+    for (int t = 0; t < types + LACKING; t++) content[t] = number();
+    printf("ran");
+    for (int count = (int)number(); count > 0; count--) {
+        int loss = (int)number(), k = (int)number();
+        if (loss ? event_loss(k) : event_row(k)) printf(" %s%d", loss ? "loss" : "row", k);
+    }
+    printf(" counted %lld %lld left", quiet, others);
     for (int m = 0; m < machines; m++) printf(" %d", state[m]);
+    for (int t = 0; t < types + LACKING; t++) printf(" %lld", content[t]);
     printf("\n");
 }
 int main(void) {
@@ -229,19 +236,21 @@ def hold_runs(simulator, cases, events):
 
 
 def hold_simulator(simulator, rng, cases):
-    """The simulator counts as the one of definitions.py does, on random lists of events."""
+    """The simulator has the same run as the one of definitions.py, event by event, with the same states and contents after it, on
+    random lists of events; there are messages of two types that the plant lacks."""
     jobs, owed = [], []
     for case in rng.choices(cases, k=REPLAYS):
         plant = INDEPENDENT.plant(case[0])
         states = [rng.randrange(s) for s in plant.states]
-        contents = [rng.randint(0, 3) for _ in range(plant.types)]
+        contents = [rng.randint(0, 3) for _ in range(plant.types)] + [3, 1]
         events = definitions.random_events(rng, plant, 200)
-        quiet, progress, end = definitions.simulate(plant, states, contents, events)
-        owed.append([str(x) for x in [quiet, progress] + end])
+        happened, end, left = definitions.simulate(plant, states, contents, events)
+        counted = definitions.rows_counted(plant, happened)
+        owed.append(['ran'] + ['%s%d' % e for e in happened] + ['counted'] + [str(x) for x in counted] + ['left'] + [str(x) for x in end + left])
         listed = [x for kind, k in events for x in (int(kind == 'loss'), k)]
         jobs.append(job(case, (0, 0, 0), 3, 0, 0)[:-1] + states + contents + [len(events)] + listed)
     for words, numbers in zip(simulated(simulator, jobs), owed):
-        if words[1:] != numbers:
+        if words != numbers:
             sys.exit('evidence: runs: the two simulators differ: %s and %s' % (words, numbers))
 
 
@@ -371,12 +380,17 @@ def parse(line):
     return [name, bytes.fromhex(data)] + numbers + [[('loss' if e[0] == 'l' else 'row', int(e[1:])) for e in events.split()]]
 
 
+def rows_of(plant, states, contents, events):
+    """The quiet rows and the progress rows of the run."""
+    return definitions.rows_counted(plant, definitions.simulate(plant, states, contents, events)[0])
+
+
 def hold_stored(program, lines):
     """Each stored run exceeds its weaker formula and stays within the ceiling; the weights pass."""
     met = set()
     for name, data, weights, states, contents, events in map(parse, lines):
         plant = INDEPENDENT.plant(data)
-        quiet, g, _ = definitions.simulate(plant, states, contents, events)
+        quiet, g = rows_of(plant, states, contents, events)
         got = calls.answers(program, [calls.request(data, weights, contents=contents, g=g, calls=('quote',))])[0]['quote'].split()
         if got[0] != 'ceiling' or quiet > int(got[1]) or name not in exceeded(plant, weights, contents, g, quiet):
             sys.exit('evidence: runs: the stored run for %s has %d quiet rows and %d others; %s' % (name, quiet, g, got))
@@ -397,7 +411,7 @@ def store(program):
         runs = []
         for data, weights, states, contents, g, most, known in found:
             events = run_of((states, contents, g), known)
-            made = definitions.simulate(INDEPENDENT.plant(data), states, contents, events)[1]
+            made = rows_of(INDEPENDENT.plant(data), states, contents, events)[1]
             if name in exceeded(INDEPENDENT.plant(data), weights, contents, made, most):
                 numbers = [' '.join(str(x) for x in part) for part in (weights, states, contents)]
                 line = ' : '.join([name, data.hex()] + numbers + [' '.join(kind[0] + str(k) for kind, k in events)])
@@ -432,6 +446,7 @@ def main(program, folder, seed, long):
           'and weaker formulas are exceeded: %s; %d stored runs; %d planted errors found'
           % (sum(happened), *happened, lost, offered, len(cases), len(found), len({m[0] for m in found}), len(tried) - len(found), met, 100 * share,
              exceeding, len(lines), caught))
+    return dict(events=sum(happened), maxima=len(found), share_of_the_bound=int(100 * share), stored_runs=len(lines), planted_in_runs=caught), []
 
 
 if __name__ == '__main__':

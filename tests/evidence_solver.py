@@ -246,7 +246,10 @@ def main(program, seed, long):
     print('evidence: solver: %d stored certificates judged (%d weights, %d sets); solved anew: %s; %d planted errors found'
           % (len(kept), sum(c[1] == 'weights' for c in kept), sum(c[1] == 'set' for c in kept),
              '%d plants, exactly one side each (%d weights, %d sets judged, %d beyond the limits)'
-             % (len(files), sum(c[1] == 'weights' for c in anew), sum(c[1] == 'set' for c in anew), beyond) if present else '0, glpsol absent', found))
+             % (len(files), sum(c[1] == 'weights' for c in anew), sum(c[1] == 'set' for c in anew), beyond) if present
+             else 'NOT RUN, glpsol is not installed: no plant of %d is solved, and %d planted errors are not taken on' % (ANEW, len(SOLVER_ERRORS)), found))
+    counted = dict(certificates=len(kept), solved_anew=len(files), planted_in_solutions=found)
+    return counted, [] if present else ['solved_anew', 'planted_in_solutions', 'planted_in_all']
 
 
 if __name__ == '__main__':

@@ -1,0 +1,168 @@
+"""Planted errors in the product: programs that are wrong in one place stand in for the library, and the comparison must find each.
+
+- EDITS: the five calls in C of bench/peer.c in place of the library, with one piece of text changed. Unchanged they answer as
+  the library does, so what is found is the edit.
+- SHIMS: the library itself; a statement in C changes one field of its answer, or one entry of a list, after the call.
+
+An error belongs to the calls that must show it; only these are made.
+"""
+import os
+from collections import namedtuple
+from concurrent.futures import ThreadPoolExecutor
+
+import evidence_calls as calls
+
+PEER = os.path.join(calls.ROOT, 'bench', 'peer.c')
+
+# An error: what is wrong, the calls that must show it, and the text changed or the statement added.
+Edit = namedtuple('Edit', 'name calls old new')
+Shim = namedtuple('Shim', 'name calls statement')
+
+TABLE = ('weigh', 'list', 'confirm')
+
+READING = [
+    Edit('a plant without machines is read', ('read',), 'f[0] < 1 || ', ''),
+    Edit('64 types are too many', ('read',), 'f[1] > 64', 'f[1] > 63'),
+    Edit('a wrong count of types has place 0', ('read',), 'FAULT(2, 1)', 'FAULT(2, 0)'),
+    Edit('65 states are let by', ('read',), 'states > 64) FAULT(3', 'states > 65) FAULT(3'),
+    Edit('1,024 rows are too many', calls.CALLS, 'end > 1024', 'end > 1023'),
+    Edit('bit 5 of a map byte is let by', ('read', 'weigh'), 'map >= 32', 'map >= 64'),
+    Edit('bits 2 and 3 may stand together', ('read', 'weigh'), ' || (map & 12) == 12', ''),
+    Edit('the state entered may be the count of states', ('read',), 'entered >= states', 'entered > states'),
+    Edit('a row without bit 0 leaves the state entered before', TABLE, 't->progress[rows] = map >> 4;', 't->progress[rows] = map >> 4; left = entered;'),
+    Edit('a row without bit 1 enters state 0', TABLE, 'entered = left;', 'entered = 0;'),
+    Edit('the place of a wrong type is one too far', calls.CALLS, 'FAULT(6, at)', 'FAULT(6, at + 1)'),
+    Edit('the place of bytes that remain is the file\'s end', calls.CALLS, 'FAULT(8, at)', 'FAULT(8, length)'),
+    Edit('a type that is sent is taken', ('weigh', 'confirm'), 'sent = map & 4 ?', 'sent = map & 8 ?'),
+]
+WEIGHING = [
+    Edit('a weight may be 1,001', ('weigh', 'quote'), 'weights[i] > 1000', 'weights[i] > 1001'),
+    Edit('the place of a weight is one too far', ('weigh', 'quote'), 'FAULT(10, i)', 'FAULT(10, i + 1)'),
+    Edit('a weight more than types is let by', ('weigh', 'quote'), 'if (count != t->types) FAULT(9', 'if (count < t->types) FAULT(9'),
+    Edit('63 lent entries are enough', ('weigh',), 'cycle_length < 64', 'cycle_length < 63'),
+    Edit('weight zero is good', ('weigh', 'quote'), '1 + n * e[i].weight', 'n * e[i].weight'),
+    Edit('progress rows are taken as quiet', ('weigh', 'quote'), 'count += !t->progress[k]', 'count += 1'),
+    Edit('a type taken weighs nothing', ('weigh', 'quote'), 'weights[t->sent[k]] - weights[t->taken[k]]', 'weights[t->sent[k]]'),
+    Edit('the first machine alone is judged', ('weigh', 'quote'), 'm < t->machines; m++) {\n        unsigned count', 'm < 1; m++) {\n        unsigned count'),
+    Edit('n is taken from the first machine', ('weigh',), 'if (t->states[m] > n)', 'if (m == 0)'),
+    Edit('w is the sum of the weights', ('weigh', 'quote'), 'if ((uint64_t)laid[i] > w) w = ', 'w += '),
+    Edit('G lacks n - 1', ('weigh',), 'n - 1 + n * n * w', 'n * n * w'),
+    Edit('rows are shown by their place in the machine', ('weigh',), 'best[i] = e[j].row', 'best[i] = (uint16_t)j'),
+    Shim('the list is changed where weights pass', ('weigh',), 'if (a.kind == HEMTALUQ_PASSED) cycle[63] ^= 1;'),
+    Shim('the list is changed with a refusal', ('weigh',), 'if (a.kind == HEMTALUQ_REFUSED && cycle_length) cycle[0] ^= 1;'),
+    Shim('the entry behind the cycle is changed', ('weigh',), 'if (a.kind == HEMTALUQ_CYCLE && a.rows < cycle_length) cycle[a.rows] ^= 1;'),
+    Shim('a cycle has a row too few', ('weigh',), 'if (a.kind == HEMTALUQ_CYCLE) a.rows--;'),
+    Shim('F stands in the answer that shows a cycle', ('weigh',), 'if (a.kind == HEMTALUQ_CYCLE) a.base = 1;'),
+]
+QUOTING = [
+    Edit('a content may be 1,000,001', ('quote',), 'contents[i] > 1000000', 'contents[i] > 1000001'),
+    Edit('the place of g is 0', ('quote',), 'FAULT(21, count)', 'FAULT(21, 0)'),
+    Edit('W is left out', ('quote',), '* sum +', '* 0 +'),
+    Edit('the first content counts for all types', ('quote',), '* contents[i];', '* contents[0];'),
+    Edit('an edge equal to the ceiling does not count', ('quote',), '__builtin_clzll(a.ceiling))', '__builtin_clzll(a.ceiling - (a.ceiling > 1)))'),
+    Shim('a ceiling wraps at 2^32', ('quote',), 'a.ceiling = (uint32_t)a.ceiling;'),
+    Shim('21 stands for 20', ('quote',), 'if (a.number == 20) a.number = 21;'),
+]
+LISTING = [
+    Edit('a list that is just long enough is refused', ('list',), 'l.used > out_length', 'l.used >= out_length'),
+    Edit('an empty list is refused with 14 before anything is counted', ('list',), 'if (states > 24 || last - first > 48) {\n        a.number = 13;',
+         'if (!out_length || states > 24 || last - first > 48) {\n        a.number = out_length ? 13 : 14;'),
+    Edit('48 rows are too many', ('list',), 'last - first > 48', 'last - first > 47'),
+    Edit('no such machine is refused with 13', ('list',), 'a.number = 12', 'a.number = 13'),
+    Edit('a row parallel to the one before it is dropped', ('list',), 'if (t.left[k] == s) {', 'if (t.left[k] == s && (i == l.begin[s] || l.entered[i - 1] != t.entered[k])) {'),
+    Edit('self loops are dropped', ('list',), 'if (entered == l->start) {\n            if (fill) {', 'if (entered == l->start) {\n            continue;\n            if (fill) {'),
+    Edit('rows are numbered from the machine\'s first', ('list',), 'l->first + l->number[i]', 'l->number[i]'),
+    Edit('a state without a row to the start is a dead end', ('list',), 'todo = live;', 'todo = 0;'),
+    Edit('cycles come again from their other states', ('list',), '(2u << l->start) - 1', '1u << l->start'),
+    Edit('the list is changed before it is refused with 14', ('list',), 'all_cycles(&l, &t, last, 0);', 'if (out_length) out[0] ^= 1;\n    all_cycles(&l, &t, last, 0);'),
+    Shim('the last row of a listing is another', ('list',), 'if (a.entries) out[a.entries - 1]++;'),
+    Shim('the entry behind the listing is changed', ('list',), 'if (a.kind == HEMTALUQ_LISTED && a.entries < out_length) out[a.entries] ^= 1;'),
+    Shim('an entry before the lent list is changed', ('list',), 'out[-1] ^= 1;'),
+]
+CONFIRMING = [
+    Edit('repeats may be 0', ('confirm',), 'set[at + 1] < 1 || ', ''),
+    Edit('repeats may be 1,000,001', ('confirm',), 'set[at + 1] > 1000000', 'set[at + 1] > 1000001'),
+    Edit('the place of wrong repeats is that of the entry', ('confirm',), 'FAULT(16, at + 1)', 'FAULT(16, at)'),
+    Edit('the place of a list that ends is that of the entry', ('confirm',), 'FAULT(15, length)', 'FAULT(15, at)'),
+    Edit('257 entries are let by', ('confirm',), 'before == 256', 'before == 257'),
+    Edit('rows of another machine are let by', ('confirm',), 'k < low || k >= high || ', ''),
+    Edit('progress cycles are added', ('confirm',), ' || t->progress[k] ||', ' ||'),
+    Edit('a state may be left twice', ('confirm',), ' || (seen >> state & 1)', ''),
+    Edit('a walk that does not come back is a cycle', ('confirm',), 'wrong || state != start', 'wrong'),
+    Edit('types taken are counted once', ('confirm',), '-= repeats', '-= 1'),
+    Edit('the sum is that of type 0', ('confirm',), 'a.sum = sums[i]', 'a.sum = sums[0]'),
+    Edit('a sum of zero is negative', ('confirm',), 'sums[i] < 0', 'sums[i] <= 0'),
+    Shim('the type is counted from 1', ('confirm',), 'if (a.kind == HEMTALUQ_NEGATIVE) a.message_type++;'),
+    Shim('the set is written to', ('confirm',), 'if (set_length) ((uint32_t *)set)[0] ^= 1;'),
+]
+SHARED = [
+    Shim('the place of a fault is one too low', ('read',), 'if (a.place) a.place--;'),
+    Shim('the count of rows stands in the answer that refuses', ('read',), 'if (a.kind == HEMTALUQ_REFUSED) a.rows = 1;'),
+]
+ERRORS = READING + WEIGHING + QUOTING + LISTING + CONFIRMING + SHARED
+
+# The arguments of the calls, for the shims.
+ARGUMENTS = {
+    'read': 'const uint8_t *file, size_t file_length',
+    'weigh': 'const uint8_t *file, size_t file_length, const uint16_t *weights, size_t weight_count, uint16_t *cycle, size_t cycle_length',
+    'quote': 'const uint8_t *file, size_t file_length, const uint16_t *weights, size_t weight_count, const uint32_t *contents, size_t content_count, uint32_t g',
+    'list': 'const uint8_t *file, size_t file_length, uint32_t machine, uint16_t *out, size_t out_length',
+    'confirm': 'const uint8_t *file, size_t file_length, const uint32_t *set, size_t set_length',
+}
+# Before the driver: the call is another one there.
+SHIM = '''#include "hemtaluq.h"
+static hemtaluq_{call}_answer wrong_{call}({arguments}) {{
+    hemtaluq_{call}_answer a = hemtaluq_{call}({names});
+    {statement}
+    return a;
+}}
+#undef hemtaluq_{call}
+#define hemtaluq_{call} wrong_{call}
+'''
+
+
+def changed(text, old, new):
+    """A text with one place changed, which must be one place."""
+    if text.count(old) != 1:
+        raise SystemExit('evidence: bench/peer.c has %r %d times' % (old, text.count(old)))
+    return text.replace(old, new)
+
+
+def peer_source(old='', new=''):
+    """The calls in C under the names of the library."""
+    with open(PEER, encoding='utf-8') as source:
+        text = source.read()
+    return (changed(text, old, new) if old else text).replace('peer_', 'hemtaluq_').replace('#include "peer.h"', '#include "hemtaluq.h"')
+
+
+def shim_source(call, statement):
+    """The driver with a statement after each call of one kind."""
+    names = ', '.join(a.split()[-1].lstrip('*') for a in ARGUMENTS[call].split(','))
+    return SHIM.format(call=call, arguments=ARGUMENTS[call], names=names, statement=statement) + calls.DRIVER
+
+
+def linked(folder, name, source, *last):
+    """A program from a source and what is linked with it. An error may leave something unused, so there are no warnings."""
+    path = os.path.join(folder, name)
+    with open(path + '.c', 'w', encoding='utf-8') as out:
+        out.write(source)
+    calls.run(['gcc', '-w', '-Idist', path + '.c', *last, '-o', path])
+    return path
+
+
+def build_one(folder, number, error):
+    name = 'wrong%d' % number
+    if isinstance(error, Edit):
+        return linked(folder, name, peer_source(error.old, error.new), os.path.join(folder, 'driver.o'))
+    return linked(folder, name, shim_source(error.calls[0], error.statement), '-Ldist', '-lhemtaluq')
+
+
+def build(folder):
+    """The program with the unchanged calls in C, and a wrong program for each error."""
+    driver = os.path.join(folder, 'driver')
+    with open(driver + '.c', 'w', encoding='utf-8') as out:
+        out.write(calls.DRIVER)
+    calls.run(['gcc', '-O2', '-Idist', '-c', driver + '.c', '-o', driver + '.o'])
+    with ThreadPoolExecutor(2) as pool:
+        programs = list(pool.map(lambda pair: build_one(folder, *pair), enumerate(ERRORS)))
+    return linked(folder, 'peer', peer_source(), driver + '.o'), list(zip(ERRORS, programs))
