@@ -95,6 +95,21 @@ def ring(states, parallel):
     return 0, [(states, [steps(s, (s + 1) % states) for s in range(states) for _ in range(parallel)])]
 
 
+def parallel_steps(counts):
+    """Rows that only move, so many of them from state 0 to 1, from 1 to 2, and so on."""
+    return [steps(s, s + 1) for s, count in enumerate(counts) for _ in range(count)]
+
+
+def chain():
+    """19 states and 48 rows without any cycle: every way through it is a dead end."""
+    return 0, [(19, parallel_steps([1, 2] + [3] * 14 + [2, 1]))]
+
+
+def blocked_chain():
+    """18 states and 47 rows. From each state of the chain a way leads back to state 0, but only over state 1, which is left by then."""
+    return 0, [(18, parallel_steps([1, 1] + [3] * 14 + [1]) + [steps(17, 1), steps(1, 0)])]
+
+
 def full_set():
     """A plant of 16 rings of 64 rows that send and take by turns, and 256 entries: each ring sixteen times."""
     machines = [(64, [(sends if s % 2 else takes)(s, (s + 1) % 64, (s // 2 + m) % 64) for s in range(64)]) for m in range(16)]

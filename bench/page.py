@@ -23,7 +23,7 @@ CAUSES = [
      'As for weighing: the arrays are cleared. Besides, the price class compares edge after edge of the constant table that document 01 asks for, where the peer counts leading zeros.'),
     ('quote', 'Quoting', 'Quoting is deciding and a few sums; what deciding loses, quoting loses.'),
     ('list', 'Listing',
-     'Each row of a path is a call with 13 arguments, since columns are lent one by one; the peer keeps what does not change in one struct.'),
+     'Each row of a path is a call with 14 arguments, since columns are lent one by one; the peer keeps what does not change in one struct.'),
     ('confirm', 'Confirming',
      'The rows of an entry are gone through three times (number by number, as a cycle, and for the sums), by the peer once; the third loop branches at each row, and its time depends on the address it is linked at.'),
 ]
@@ -144,7 +144,7 @@ work: a ratio moves by a tenth from run to run, on plant A and the ring of 16 by
 ## Against C
 
 `bench/peer.c` has the five calls in plain C, with the best algorithms we know: tables filled in place and never cleared, Bellman–Ford
-relaxation in place in 32 bits, the same search for a cycle by exact lengths, depth-first listing over adjacency lists with bits for the states left, price classes by leading
+relaxation in place in 32 bits, the same search for a cycle by exact lengths, depth-first listing over adjacency lists with bits for the states left and for dead ends, price classes by leading
 zeros. Before measuring, both gave the same answers and left the same in the lent lists on {cases} random inputs, whole and damaged, and on
 every input below. The files are in the cache; no buffer is cleared between two calls. Below 1 the proved call is faster.
 Both show a cycle with the fewest rows; a program that may show any cycle could take it from the predecessors of the last round, without a search, and this was not measured.

@@ -12,6 +12,7 @@ import sys
 import tempfile
 
 import cycle_sets
+import figures
 import listing
 import quoting
 import reading
@@ -42,11 +43,13 @@ def build(folder):
 
 
 def main():
-    seed = int(sys.argv[1]) if len(sys.argv) > 1 else 2006
+    seed = int(sys.argv[1]) if len(sys.argv) > 1 else figures.SEED
     with tempfile.TemporaryDirectory() as folder:
         build(folder)
-        for name, part in PARTS.items():
-            part.compare(os.path.join(folder, name), seed)
+        cases = sum(part.compare(os.path.join(folder, name), seed) for name, part in PARTS.items())
+    print('compiled.py: %d cases in all' % cases)
+    if seed == figures.SEED:
+        figures.hold(compiled_cases=cases)
 
 
 if __name__ == '__main__':

@@ -176,3 +176,4 @@ def compare(driver, seed):
         if kinds.get(kind, 0) < least:
             sys.exit('cycle_sets.py: %s was met %d times only' % (kind, kinds.get(kind, 0)))
     print('cycle_sets.py: seed %d: %d cases, of which %d are confirmed and %d have a negative sum' % (seed, len(given), kinds['confirmed'], kinds['negative']))
+    return len(given)

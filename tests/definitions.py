@@ -16,9 +16,12 @@ import subprocess
 import sys
 import tempfile
 
+from figures import SEED, hold
+
 ROOT = os.path.dirname(os.path.dirname(os.path.abspath(__file__)))
 PLANTS = 40
 LONG_RUN = 20000
+LACKING = [3, 1]    # opening contents of two types that a plant lacks
 
 
 class Row:
@@ -229,7 +232,7 @@ def state(theorems, rng, i, plant):
                                      ('isPassing %s %s' % (p, ws), truth(passes(plant, weights)))], p)
 
     states = [rng.randrange(count) for count in plant.states]
-    contents = [rng.randint(0, 3) for _ in range(plant.types + 2)]    # also messages of two types that the plant lacks
+    contents = [rng.randint(0, 3) for _ in range(plant.types)] + LACKING
     events = random_events(rng, plant, 25)
     happened, end, left = simulate(plant, states, contents, events)
     quiet, progress = rows_counted(plant, happened)
@@ -320,7 +323,7 @@ def hold_to_the_ceiling(rng, plant):
 
 
 def main():
-    seed = int(sys.argv[1]) if len(sys.argv) > 1 else 2006
+    seed = int(sys.argv[1]) if len(sys.argv) > 1 else SEED
     rng = random.Random(seed)
     theorems, runs, share = Theorems(), 0, 0.0
     for i in range(PLANTS):
@@ -331,6 +334,10 @@ def main():
     check(theorems.text)
     print('definitions.py: seed %d: %d plants, %d numbers agree; %d runs within their ceilings, the closest at %d %%'
           % (seed, PLANTS, theorems.count, runs, 100 * share))
+    if seed == SEED and share < 1:
+        sys.exit('definitions.py: no run comes to its ceiling')
+    if seed == SEED:
+        hold(defined_numbers=theorems.count)
 
 
 if __name__ == '__main__':

@@ -5,6 +5,9 @@
   that is named exists, and each must-fail edit is named.
 - The lines of these two, of README.md and of docs/DECISIONS.md have at most 160 characters, tables apart.
 - The plant files in examples/ have the bytes that the worked examples are proved of and run with.
+- Each row of a table in README.md and docs/ has as many cells as the table's head.
+- The names in README's table of promises are declared in the files that it names.
+- The numbers of README's section Tests are figures that a test holds (figures.py).
 - The header of the C interface names every fault number of the table, and each once; its kinds are those of the computed examples of crate cabinet.
 - The version is one number in the header, in the definition and in the Rust wrappers; every export of crate cabinet but that of the version has a
   revision, and the header's macros and the wrappers' link names are these symbols. Their arguments and structs are those that tests/data/revisions.txt
@@ -17,6 +20,8 @@ import glob
 import os
 import re
 import sys
+
+import figures
 
 ROOT = os.path.dirname(os.path.dirname(os.path.abspath(__file__)))
 faults = []
@@ -325,7 +330,51 @@ def hold_stored_revisions(source, structs, stored):
             faults.append('%s has not, or not alone for this revision: %s' % (stored, line))
 
 
+def cells(line):
+    return len(re.split(r'(?<!\\)\|', line.strip().strip('|')))
+
+
+def hold_tables(path):
+    """No row of a table has more or fewer cells than its head: what reads a table by its columns would pass it over."""
+    width, inside = 0, False
+    for number, line in enumerate(read(path).split('\n'), 1):
+        inside ^= line.startswith('```')
+        if inside or not line.startswith('|'):
+            width = 0
+            continue
+        width = width or cells(line)
+        if cells(line) != width:
+            faults.append('%s:%d: %d cells in a table of %d' % (path, number, cells(line), width))
+
+
+def hold_promises(path):
+    """In the table of promises each name stands before the file that declares it."""
+    table = read(path).split('\n## What is proved, and where\n')[1].split('\n## ')[0]
+    for row in re.findall(r'(?m)^\| .* \| (.*) \|$', table)[1:]:
+        found = re.findall(r'`([^`]+)`|\b([a-z_]+/(?:specs|proofs|src)/[A-Za-z_/]+\.(?:antt|rt))', row)
+        waiting = []
+        for name, source in found:
+            if name:
+                waiting.append(name)
+                continue
+            missing = set(waiting) - declared('crates/' + source) if os.path.exists(os.path.join(ROOT, 'crates', source)) else {'anything: there is no such file'}
+            faults.extend('%s: %s does not declare %s' % (path, source, name) for name in sorted(missing))
+            waiting = []
+        faults.extend('%s: no file is named for %s' % (path, name) for name in waiting)
+
+
+def hold_figures():
+    """The section Tests has the figures alone. Two are counted here: every check of interface.c stands on a line and is made once."""
+    faults.extend(figures.faults([read(path) for path in files('tests/*.py')]))
+    checks = re.findall(r'(?m)^    (?:check|[a-z]+_(?:is|refused))\("', read('tests/interface.c'))
+    figures.hold(interface_checks=len(checks), example_lines=read('crates/worked_examples_run/stdout').count('\n'))
+
+
 def main():
+    for path in ['README.md'] + files('docs/*.md') + files('examples/*.md'):
+        hold_tables(path)
+    hold_promises('README.md')
+    hold_figures()
     hold_examples()
     hold_header('include/hemtaluq.h')
     hold_kinds('include/hemtaluq.h', 'crates/cabinet/proofs/StructsDiffer.antt')
@@ -339,7 +388,7 @@ def main():
         hold_width(path)
     if faults:
         sys.exit('\n'.join(['documents.py:'] + faults))
-    print('documents.py: the excerpts and the map agree with the source')
+    print('documents.py: the excerpts, the map, the tables and the figures agree with the source and the tests')
 
 
 if __name__ == '__main__':

@@ -294,13 +294,13 @@ def main(program, folder, seed, long):
     for kind in NEEDED:
         if met.get(kind, 0) < 3:
             sys.exit('evidence: answers: %s was met %d times only' % (kind, met.get(kind, 0)))
-    some = limits + whole[:3000] + harmed[:5000] + lent[:500]
+    by_mean, some = INDEPENDENT.by_mean, limits + whole[:3000] + harmed[:5000] + lent[:500]
     found, in_product = catches(some), product_catches(folder, some)
     unlisted = sum('list' not in q.calls for q, _ in whole + harmed)
     files = len({q.file for q, _ in harmed})
     print('evidence: answers: %d plants, %d damaged files, %d lists of other lengths and %d limits agree with the independent '
           'implementation (%d pass, %d show a cycle, %d machines of them judged by means; %d listings, %d left out for too many cycles); '
           '%d errors planted there are found, and %d in the product'
-          % (len(whole), files, len(lent), len(limits), met['weigh passed'], met['weigh cycle'], INDEPENDENT.by_mean, met['list listed'], unlisted, found, in_product))
-    return dict(shaped_plants=len(whole), damaged_files=files, other_lengths=len(lent), judged_by_mean=INDEPENDENT.by_mean,
+          % (len(whole), files, len(lent), len(limits), met['weigh passed'], met['weigh cycle'], by_mean, met['list listed'], unlisted, found, in_product))
+    return dict(shaped_plants=len(whole), damaged_files=files, other_lengths=len(lent), judged_by_mean=by_mean,
                 planted_in_the_product=in_product, planted_in_implementations=found), []

@@ -10,6 +10,7 @@ import sys
 import evidence_calls as calls
 import evidence_independent
 import evidence_plants as plants
+import listing
 from evidence_independent import TooMany
 
 try:
@@ -77,6 +78,9 @@ ERRORS = [
 
 def machine(rng):
     """A plant of one or two machines that can be listed; the second has other row numbers."""
+    if rng.random() < 0.1:
+        states, rows = listing.tailed(rng)
+        return 0, [(states, [(a, b, None, None, rng.random() < 0.3) for a, b in rows])]
     states = rng.choice([1, 2, 3, 4, 5, 8, 24])
     count = rng.choice([0, 1, 3, 6, 9, 12] if states < 8 else [8, 16, 30, 48])
     near = states >= 8

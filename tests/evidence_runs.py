@@ -242,7 +242,7 @@ def hold_simulator(simulator, rng, cases):
     for case in rng.choices(cases, k=REPLAYS):
         plant = INDEPENDENT.plant(case[0])
         states = [rng.randrange(s) for s in plant.states]
-        contents = [rng.randint(0, 3) for _ in range(plant.types)] + [3, 1]
+        contents = [rng.randint(0, 3) for _ in range(plant.types)] + definitions.LACKING
         events = definitions.random_events(rng, plant, 200)
         happened, end, left = definitions.simulate(plant, states, contents, events)
         counted = definitions.rows_counted(plant, happened)

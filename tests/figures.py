@@ -33,10 +33,11 @@ FIGURES = {
     'program_runs': '# runs, files missing',
     'program_missing': 'files missing in #',
     'interface_checks': '# checks',
+    'cabinet_runs': '# runs of each cabinet program',
     'example_lines': '# lines |',
 }
 # Numbers that are no figures.
-OTHERS = ['document 01', 'C99', '(1) to (4)', 'n = 1', 'w = 0']
+OTHERS = ['document 01', 'length 0', 'C99', '(1) to (4)', 'n = 1', 'w = 0']
 
 
 def section():

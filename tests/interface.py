@@ -13,6 +13,8 @@ import subprocess
 import sys
 import tempfile
 
+import figures
+
 ROOT = os.path.dirname(os.path.dirname(os.path.abspath(__file__)))
 STRICT = ['-O2', '-Wall', '-Wextra', '-Werror', '-pedantic', '-Idist']
 RUST = ['rustc', '-O', '-D', 'warnings']
@@ -152,6 +154,7 @@ def main():
             hold_revisions(folder)
             hold_other_version(folder)
     missing = [tool for tool in ('valgrind', 'rustc', 'objcopy') if not shutil.which(tool)]
+    figures.hold(cabinet_runs=len(RUNS))
     print('interface.py: C99 and C++, %d runs of each program, revisions%s'
           % (len(RUNS), '; missing, and so not tried: ' + ', '.join(missing) if missing else ', valgrind, rustc and objcopy all there'))
 

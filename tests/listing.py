@@ -2,17 +2,27 @@
 
 The second one goes through all closed walks of a machine that leave no state twice, from every state, turns each so that
 it begins at its lowest state, drops what comes twice and sorts. `tests/compiled.py` runs it.
+
+The contract of `list` says nothing of time: a search that goes into dead ends is right, and needs seconds for machines without
+many cycles. Three such listings are timed here.
 """
 import itertools
+import os
 import random
 import struct
 import subprocess
 import sys
 
+import evidence_product
+import figures
 import reading
+
+sys.path.append(os.path.join(figures.ROOT, 'bench'))
+import inputs
 
 CASES = 12000
 MOST_CYCLES = 3000
+MOST_MILLISECONDS = 10
 
 
 # ---- the second implementation
@@ -55,6 +65,28 @@ def owed(data, machine, before):
 
 # ---- cases
 
+def tailed(rng):
+    """States and rows: a ring, and from one of its states a long tail, which leads back only to a state on the way from the ring's lowest
+    state to the tail, so that on this way the tail is a dead end. At times the states are numbered otherwise."""
+    ring_states, tail = rng.randint(2, 6), rng.randint(1, 17)
+    rows = [(s, (s + 1) % ring_states) for s in range(ring_states)]
+    leaves = rng.randrange(ring_states)
+    wide = rng.sample(range(tail), min(tail, rng.randint(0, 4)))
+    for i in range(tail):
+        rows += [(ring_states + i - 1 if i else leaves, ring_states + i)] * (rng.randint(2, 3) if i in wide else 1)
+    rows += [(ring_states + tail - 1, rng.randint(0, leaves))] + [(rng.randrange(ring_states), rng.randrange(ring_states)) for _ in range(rng.randint(0, 2))]
+    names = list(range(ring_states + tail))
+    if rng.random() < 0.3:
+        rng.shuffle(names)
+    rng.shuffle(rows)
+    return ring_states + tail, [(names[a], names[b]) for a, b in rows]
+
+
+def tailed_file(rng):
+    states, rows = tailed(rng)
+    return bytes([1, 0, states, len(rows)] + [x for a, b in rows for x in (3 | rng.choice([0, 16]), a, b)])
+
+
 def plant_file(rng):
     machines = rng.choice([1, 1, 2, 3])
     data = [machines, 1]
@@ -89,7 +121,7 @@ def cases(rng):
         yield ring(3, 3), 0, [9] * room
         yield ring(5, 3), 0, [9] * room
     for _ in range(CASES):
-        data = plant_file(rng)
+        data = plant_file(rng) if rng.random() < 0.9 else tailed_file(rng)
         if rng.random() < 0.03:
             data = reading.damaged(rng, data)
         machine = rng.choice([0] * 12 + [1, 1, 2, 3, 16, 4294967295])
@@ -101,20 +133,28 @@ def cases(rng):
         yield data, machine, [rng.randrange(65536) for _ in range(room)]
 
 
-DRIVER = '''#include <stdio.h>
+# With an argument, how many microseconds of CPU time a call takes, in place of the list afterwards.
+DRIVER = '''#define _POSIX_C_SOURCE 199309L
+#include <stdio.h>
 #include <stdlib.h>
+#include <time.h>
 #include "hemtaluq.h"
-int main(void) {
+static double now(void) { struct timespec t; clock_gettime(CLOCK_PROCESS_CPUTIME_ID, &t); return t.tv_sec * 1e6 + t.tv_nsec / 1e3; }
+int main(int argc, char **argv) {
     uint32_t head[3];
+    (void)argv;
     while (fread(head, 4, 3, stdin) == 3) {
         uint8_t *file = malloc(head[0] + 1);
         uint16_t *out = malloc(2 * head[2] + 2);
         if (fread(file, 1, head[0], stdin) != head[0] || fread(out, 2, head[2], stdin) != head[2]) return 1;
+        double start = now();
         hemtaluq_list_answer l = hemtaluq_list(file, head[0], head[1], out, head[2]);
+        double took = now() - start;
         if (l.kind == HEMTALUQ_LISTED) printf("entries %zu", l.entries);
         if (l.kind == HEMTALUQ_REFUSED) printf("refused %d %zu", l.number, l.place);
         printf(" :");
-        for (uint32_t i = 0; i < head[2]; i++) printf(" %d", out[i]);
+        if (argc > 1) printf(" %.1f", took);
+        for (uint32_t i = 0; i < head[2] && argc == 1; i++) printf(" %d", out[i]);
         printf("\\n");
         free(file); free(out);
     }
@@ -123,11 +163,54 @@ int main(void) {
 '''
 
 
+def packed(data, machine, before):
+    return struct.pack('<III', len(data), machine, len(before)) + data + struct.pack('<%dH' % len(before), *before)
+
+
+# ---- time
+
+CHAIN, BLOCKED_CHAIN = inputs.plant(*inputs.chain()), inputs.plant(*inputs.blocked_chain())
+TIMED = [('the chain, nothing lent', CHAIN, 0, 'entries 0'), ('the blocked chain, nothing lent', BLOCKED_CHAIN, 0, 'refused 14 0'),
+         ('the blocked chain, 1,000,000 entries lent', BLOCKED_CHAIN, 1000000, 'refused 14 0')]
+# The calls in C with less marking: what is wrong, the text of bench/peer.c changed, and which of the listings must be too slow.
+UNMARKED = [('no state is marked as a dead end', 'return marks | (~live & 0xffffff);', 'return marks;', [0, 1, 2]),
+            ('dead ends are marked before the first row only', '? without_dead_ends(l, marks) : marks;', '? marks : marks;', [1, 2])]
+
+
+def milliseconds(driver, repetitions):
+    """The CPU time of each timed listing, the least of the repetitions."""
+    least = []
+    for name, data, room, owed_answer in TIMED:
+        given = repetitions * packed(data, 0, [0] * room)
+        answers = [line.split(' : ') for line in subprocess.run([driver, 'timed'], input=given, capture_output=True, check=True).stdout.decode().split('\n')[:-1]]
+        if [a for a, _ in answers] != [owed_answer] * repetitions:
+            sys.exit('listing.py: %s: %s, but owed is %s' % (name, answers, owed_answer))
+        least.append(min(float(took) for _, took in answers) / 1000)
+    return least
+
+
+def hold_times(driver):
+    """The timed listings are quick enough, and are not with the calls in C that mark less; the longest time."""
+    took = milliseconds(driver, 5)
+    for (name, _, _, _), each in zip(TIMED, took):
+        if each > MOST_MILLISECONDS:
+            sys.exit('listing.py: %s: %.1f ms of CPU time, more than %d' % (name, each, MOST_MILLISECONDS))
+    for name, old, new, owed_slow in UNMARKED:
+        with open(driver + '_peer.c', 'w', encoding='utf-8') as out:
+            out.write(evidence_product.peer_source(old, new))
+        command = ['gcc', '-O2', '-w', '-I' + os.path.join(figures.ROOT, 'include'), driver + '.c', driver + '_peer.c', '-o', driver + '_peer']
+        subprocess.run(command, check=True)
+        if [i for i, each in enumerate(milliseconds(driver + '_peer', 1)) if each > MOST_MILLISECONDS] != owed_slow:
+            sys.exit('listing.py: the planted error "%s" is not found by the time that listings take' % name)
+    return max(took)
+
+
+# ---- the comparison
+
 def compare(driver, seed):
     rng = random.Random(seed)
     given = list(cases(rng))
-    stream = b''.join(struct.pack('<III', len(d), m, len(b)) + d + struct.pack('<%dH' % len(b), *b) for d, m, b in given)
-    printed = subprocess.run([driver], input=stream, capture_output=True, check=True).stdout.decode().split('\n')[:-1]
+    printed = subprocess.run([driver], input=b''.join(packed(*c) for c in given), capture_output=True, check=True).stdout.decode().split('\n')[:-1]
     if len(printed) != len(given):
         sys.exit('listing.py: %d answers to %d cases' % (len(printed), len(given)))
     kinds, most = {}, 0
@@ -143,5 +226,9 @@ def compare(driver, seed):
     for kind in ('entries', 'refused 12', 'refused 13', 'refused 14'):
         if kinds.get(kind, 0) < 10:
             sys.exit('listing.py: %s was met %d times only' % (kind, kinds.get(kind, 0)))
-    print('listing.py: seed %d: %d cases, of which %d list cycles (up to %d entries) and %d are refused with 14'
-          % (seed, len(given), kinds['entries'], most, kinds['refused 14']))
+    longest = hold_times(driver)
+    print('listing.py: seed %d: %d cases, of which %d list cycles (up to %d entries) and %d are refused with 14; %d chains are listed within %.1f ms '
+          'of CPU time each, and %d planted errors that make this slow are found'
+          % (seed, len(given), kinds['entries'], most, kinds['refused 14'], len(TIMED), longest, len(UNMARKED)))
+    figures.hold(chain_milliseconds=MOST_MILLISECONDS)
+    return len(given)

@@ -134,3 +134,4 @@ def compare(driver, seed):
         if kinds.get(kind, 0) < 10:
             sys.exit('quoting.py: %s was met %d times only' % (kind, kinds.get(kind, 0)))
     print('quoting.py: seed %d: %d cases, of which %d have a ceiling and %d are refused with 22' % (seed, len(given), kinds['ceiling'], kinds['refused 22']))
+    return len(given)

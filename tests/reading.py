@@ -221,3 +221,4 @@ def compare(driver, seed):
         sys.exit('reading.py: only the faults %s were met' % met)
     print('reading.py: seed %d: %d files, of which %d read; every number from 1 to 8 was met'
           % (seed, len(cases), sum(line.startswith('counts') for line in owed)))
+    return len(cases)

@@ -223,3 +223,4 @@ def compare(driver, seed):
             sys.exit('weighing.py: %s was met %d times only' % (kind, kinds.get(kind, 0)))
     print('weighing.py: seed %d: %d cases, of which %d pass and %d show a cycle; runs came to %d %% of the bound'
           % (seed, len(given), kinds['passed'], kinds['cycle'], round(100 * closest)))
+    return len(given)
