@@ -357,7 +357,8 @@ def hold_promises(path):
             if name:
                 waiting.append(name)
                 continue
-            missing = set(waiting) - declared('crates/' + source) if os.path.exists(os.path.join(ROOT, 'crates', source)) else {'anything: there is no such file'}
+            known = declared('crates/' + source) if os.path.exists(os.path.join(ROOT, 'crates', source)) else set()
+            missing = set(waiting) - known
             faults.extend('%s: %s does not declare %s' % (path, source, name) for name in sorted(missing))
             waiting = []
         faults.extend('%s: no file is named for %s' % (path, name) for name in waiting)

@@ -241,29 +241,32 @@ def catches(pairs):
 
 
 def asked(pairs, made):
-    """The requests with those of the calls that are wanted, and the library's answers to these."""
-    kept = [(q._replace(calls=[c for c in q.calls if c in made]), got) for q, got in pairs]
-    return [(q, {c: got[c] for c in q.calls}) for q, got in kept if q.calls]
+    """The requests with the calls that are made, the library's answers to these, and what a program is given for them."""
+    kept = [(q._replace(calls=[c for c in q.calls if c in made]), got) for q, got in pairs if set(q.calls) & set(made)]
+    requests = [q for q, _ in kept]
+    return requests, [{c: got[c] for c in q.calls} for q, got in kept], calls.stream(requests)
 
 
-def finds(program, pairs):
+def finds(program, requests, known, given):
     """What the comparison finds in a program that stands in for the library, or None. The library's own answers are judged already."""
-    for (q, known), got in zip(pairs, calls.answers(program, [q for q, _ in pairs])):
-        wrong = disagreement(INDEPENDENT, q, got) if got != known else None
+    for q, right, got in zip(requests, known, calls.answers(program, requests, given)):
+        wrong = disagreement(INDEPENDENT, q, got) if got != right else None
         if wrong:
             return wrong
     return None
 
 
 def product_catches(folder, pairs):
-    """How many wrong programs the comparison finds, by the calls that must show them; in the unchanged calls in C it finds nothing."""
+    """How many wrong programs the comparison finds, each by every call that must show it; in the unchanged calls in C it finds nothing."""
     peer, wrong = evidence_product.build(folder)
-    found = finds(peer, pairs)
+    found = finds(peer, *asked(pairs, calls.CALLS))
     if found:
         sys.exit('evidence: answers: bench/peer.c, unchanged: %s' % found)
+    by_call = {call: asked(pairs, [call]) for call in calls.CALLS}
     for error, program in wrong:
-        if not finds(program, asked(pairs, error.calls)):
-            sys.exit('evidence: answers: the error "%s", planted in the product, is not found' % error.name)
+        for call in error.calls:
+            if not finds(program, *by_call[call]):
+                sys.exit('evidence: answers: the error "%s", planted in the product, is not found by %s' % (error.name, call))
     return len(wrong)
 
 

@@ -139,9 +139,13 @@ def packed(q):
             + struct.pack('<%dI' % len(q.contents), *q.contents) + struct.pack('<%dI' % len(q.set), *q.set))
 
 
-def answers(program, requests):
-    """For each request a dictionary from calls to answers."""
-    lines = run([program], input=b''.join(packed(q) for q in requests)).decode().split('\n')[:-1]
+def stream(requests):
+    return b''.join(packed(q) for q in requests)
+
+
+def answers(program, requests, given=None):
+    """For each request a dictionary from calls to answers. What is given to several programs may be made once, by `stream`."""
+    lines = run([program], input=stream(requests) if given is None else given).decode().split('\n')[:-1]
     if len(lines) != len(requests):
         sys.exit('evidence: %d answers to %d requests' % (len(lines), len(requests)))
     result = []

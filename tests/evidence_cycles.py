@@ -118,7 +118,8 @@ def disagreement(listing, cases, answers):
 
 def main(program, seed, long):
     if networkx is None:
-        print('evidence: cycles: NOT RUN, networkx is not installed: no machine of %d is listed by it, and %d planted errors are not taken on' % (MACHINES, len(ERRORS)))
+        print('evidence: cycles: NOT RUN, networkx is not installed: no machine of %d is listed by it, and %d planted errors are not taken on'
+              % (MACHINES, len(ERRORS)))
         return {}, ['listed_machines', 'planted_in_implementations', 'planted_in_all']
     cases = some_machines(random.Random(seed + 2), MACHINES * (10 if long else 1))
     answers = calls.answers(program, [calls.request(data, machine=m, list_room=room + 3, calls=('list',)) for data, _, m, room in cases])

@@ -4,7 +4,7 @@
   the library does, so what is found is the edit.
 - SHIMS: the library itself; a statement in C changes one field of its answer, or one entry of a list, after the call.
 
-An error belongs to the calls that must show it; only these are made.
+An error belongs to the calls that must show it, each by itself; only these are made.
 """
 import os
 from collections import namedtuple
@@ -69,12 +69,15 @@ LISTING = [
          'if (!out_length || states > 24 || last - first > 48) {\n        a.number = out_length ? 13 : 14;'),
     Edit('48 rows are too many', ('list',), 'last - first > 48', 'last - first > 47'),
     Edit('no such machine is refused with 13', ('list',), 'a.number = 12', 'a.number = 13'),
-    Edit('a row parallel to the one before it is dropped', ('list',), 'if (t.left[k] == s) {', 'if (t.left[k] == s && (i == l.begin[s] || l.entered[i - 1] != t.entered[k])) {'),
-    Edit('self loops are dropped', ('list',), 'if (entered == l->start) {\n            if (fill) {', 'if (entered == l->start) {\n            continue;\n            if (fill) {'),
+    Edit('a row parallel to the one before it is dropped', ('list',), 'if (t.left[k] == s) {',
+         'if (t.left[k] == s && (i == l.begin[s] || l.entered[i - 1] != t.entered[k])) {'),
+    Edit('self loops are dropped', ('list',), 'if (entered == l->start) {\n            if (fill) {',
+         'if (entered == l->start) {\n            continue;\n            if (fill) {'),
     Edit('rows are numbered from the machine\'s first', ('list',), 'l->first + l->number[i]', 'l->number[i]'),
     Edit('a state without a row to the start is a dead end', ('list',), 'todo = live;', 'todo = 0;'),
     Edit('cycles come again from their other states', ('list',), '(2u << l->start) - 1', '1u << l->start'),
-    Edit('the list is changed before it is refused with 14', ('list',), 'all_cycles(&l, &t, last, 0);', 'if (out_length) out[0] ^= 1;\n    all_cycles(&l, &t, last, 0);'),
+    Edit('the list is changed before it is refused with 14', ('list',), 'all_cycles(&l, &t, last, 0);',
+         'if (out_length) out[0] ^= 1;\n    all_cycles(&l, &t, last, 0);'),
     Shim('the last row of a listing is another', ('list',), 'if (a.entries) out[a.entries - 1]++;'),
     Shim('the entry behind the listing is changed', ('list',), 'if (a.kind == HEMTALUQ_LISTED && a.entries < out_length) out[a.entries] ^= 1;'),
     Shim('an entry before the lent list is changed', ('list',), 'out[-1] ^= 1;'),
@@ -105,7 +108,8 @@ ERRORS = READING + WEIGHING + QUOTING + LISTING + CONFIRMING + SHARED
 ARGUMENTS = {
     'read': 'const uint8_t *file, size_t file_length',
     'weigh': 'const uint8_t *file, size_t file_length, const uint16_t *weights, size_t weight_count, uint16_t *cycle, size_t cycle_length',
-    'quote': 'const uint8_t *file, size_t file_length, const uint16_t *weights, size_t weight_count, const uint32_t *contents, size_t content_count, uint32_t g',
+    'quote': 'const uint8_t *file, size_t file_length, const uint16_t *weights, size_t weight_count, '
+             'const uint32_t *contents, size_t content_count, uint32_t g',
     'list': 'const uint8_t *file, size_t file_length, uint32_t machine, uint16_t *out, size_t out_length',
     'confirm': 'const uint8_t *file, size_t file_length, const uint32_t *set, size_t set_length',
 }

@@ -182,7 +182,8 @@ def milliseconds(driver, repetitions):
     least = []
     for name, data, room, owed_answer in TIMED:
         given = repetitions * packed(data, 0, [0] * room)
-        answers = [line.split(' : ') for line in subprocess.run([driver, 'timed'], input=given, capture_output=True, check=True).stdout.decode().split('\n')[:-1]]
+        printed = subprocess.run([driver, 'timed'], input=given, capture_output=True, check=True).stdout.decode()
+        answers = [line.split(' : ') for line in printed.split('\n')[:-1]]
         if [a for a, _ in answers] != [owed_answer] * repetitions:
             sys.exit('listing.py: %s: %s, but owed is %s' % (name, answers, owed_answer))
         least.append(min(float(took) for _, took in answers) / 1000)
@@ -230,5 +231,5 @@ def compare(driver, seed):
     print('listing.py: seed %d: %d cases, of which %d list cycles (up to %d entries) and %d are refused with 14; %d chains are listed within %.1f ms '
           'of CPU time each, and %d planted errors that make this slow are found'
           % (seed, len(given), kinds['entries'], most, kinds['refused 14'], len(TIMED), longest, len(UNMARKED)))
-    figures.hold(chain_milliseconds=MOST_MILLISECONDS)
+    figures.hold(chains=len(TIMED), chain_milliseconds=MOST_MILLISECONDS)
     return len(given)
