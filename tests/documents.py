@@ -331,7 +331,7 @@ def hold_stored_revisions(source, structs, stored):
 
 
 def cells(line):
-    return len(re.split(r'(?<!\\)\|', line.strip().strip('|')))
+    return len(re.split(r'(?<!\\)\|', line.strip().removeprefix('|').removesuffix('|')))
 
 
 def hold_tables(path):

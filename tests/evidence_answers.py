@@ -4,6 +4,9 @@
 - every truncation of a set of files, every other value of each of their bytes, every byte taken out, and bytes put in;
 - the edges of the older tests: the longest file, 1,024 and 1,025 rows, 256 and 257 entries, the largest ceiling;
 - for a set of plants every length of each list: weights, contents, the two lent lists, the cycle set cut off anywhere.
+
+Errors are planted in the independent implementation, and wrong programs stand in for the library (evidence_product.py): the
+comparison must find each.
 """
 import itertools
 import random
