@@ -31,7 +31,7 @@ def run(folder, command):
 def build(folder):
     for part in ('crates', 'include', 'target'):
         if os.path.exists(os.path.join(ROOT, part)):
-            shutil.copytree(os.path.join(ROOT, part), os.path.join(folder, part))
+            shutil.copytree(os.path.join(ROOT, part), os.path.join(folder, part), ignore=shutil.ignore_patterns('log'))    # others write there
     shutil.copy(os.path.join(ROOT, 'crates.txt'), folder)
     with open(os.path.join(folder, 'crates', 'cabinet', 'src', 'lib.rt'), 'a', encoding='utf-8') as source:
         source.write(reading.PROBE)
