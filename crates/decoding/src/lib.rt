@@ -83,13 +83,13 @@ fn read_machine(
     requires { ⌜ RoomFor (min 1024 (length (now file))) (now table) × (used ≤ 1024) × (used ≤ at) × (types ≤ 64) × (m < 16) ⌝ }
     ensures { λ r. ⌜ MachineRead (now (file .entry)) at m types used (now (table .entry)) (now (table .exit)) r ⌝ }
 {
-    let first = plant::states_byte(file, at);
-    let count = match first {
+    let states_step = plant::states_byte(file, at);
+    let count = match states_step {
         FieldStep::Value(field) => field,
         FieldStep::Fault(fault) => return no_machine(fault),
     };
-    let second = plant::rows_byte(file, count.next, used);
-    let own = match second {
+    let rows_step = plant::rows_byte(file, count.next, used);
+    let own = match rows_step {
         FieldStep::Value(field) => field,
         FieldStep::Fault(fault) => return no_machine(fault),
     };
@@ -161,13 +161,13 @@ pub fn decode(file: &[u8], table: &mut [u8]) -> Decoded
     ensures { λ r. ⌜ endFound (r .end) (plantOf (r .shape) (now (table .exit))) ≡ readPlant (now (file .entry)) ⌝ }
     ensures { λ r. ⌜ Ready (r .shape) (now (table .exit)) ⌝ }
 {
-    let one = plant::machines_byte(file, 0);
-    let machines = match one {
+    let machines_step = plant::machines_byte(file, 0);
+    let machines = match machines_step {
         FieldStep::Value(field) => field,
         FieldStep::Fault(fault) => return refused(fault),
     };
-    let two = plant::types_byte(file, machines.next);
-    let types = match two {
+    let types_step = plant::types_byte(file, machines.next);
+    let types = match types_step {
         FieldStep::Value(field) => field,
         FieldStep::Fault(fault) => return refused(fault),
     };

@@ -57,8 +57,8 @@ fn check_machine(file: &[u8], at: usize, types: u8, used: usize) -> Checked
     ensures { λ r. ⌜ ((p : Plant) → p .types ≡ types → rowCount p ≡ used → Counted (machineCount p + 1) types (r .rows) (readMachine (now (file .entry)) at p) (r .end)) ⌝ }
     ensures { λ r. ⌜ r .rows ≤ 1024 ⌝ }
 {
-    let first = plant::states_byte(file, at);
-    let states = match first {
+    let states_step = plant::states_byte(file, at);
+    let states = match states_step {
         FieldStep::Value(field) => field,
         FieldStep::Fault(fault) => {
             return Checked {
@@ -67,8 +67,8 @@ fn check_machine(file: &[u8], at: usize, types: u8, used: usize) -> Checked
             };
         }
     };
-    let second = plant::rows_byte(file, states.next, used);
-    let count = match second {
+    let rows_step = plant::rows_byte(file, states.next, used);
+    let count = match rows_step {
         FieldStep::Value(field) => field,
         FieldStep::Fault(fault) => {
             return Checked {
@@ -122,13 +122,13 @@ fn check_machines(file: &[u8], n: usize, from: usize, types: u8) -> Checked
 pub fn read(file: &[u8]) -> Reading
     ensures { λ r. ⌜ answerOf r ≡ countsOf (readPlant (now (file .entry))) ⌝ }
 {
-    let first = plant::machines_byte(file, 0);
-    let machines = match first {
+    let machines_step = plant::machines_byte(file, 0);
+    let machines = match machines_step {
         FieldStep::Value(field) => field,
         FieldStep::Fault(fault) => return Reading::Refused(fault),
     };
-    let second = plant::types_byte(file, machines.next);
-    let types = match second {
+    let types_step = plant::types_byte(file, machines.next);
+    let types = match types_step {
         FieldStep::Value(field) => field,
         FieldStep::Fault(fault) => return Reading::Refused(fault),
     };

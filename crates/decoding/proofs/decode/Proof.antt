@@ -15,29 +15,29 @@ use Rattle.decoding.proofs.decode.Tie as tie
 machines-byte-requires : tie.Need-machines-byte-requires
 machines-byte-requires c κs = search needs
 
-enum-known-one : tie.Need-enum-known-one
-enum-known-one c = search needs
+enum-known-machines-step : tie.Need-enum-known-machines-step
+enum-known-machines-step c = search needs
 
-enum-known-one-2 : tie.Need-enum-known-one-2
-enum-known-one-2 c = search needs
+enum-known-machines-step-2 : tie.Need-enum-known-machines-step-2
+enum-known-machines-step-2 c = search needs
 
 refused-requires : tie.Need-refused-requires
 refused-requires c κs = search needs
 
 returns : tie.Need-returns
 returns c = (
-  c .refused .ensures .0 _ ∙ no-machine-count _ _ _ (told fieldFound (c .before .before .before .before .machines-byte .ensures) (c .before .before .one2 .given .1)),
+  c .refused .ensures .0 _ ∙ no-machine-count _ _ _ (told fieldFound (c .before .before .before .before .machines-byte .ensures) (c .before .before .machines-step2 .given .1)),
   c .refused .ensures .1 _,
 )
 
 types-byte-requires : tie.Need-types-byte-requires
 types-byte-requires c κs = search needs
 
-enum-known-two : tie.Need-enum-known-two
-enum-known-two c = search needs
+enum-known-types-step : tie.Need-enum-known-types-step
+enum-known-types-step c = search needs
 
-enum-known-two-2 : tie.Need-enum-known-two-2
-enum-known-two-2 c = search needs
+enum-known-types-step-2 : tie.Need-enum-known-types-step-2
+enum-known-types-step-2 c = search needs
 
 refused-requires-2 : tie.Need-refused-requires-2
 refused-requires-2 c κs = search needs
@@ -45,7 +45,7 @@ refused-requires-2 c κs = search needs
 returns-2 : tie.Need-returns-2
 returns-2 c = (
   c .refused2 .ensures .0 _
-      ∙ no-type-count _ _ _ (told fieldFound (c .before .before .before .before .before .before .before .before .machines-byte .ensures) (c .before .before .before .before .before .before .one .given .1)) _ _ (told fieldFound (c .before .before .before .before .types-byte .ensures) (c .before .before .two2 .given .1)),
+      ∙ no-type-count _ _ _ (told fieldFound (c .before .before .before .before .before .before .before .before .machines-byte .ensures) (c .before .before .before .before .before .before .machines-step .given .1)) _ _ (told fieldFound (c .before .before .before .before .types-byte .ensures) (c .before .before .types-step2 .given .1)),
   c .refused2 .ensures .1 _,
 )
 
@@ -54,8 +54,8 @@ cast-read-machines c = search needs
 
 read-machines-requires : tie.Need-read-machines-requires
 read-machines-requires c κs =
-    let m = each-found _ _ (byteIn-each _ _ 1 17 2 (omega arith) (omega arith)) (told fieldFound (c .before .before .before .before .before .before .before .before .before .machines-byte .ensures) (c .before .before .before .before .before .before .before .one .given .1)) in
-    let t = each-found _ _ (byteIn-each _ _ 0 65 2 (omega arith) (omega arith)) (told fieldFound (c .before .before .before .before .before .types-byte .ensures) (c .before .before .before .two .given .1)) in
+    let m = each-found _ _ (byteIn-each _ _ 1 17 2 (omega arith) (omega arith)) (told fieldFound (c .before .before .before .before .before .before .before .before .before .machines-byte .ensures) (c .before .before .before .before .before .before .before .machines-step .given .1)) in
+    let t = each-found _ _ (byteIn-each _ _ 0 65 2 (omega arith) (omega arith)) (told fieldFound (c .before .before .before .before .before .types-byte .ensures) (c .before .before .before .types-step .given .1)) in
     (c .before .before .before .before .before .before .before .before .before .before .before .before .pre, omega (arith, t .1 .1), omega (arith, m .1 .1), t .0 .inside)
 
 at-file-end-requires : tie.Need-at-file-end-requires
@@ -69,7 +69,7 @@ returns-3 c =
     let r = c .before .before .before .before .read-machines .ensures in (
       c .at-file-end .ensures _
           ∙ ap (λ (x : Found Plant). andThen x (fileEnd (c .before .before .before .before .before .before .before .before .before .before .before .before .before .before .before .before .before .args .file .now))) (r .holds)
-          ∙ file-read _ _ _ (told fieldFound (c .before .before .before .before .before .before .before .before .before .before .before .before .before .before .machines-byte .ensures) (c .before .before .before .before .before .before .before .before .before .before .before .before .one .given .1)) _ _ (told fieldFound (c .before .before .before .before .before .before .before .before .before .before .types-byte .ensures) (c .before .before .before .before .before .before .before .before .two .given .1)),
+          ∙ file-read _ _ _ (told fieldFound (c .before .before .before .before .before .before .before .before .before .before .before .before .before .before .machines-byte .ensures) (c .before .before .before .before .before .before .before .before .before .before .before .before .machines-step .given .1)) _ _ (told fieldFound (c .before .before .before .before .before .before .before .before .before .before .types-byte .ensures) (c .before .before .before .before .before .before .before .before .types-step .given .1)),
       r .ready,
     )
 
@@ -78,13 +78,13 @@ decode-spec =
     tie.close
     (tie.spec
     machines-byte-requires
-    enum-known-one
-    enum-known-one-2
+    enum-known-machines-step
+    enum-known-machines-step-2
     refused-requires
     returns
     types-byte-requires
-    enum-known-two
-    enum-known-two-2
+    enum-known-types-step
+    enum-known-types-step-2
     refused-requires-2
     returns-2
     cast-read-machines

@@ -14,30 +14,30 @@ use Rattle.reading.proofs.check_machine.Tie as tie
 states-byte-requires : tie.Need-states-byte-requires
 states-byte-requires c κs = search needs
 
-enum-known-first : tie.Need-enum-known-first
-enum-known-first c = search needs
+enum-known-states-step : tie.Need-enum-known-states-step
+enum-known-states-step c = search needs
 
-enum-known-first-2 : tie.Need-enum-known-first-2
-enum-known-first-2 c = search needs
+enum-known-states-step-2 : tie.Need-enum-known-states-step-2
+enum-known-states-step-2 c = search needs
 
 returns : tie.Need-returns
 returns c = (
-  λ p t u. fault-kept _ _ _ _ _ (no-states _ _ p _ _ (told fieldFound (c .before .before .before .states-byte .ensures) (c .before .first2 .given .1))),
+  λ p t u. fault-kept _ _ _ _ _ (no-states _ _ p _ _ (told fieldFound (c .before .before .before .states-byte .ensures) (c .before .states-step2 .given .1))),
   search needs,
 )
 
 rows-byte-requires : tie.Need-rows-byte-requires
 rows-byte-requires c κs = search needs
 
-enum-known-second : tie.Need-enum-known-second
-enum-known-second c = search needs
+enum-known-rows-step : tie.Need-enum-known-rows-step
+enum-known-rows-step c = search needs
 
-enum-known-second-2 : tie.Need-enum-known-second-2
-enum-known-second-2 c = search needs
+enum-known-rows-step-2 : tie.Need-enum-known-rows-step-2
+enum-known-rows-step-2 c = search needs
 
 returns-2 : tie.Need-returns-2
 returns-2 c = (
-  λ p t u. fault-kept _ _ _ _ _ (no-rows _ _ p _ _ _ u (told fieldFound (c .before .before .before .before .before .before .before .states-byte .ensures) (c .before .before .before .before .before .first .given .1)) _ _ (told fieldFound (c .before .before .before .rows-byte .ensures) (c .before .second2 .given .1))),
+  λ p t u. fault-kept _ _ _ _ _ (no-rows _ _ p _ _ _ u (told fieldFound (c .before .before .before .before .before .before .before .states-byte .ensures) (c .before .before .before .before .before .states-step .given .1)) _ _ (told fieldFound (c .before .before .before .rows-byte .ensures) (c .before .rows-step2 .given .1))),
   search needs,
 )
 
@@ -45,10 +45,10 @@ cast-n : tie.Need-cast-n
 cast-n c = search needs
 
 sub-check-rows : tie.Need-sub-check-rows
-sub-check-rows c = each-found _ _ (rowsByte-each _ _ _) (told fieldFound (c .before .before .before .before .rows-byte .ensures) (c .before .before .second .given .1)) .0 .inside
+sub-check-rows c = each-found _ _ (rowsByte-each _ _ _) (told fieldFound (c .before .before .before .before .rows-byte .ensures) (c .before .before .rows-step .given .1)) .0 .inside
 
 part-check-rows-start : tie.Need-part-check-rows-start
-part-check-rows-start c = each-found _ _ (rowsByte-each _ _ _) (told fieldFound (c .before .before .before .before .rows-byte .ensures) (c .before .before .second .given .1)) .0 .inside
+part-check-rows-start c = each-found _ _ (rowsByte-each _ _ _) (told fieldFound (c .before .before .before .before .rows-byte .ensures) (c .before .before .rows-step .given .1)) .0 .inside
 
 part-check-rows-end : tie.Need-part-check-rows-end
 part-check-rows-end c = search needs
@@ -59,18 +59,18 @@ check-rows-requires c κs = search needs
 moved-requires : tie.Need-moved-requires
 moved-requires c κs =
     let a = c .before .before .before .before .before .before .before .before .before .before .before .before in
-    let q = each-found _ _ (byteIn-each _ _ 1 65 3 (omega arith) (omega arith)) (told fieldFound (c .before .before .before .before .before .before .before .before .before .before .states-byte .ensures) (c .before .before .before .before .before .before .before .before .first .given .1)) in
-    let r = each-found _ _ (rowsByte-each _ _ _) (told fieldFound (c .before .before .before .before .before .before .rows-byte .ensures) (c .before .before .before .before .second .given .1)) in
-    let e = rows-within _ 0 _ _ _ _ (c .before .before .before .before .second .given .0 .0 .next) (a .args .file .now) _ _ (q .1 .0) (c .check-rows .ensures 0 (noMachines (a .args .types)) refl) in
+    let q = each-found _ _ (byteIn-each _ _ 1 65 3 (omega arith) (omega arith)) (told fieldFound (c .before .before .before .before .before .before .before .before .before .before .states-byte .ensures) (c .before .before .before .before .before .before .before .before .states-step .given .1)) in
+    let r = each-found _ _ (rowsByte-each _ _ _) (told fieldFound (c .before .before .before .before .before .before .rows-byte .ensures) (c .before .before .before .before .rows-step .given .1)) in
+    let e = rows-within _ 0 _ _ _ _ (c .before .before .before .before .rows-step .given .0 .0 .next) (a .args .file .now) _ _ (q .1 .0) (c .check-rows .ensures 0 (noMachines (a .args .types)) refl) in
     omega (arith, r .0 .inside, a .good .0 .0)
 
 add-t22 : tie.Need-add-t22
-add-t22 c = let r = each-found _ _ (rowsByte-each _ _ _) (told fieldFound (c .before .before .before .before .before .before .before .rows-byte .ensures) (c .before .before .before .before .before .second .given .1)) in omega (arith, r .1 .1)
+add-t22 c = let r = each-found _ _ (rowsByte-each _ _ _) (told fieldFound (c .before .before .before .before .before .before .before .rows-byte .ensures) (c .before .before .before .before .before .rows-step .given .1)) in omega (arith, r .1 .1)
 
 returns-3 : tie.Need-returns-3
 returns-3 c =
-    let r = each-found _ _ (rowsByte-each _ _ _) (told fieldFound (c .before .before .before .before .before .before .before .rows-byte .ensures) (c .before .before .before .before .before .second .given .1)) in (
-      λ p t u. machine-kept _ _ p _ _ _ u (told fieldFound (c .before .before .before .before .before .before .before .before .before .before .before .states-byte .ensures) (c .before .before .before .before .before .before .before .before .before .first .given .1)) _ _ _ _ _ (told fieldFound (c .before .before .before .before .before .before .before .rows-byte .ensures) (c .before .before .before .before .before .second .given .1)) t (c .before .check-rows .ensures) (c .moved .ensures),
+    let r = each-found _ _ (rowsByte-each _ _ _) (told fieldFound (c .before .before .before .before .before .before .before .rows-byte .ensures) (c .before .before .before .before .before .rows-step .given .1)) in (
+      λ p t u. machine-kept _ _ p _ _ _ u (told fieldFound (c .before .before .before .before .before .before .before .before .before .before .before .states-byte .ensures) (c .before .before .before .before .before .before .before .before .before .states-step .given .1)) _ _ _ _ _ (told fieldFound (c .before .before .before .before .before .before .before .rows-byte .ensures) (c .before .before .before .before .before .rows-step .given .1)) t (c .before .check-rows .ensures) (c .moved .ensures),
       omega (arith, r .1 .1),
     )
 
@@ -79,12 +79,12 @@ check-machine-spec =
     tie.close
     (tie.spec
     states-byte-requires
-    enum-known-first
-    enum-known-first-2
+    enum-known-states-step
+    enum-known-states-step-2
     returns
     rows-byte-requires
-    enum-known-second
-    enum-known-second-2
+    enum-known-rows-step
+    enum-known-rows-step-2
     returns-2
     cast-n
     sub-check-rows

@@ -15,32 +15,32 @@ use Rattle.reading.proofs.read.Tie as tie
 machines-byte-requires : tie.Need-machines-byte-requires
 machines-byte-requires c κs = search needs
 
-enum-known-first : tie.Need-enum-known-first
-enum-known-first c = search needs
+enum-known-machines-step : tie.Need-enum-known-machines-step
+enum-known-machines-step c = search needs
 
-enum-known-first-2 : tie.Need-enum-known-first-2
-enum-known-first-2 c = search needs
+enum-known-machines-step-2 : tie.Need-enum-known-machines-step-2
+enum-known-machines-step-2 c = search needs
 
 returns : tie.Need-returns
-returns c = ap countsOf (no-machine-count _ _ _ (told fieldFound (c .before .before .before .machines-byte .ensures) (c .before .first2 .given .1)))
+returns c = ap countsOf (no-machine-count _ _ _ (told fieldFound (c .before .before .before .machines-byte .ensures) (c .before .machines-step2 .given .1)))
 
 types-byte-requires : tie.Need-types-byte-requires
 types-byte-requires c κs = search needs
 
-enum-known-second : tie.Need-enum-known-second
-enum-known-second c = search needs
+enum-known-types-step : tie.Need-enum-known-types-step
+enum-known-types-step c = search needs
 
-enum-known-second-2 : tie.Need-enum-known-second-2
-enum-known-second-2 c = search needs
+enum-known-types-step-2 : tie.Need-enum-known-types-step-2
+enum-known-types-step-2 c = search needs
 
 returns-2 : tie.Need-returns-2
-returns-2 c = ap countsOf (no-type-count _ _ _ (told fieldFound (c .before .before .before .before .before .before .before .machines-byte .ensures) (c .before .before .before .before .before .first .given .1)) _ _ (told fieldFound (c .before .before .before .types-byte .ensures) (c .before .second2 .given .1)))
+returns-2 c = ap countsOf (no-type-count _ _ _ (told fieldFound (c .before .before .before .before .before .before .before .machines-byte .ensures) (c .before .before .before .before .before .machines-step .given .1)) _ _ (told fieldFound (c .before .before .before .types-byte .ensures) (c .before .types-step2 .given .1)))
 
 cast-n : tie.Need-cast-n
 cast-n c = search needs
 
 check-machines-requires : tie.Need-check-machines-requires
-check-machines-requires c κs = let r = each-found _ _ (byteIn-each _ _ 0 65 2 (omega arith) (omega arith)) (told fieldFound (c .before .before .before .before .types-byte .ensures) (c .before .before .second .given .1)) in omega (arith, r .1 .1)
+check-machines-requires c κs = let r = each-found _ _ (byteIn-each _ _ 0 65 2 (omega arith) (omega arith)) (told fieldFound (c .before .before .before .before .types-byte .ensures) (c .before .before .types-step .given .1)) in omega (arith, r .1 .1)
 
 at-file-end-requires : tie.Need-at-file-end-requires
 at-file-end-requires c κs = search needs
@@ -52,22 +52,22 @@ enum-told : tie.Need-enum-told
 enum-told c = search needs
 
 returns-3 : tie.Need-returns-3
-returns-3 c = answer-refused _ _ _ _ _ (subst (Counted _ _ _ _) (c .before .end .given .1) (plant-kept _ _ _ _ _ _ _ _ (told fieldFound (c .before .before .before .before .before .before .before .before .before .before .before .before .before .machines-byte .ensures) (c .before .before .before .before .before .before .before .before .before .before .before .first .given .1)) (told fieldFound (c .before .before .before .before .before .before .before .before .before .types-byte .ensures) (c .before .before .before .before .before .before .before .second .given .1)) (c .before .before .before .before .check-machines .ensures) (c .before .before .before .at-file-end .ensures)))
+returns-3 c = answer-refused _ _ _ _ _ (subst (Counted _ _ _ _) (c .before .end .given .1) (plant-kept _ _ _ _ _ _ _ _ (told fieldFound (c .before .before .before .before .before .before .before .before .before .before .before .before .before .machines-byte .ensures) (c .before .before .before .before .before .before .before .before .before .before .before .machines-step .given .1)) (told fieldFound (c .before .before .before .before .before .before .before .before .before .types-byte .ensures) (c .before .before .before .before .before .before .before .types-step .given .1)) (c .before .before .before .before .check-machines .ensures) (c .before .before .before .at-file-end .ensures)))
 
 returns-4 : tie.Need-returns-4
-returns-4 c = answer-counts _ _ _ _ _ (subst (Counted _ _ _ _) (c .enum-told .given .1) (plant-kept _ _ _ _ _ _ _ _ (told fieldFound (c .before .before .before .before .before .before .before .before .before .before .before .before .machines-byte .ensures) (c .before .before .before .before .before .before .before .before .before .before .first .given .1)) (told fieldFound (c .before .before .before .before .before .before .before .before .types-byte .ensures) (c .before .before .before .before .before .before .second .given .1)) (c .before .before .before .check-machines .ensures) (c .before .before .at-file-end .ensures)))
+returns-4 c = answer-counts _ _ _ _ _ (subst (Counted _ _ _ _) (c .enum-told .given .1) (plant-kept _ _ _ _ _ _ _ _ (told fieldFound (c .before .before .before .before .before .before .before .before .before .before .before .before .machines-byte .ensures) (c .before .before .before .before .before .before .before .before .before .before .machines-step .given .1)) (told fieldFound (c .before .before .before .before .before .before .before .before .types-byte .ensures) (c .before .before .before .before .before .before .types-step .given .1)) (c .before .before .before .check-machines .ensures) (c .before .before .at-file-end .ensures)))
 
 pub read-spec : {M : Type 1} → statement M
 read-spec =
     tie.close
     (tie.spec
     machines-byte-requires
-    enum-known-first
-    enum-known-first-2
+    enum-known-machines-step
+    enum-known-machines-step-2
     returns
     types-byte-requires
-    enum-known-second
-    enum-known-second-2
+    enum-known-types-step
+    enum-known-types-step-2
     returns-2
     cast-n
     check-machines-requires
