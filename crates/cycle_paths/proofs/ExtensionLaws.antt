@@ -56,7 +56,7 @@ entries-row rows k [] = refl
 entries-row rows k (c ∷ cs) = rw (entries-row rows k cs, append-assoc rows (k ∷ []) c)
 
 -- with a row that closes the cycle,
-entries-close : (rows : List ℕ) (k : ℕ) → entriesWith rows ((k ∷ []) ∷ []) ≡ entryOf rows k
+pub entries-close : (rows : List ℕ) (k : ℕ) → entriesWith rows ((k ∷ []) ∷ []) ≡ entryOf rows k
 unfolding entriesWith flattened
 entries-close rows k = rw (append-nil, length-append rows (k ∷ []))
 
@@ -102,20 +102,20 @@ enter-unleft entered start marks k step is s e =
 
 module _ (left entered : List ℕ) (first last start : ℕ) (marks rows : List ℕ) (at high : ℕ) where
   -- The entries of the paths from row k on.
-  abbrev rest : ℕ → List ℕ
+  abbrev pub rest : ℕ → List ℕ
   rest k = extensions left entered first last start marks rows at k (high - k)
 
   -- The paths from state s on.
-  abbrev onward : ℕ → List (List ℕ)
+  abbrev pub onward : ℕ → List (List ℕ)
   onward s = paths (unleft marks) (column left) (column entered) (upFrom first (last - first)) start s (set marks s 1) (upFrom first (last - first))
 
   -- At the end nothing is left.
-  rest-none : (k : ℕ) → high ≤ k → rest k ≡ []
+  pub rest-none : (k : ℕ) → high ≤ k → rest k ≡ []
   unfolding extensions paths joined upFrom entriesWith flattened
   rest-none k h = let n : high - k ≡ 0 = omega arith in rw n
 
   -- Row k comes first, then the rows after it.
-  rest-first : (k : ℕ) → k < high → rest k ≡ entriesWith rows (pathsBy (column left) (column entered) start at marks onward k) ++ rest (k + 1)
+  pub rest-first : (k : ℕ) → k < high → rest k ≡ entriesWith rows (pathsBy (column left) (column entered) start at marks onward k) ++ rest (k + 1)
   unfolding extensions paths joined upFrom
   rest-first k h =
       let n : high - k ≡ suc (high - (k + 1)) = omega arith in
@@ -147,7 +147,7 @@ module _ (left entered : List ℕ) (first last start : ℕ) (marks rows : List �
       go (no l) r = rest-none k (omega arith) ∙ sym (rest-none (k + suc d) (omega arith))
 
   -- So what is left is the same at the next row that leaves the state.
-  rest-to : (k next : ℕ) → k ≤ next → ((j : ℕ) → k ≤ j → j < next → j < high → column left j ≡ at → ⊥) → rest k ≡ rest next
+  pub rest-to : (k next : ℕ) → k ≤ next → ((j : ℕ) → k ≤ j → j < next → j < high → column left j ≡ at → ⊥) → rest k ≡ rest next
   rest-to k next l h =
       let e : k + (next - k) ≡ next = omega arith in
       rw e at (rest-past (next - k) k (λ j a b c. h j a (omega arith) c))
@@ -161,7 +161,7 @@ unfolding extensions
 rest-longer left entered first last start marks rows at high s k u path depth rows-are room = rw (add-one depth, take-suc-set path depth k room, rows-are, u)
 
 -- Where no row is left it does not matter at which state the path stands.
-rest-at : (left entered : List ℕ) (first last start : ℕ) (marks rows : List ℕ) (at at′ low high : ℕ) → (low < high → at ≡ at′)
+pub rest-at : (left entered : List ℕ) (first last start : ℕ) (marks rows : List ℕ) (at at′ low high : ℕ) → (low < high → at ≡ at′)
     → extensions left entered first last start marks rows at low (high - low) ≡ extensions left entered first last start marks rows at′ low (high - low)
 rest-at left entered first last start marks rows at at′ low high e = go (decLt low high)
   where
@@ -172,7 +172,7 @@ rest-at left entered first last start marks rows at at′ low high e = go (decLt
 -- ---- one turn of the loop over linked rows
 
 -- Row k, below `high`, leaves the state at which the path stands; `step` is what it does, and n is the next row that leaves that state.
-record Turn (left entered next head : List ℕ) (first last start : ℕ) (marks rows : List ℕ) (at high k n : ℕ) (step : Step) : Type 0 where
+pub record Turn (left entered next head : List ℕ) (first last start : ℕ) (marks rows : List ℕ) (at high k n : ℕ) (step : Step) : Type 0 where
   pub links : Linked left next head first last
   pub low-in : first ≤ k
   pub inside : k < high
@@ -188,7 +188,7 @@ module _ {left entered next head : List ℕ} {first last start : ℕ} {marks row
   turn-later = omega (arith, turn .next-is, turn .links .next-later k (turn .low-in) (omega (arith, turn .inside, turn .high-in)))
 
   -- leaves the same state,
-  turn-leaves : n < high → column left n ≡ at
+  pub turn-leaves : n < high → column left n ≡ at
   turn-leaves l =
       ap (column left) (turn .next-is)
       ∙ (turn .links .next-same k (turn .low-in) (omega (arith, turn .inside, turn .high-in)) (omega (arith, turn .next-is, turn .high-in)) ∙ turn .leaves)
@@ -207,10 +207,10 @@ module _ {left entered next head : List ℕ} {first last start : ℕ} {marks row
       ∙ ap (λ (l : List ℕ). added step k rows (onward left entered first last start marks rows at high) ++ l) turn-past
 
   -- Nothing, the cycle that it closes,
-  turn-skip : step ≡ Steps.Skip → rest left entered first last start marks rows at high k ≡ rest left entered first last start marks rows at high n
+  pub turn-skip : step ≡ Steps.Skip → rest left entered first last start marks rows at high k ≡ rest left entered first last start marks rows at high n
   turn-skip e = rw e at turn-step
 
-  turn-close : step ≡ Steps.Close → rest left entered first last start marks rows at high k ≡ entryOf rows k ++ rest left entered first last start marks rows at high n
+  pub turn-close : step ≡ Steps.Close → rest left entered first last start marks rows at high k ≡ entryOf rows k ++ rest left entered first last start marks rows at high n
   turn-close e = rw e at turn-step
 
   -- or the extensions from the first row on that leaves the state which it enters.
@@ -222,7 +222,7 @@ module _ {left entered next head : List ℕ} {first last start : ℕ} {marks row
       ∙ rest-at left entered first last start marks′ rows′ s (column left begin) begin last
       (λ l. sym (ap (column left) begin-is ∙ turn .links .head-same s b (omega (arith, begin-is))))
 
-  turn-enter : (s : ℕ) → step ≡ Steps.Enter s → s < 24 → unleft marks ≡ suc (unleft (set marks s 1)) → (path : List ℕ) (depth : ℕ) → take depth path ≡ rows
+  pub turn-enter : (s : ℕ) → step ≡ Steps.Enter s → s < 24 → unleft marks ≡ suc (unleft (set marks s 1)) → (path : List ℕ) (depth : ℕ) → take depth path ≡ rows
       → depth < length path → (begin : ℕ) → begin ≡ column head s
       → rest left entered first last start marks rows at high k
       ≡ rest left entered first last start (set marks s 1) (take (depth + 1) (set path depth k)) (column left begin) last begin

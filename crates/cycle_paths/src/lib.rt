@@ -1,4 +1,5 @@
-// The simple cycles of some rows, by depth-first extension of a path. It knows no plant. No entry point: `listing` calls it.
+// The simple cycles of some rows, by depth-first extension of a path. It knows no plant. No entry point: `cycle_counts` and
+// `listing` call it.
 ghost use mathlib.Core.Path.{_≡_};
 ghost use Prim.Native.Nat.{suc, _+_, _≤_, _<_, _^_};
 ghost use lib.ListN.{length, take};
@@ -42,7 +43,7 @@ pub fn link(left: &[u8; 1024], first: usize, last: usize) -> Links
 }
 
 // What row k does for a path from `start` that stands at the state which the row leaves.
-fn step_of(entered: &[u8; 1024], start: u8, marks: u32, k: usize) -> Step
+pub fn step_of(entered: &[u8; 1024], start: u8, marks: u32, k: usize) -> Step
     requires { ⌜ (k < 1024) × (column (now entered) k < 24) ⌝ }
     ensures { λ r. ⌜ r ≡ stepOf (now (entered .entry)) start (marksOf 24 marks) k ⌝ }
 {

@@ -1,7 +1,7 @@
 -- Laws of the answer: the checks 12 to 14, and what the answer and the list owe.
 use mathlib.Core.Path.{_≡_, refl, sym, ap, _∙_, subst}
 use mathlib.Core.Bool.{and-false}
-use mathlib.Core.List.{List, [], _∷_, _++_}
+use mathlib.Core.List.{List}
 use Prim.Native.Nat.{ℕ, suc, _+_, _≤_, _<_, min}
 use native.Mathlib.Nat.{zero-add}
 use native.Mathlib.Omega.{arith}
@@ -18,36 +18,29 @@ use Rattle.listing.specs.Listing.{entriesNeeded, checkedRoom, checkedSiz
 use Rattle.cycle_paths.specs.Entries.{Added}
 use Rattle.listing.specs.Inner.Machines.{Answers}
 use Rattle.listing.specs.declared.Listed.{Listed}
-use Rattle.listing.specs.declared.Listed.the-variants as Variants
 use Rattle.listing.proofs.ListingLaws.{owed-means}
 
 -- ---- room for the entries
 
--- A part of no entries in front of a list changes nothing.
-pub nothing-before : (part rest : List ℕ) → length part ≡ 0 → part ++ rest ≡ rest
-nothing-before [] rest e = refl
-nothing-before (x ∷ part) rest e = absurd (omega arith)
-
 -- All entries of the rows were counted, and they are those needed.
-module _ (all needed before : List ℕ) (are : all ≡ needed) (n : ℕ) (counted : n ≡ min (suc (length before)) (0 + length all)) (end : ℕ) where
+module _ (all needed before : List ℕ) (are : all ≡ needed) (n : ℕ) (counted : n ≡ min (suc (length before)) (length all)) (end : ℕ) where
   -- More entries counted than the list has: fault 14, and the list is kept.
-  pub too-short : length before < n → (r : Listed) → answerOf r ≡ refused 14 0 → (after : List ℕ) → after ≡ before
-      → Answers (checkedRoom (length before) needed end) before after r
+  pub too-short : length before < n → (r : Listed) → answerOf r ≡ refused 14 0 → Answers (checkedRoom (length before) needed end) before before r
   unfolding checkedRoom
-  too-short h r is after kept =
+  too-short h r is =
       let l : length before < length needed = omega (arith, ap length are) in
-      record { answer = rw (lt-ltb (length before) (length needed) l) is; list-after = rw (lt-ltb (length before) (length needed) l) kept }
+      record { answer = rw (lt-ltb (length before) (length needed) l) is; list-after = rw (lt-ltb (length before) (length needed) l) refl }
 
   -- Otherwise all entries are stored in front, and their count is the answer.
-  pub enough : n ≤ length before → (out : List ℕ) → out ≡ before → (used : ℕ) (after : List ℕ) → Added (length before) out 0 all used after
-      → Answers (checkedRoom (length before) needed end) before after (Variants.Entries used)
+  pub enough : n ≤ length before → (used : ℕ) (after : List ℕ) → Added (length before) before 0 all used after → (r : Listed) → answerOf r ≡ entries used
+      → Answers (checkedRoom (length before) needed end) before after r
   unfolding checkedRoom
-  enough h out same used after added =
+  enough h used after added r is =
       let l : length needed ≤ length before = omega (arith, ap length are) in
-      let fits : 0 + length all ≤ length out = omega (arith, ap length same, ap length are, l) in
+      let fits : 0 + length all ≤ length before = omega (arith, ap length are, l) in
       record {
-        answer = rw (le-ltb (length before) (length needed) l) (ap entries (omega (arith, added .counted, ap length are, l)));
-        list-after = rw (le-ltb (length before) (length needed) l) (added .stored fits ∙ (sets-eq all out 0 fits ∙ rw (zero-add, same, are)));
+        answer = rw (le-ltb (length before) (length needed) l) (is ∙ ap entries (omega (arith, added .counted, ap length are, l)));
+        list-after = rw (le-ltb (length before) (length needed) l) (added .stored fits ∙ (sets-eq all before 0 fits ∙ rw (zero-add, are)));
       }
 
 -- ---- the checks

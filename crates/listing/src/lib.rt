@@ -55,14 +55,13 @@ fn list_between(table: &[u8], first: usize, last: usize, out: &mut [u16]) -> Lis
     let columns = columns_of(table, first, last);
     let links = cycle_paths::link(&columns.left, first, last);
     let room = out.len();
-    let needed = cycle_paths::list_rows(
+    let needed = cycle_counts::count_rows(
         &columns.left,
         &columns.entered,
         &links.next,
         &links.head,
         first,
         last,
-        &mut out[..0],
         room,
     );
     if needed > room {

@@ -1,9 +1,10 @@
--- `list_between` meets its contract: the entries are counted over no room, and stored if they fit.
+-- `list_between` meets its contract: the entries are counted, and stored if they fit.
 use borrow.Author.Needs.{needs}
+use mathlib.Core.Path.{refl}
 use native.Mathlib.Omega.{arith}
 use Rattle.listing.specs.Inner.Machines.{entriesBetween}
 use Rattle.listing.proofs.TableCycles.{left-in, entered-in, entries-are}
-use Rattle.listing.proofs.AnswerLaws.{nothing-before, too-short, enough}
+use Rattle.listing.proofs.AnswerLaws.{too-short, enough}
 use Rattle.listing.proofs.list_between.Statement.{statement}
 use Rattle.listing.proofs.list_between.Tie as tie
 
@@ -17,55 +18,42 @@ link-requires c κs =
     let columns = c .before .before .columns-of in
     left-in t (b .args .first) (b .args .last) (b .pre) (columns .result .left) (columns .result .entered) (columns .ensures)
 
-slice-relend-prefix-list-rows : tie.Need-slice-relend-prefix-list-rows
-slice-relend-prefix-list-rows c = search needs
-
-slice-aggregate-list-rows : tie.Need-slice-aggregate-list-rows
-slice-aggregate-list-rows c = search needs
-
-list-rows-requires : tie.Need-list-rows-requires
-list-rows-requires c κs =
-    let b = c .before .before .before .before .before .before .before .before .before .before .before .before .before in
+count-rows-requires : tie.Need-count-rows-requires
+count-rows-requires c κs =
+    let b = c .before .before .before .before .before .before .before .before .before .before .before .before in
     let t = b .args .table .now in
-    let columns = c .before .before .before .before .before .before .before .before .before .before .columns-of in
-    (left-in t (b .args .first) (b .args .last) (b .pre) (columns .result .left) (columns .result .entered) (columns .ensures), entered-in t (b .args .first) (b .args .last) (b .pre) (columns .result .left) (columns .result .entered) (columns .ensures), c .before .before .before .before .before .before .before .link .ensures, search needs, search needs)
+    let columns = c .before .before .before .before .before .before .before .before .before .columns-of in
+    (left-in t (b .args .first) (b .args .last) (b .pre) (columns .result .left) (columns .result .entered) (columns .ensures), entered-in t (b .args .first) (b .args .last) (b .pre) (columns .result .left) (columns .result .entered) (columns .ensures), c .before .before .before .before .before .before .link .ensures, search needs)
 
 refused-requires : tie.Need-refused-requires
 refused-requires c κs = search needs
 
+returns : tie.Need-returns
+returns c =
+    let b = c .before .before .before .before .before .before .before .before .before .before .before .before .before .before .before in
+    let t = b .args .table .now in
+    let columns = c .before .before .before .before .before .before .before .before .before .before .before .before .columns-of in
+    let pass = c .before .before .count-rows in
+    λ end. too-short _ (entriesBetween t (b .args .first) (b .args .last)) (b .args .out .now) (entries-are t (b .args .first) (b .args .last) (b .pre) (columns .result .left) (columns .result .entered) (columns .ensures)) (pass .result) (pass .ensures) end (omega (arith, c .before .if1 .taken)) (c .refused .result) (c .refused .ensures)
+
+list-rows-requires : tie.Need-list-rows-requires
+list-rows-requires c κs =
+    let b = c .before .before .before .before .before .before .before .before .before .before .before .before .before .before .before .before .before .before .before .before .before in
+    let t = b .args .table .now in
+    let columns = c .before .before .before .before .before .before .before .before .before .before .before .before .before .before .before .before .before .before .columns-of in
+    (left-in t (b .args .first) (b .args .last) (b .pre) (columns .result .left) (columns .result .entered) (columns .ensures), entered-in t (b .args .first) (b .args .last) (b .pre) (columns .result .left) (columns .result .entered) (columns .ensures), c .before .before .before .before .before .before .before .before .before .before .before .before .before .before .before .link .ensures, search needs, search needs)
+
 same-length : tie.Need-same-length
 same-length c = search needs
 
-returns : tie.Need-returns
-returns c =
-    let b = c .before .before .before .before .before .before .before .before .before .before .before .before .before .before .before .before .before .before in
-    let t = b .args .table .now in
-    let columns = c .before .before .before .before .before .before .before .before .before .before .before .before .before .before .before .columns-of in
-    let before = b .args .out .now in
-    let pass = c .before .before .before .before .list-rows in
-    let kept = nothing-before (pass .last .1 .1 .1 .1 .1 .1 .0) before (c .before .before .before .out .given .0) in
-    λ end. too-short _ (entriesBetween t (b .args .first) (b .args .last)) before (entries-are t (b .args .first) (b .args .last) (b .pre) (columns .result .left) (columns .result .entered) (columns .ensures)) (pass .result) (pass .ensures .counted) end (omega (arith, c .before .if1 .taken)) (c .refused .result) (c .refused .ensures) _ kept
-
-list-rows-requires-2 : tie.Need-list-rows-requires-2
-list-rows-requires-2 c κs =
+returns-2 : tie.Need-returns-2
+returns-2 c =
     let b = c .before .before .before .before .before .before .before .before .before .before .before .before .before .before .before .before .before .before .before .before .before .before .before .before in
     let t = b .args .table .now in
     let columns = c .before .before .before .before .before .before .before .before .before .before .before .before .before .before .before .before .before .before .before .before .before .columns-of in
-    (left-in t (b .args .first) (b .args .last) (b .pre) (columns .result .left) (columns .result .entered) (columns .ensures), entered-in t (b .args .first) (b .args .last) (b .pre) (columns .result .left) (columns .result .entered) (columns .ensures), c .before .before .before .before .before .before .before .before .before .before .before .before .before .before .before .before .before .before .link .ensures, search needs, search needs)
-
-same-length-2 : tie.Need-same-length-2
-same-length-2 c = search needs
-
-returns-2 : tie.Need-returns-2
-returns-2 c =
-    let b = c .before .before .before .before .before .before .before .before .before .before .before .before .before .before .before .before .before .before .before .before .before .before .before .before .before .before .before in
-    let t = b .args .table .now in
-    let columns = c .before .before .before .before .before .before .before .before .before .before .before .before .before .before .before .before .before .before .before .before .before .before .before .before .columns-of in
-    let before = b .args .out .now in
-    let pass = c .before .before .before .before .before .before .before .before .before .before .before .before .before .list-rows in
-    let kept = nothing-before (pass .last .1 .1 .1 .1 .1 .1 .0) before (c .before .before .before .before .before .before .before .before .before .before .before .before .out .given .0) in
-    let second = c .before .before .list-rows2 in
-    λ end. enough _ (entriesBetween t (b .args .first) (b .args .last)) before (entries-are t (b .args .first) (b .args .last) (b .pre) (columns .result .left) (columns .result .entered) (columns .ensures)) (pass .result) (pass .ensures .counted) end (omega (arith, c .before .before .before .before .before .before .before .before .before .before .if1 .left)) _ kept (second .result) _ (second .ensures)
+    let pass = c .before .before .before .before .before .before .before .before .before .before .before .count-rows in
+    let second = c .before .before .list-rows in
+    λ end. enough _ (entriesBetween t (b .args .first) (b .args .last)) (b .args .out .now) (entries-are t (b .args .first) (b .args .last) (b .pre) (columns .result .left) (columns .result .entered) (columns .ensures)) (pass .result) (pass .ensures) end (omega (arith, c .before .before .before .before .before .before .before .before .before .before .if1 .left)) (second .result) _ (second .ensures) _ refl
 
 pub list-between-spec : {M : Type 1} → statement M
 list-between-spec =
@@ -73,12 +61,9 @@ list-between-spec =
     (tie.spec
     columns-of-requires
     link-requires
-    slice-relend-prefix-list-rows
-    slice-aggregate-list-rows
-    list-rows-requires
+    count-rows-requires
     refused-requires
-    same-length
     returns
-    list-rows-requires-2
-    same-length-2
+    list-rows-requires
+    same-length
     returns-2)

@@ -1,0 +1,2 @@
+-- `Inner` is for the functions that count the entries of a listing.
+pub mod Inner
