@@ -1,7 +1,9 @@
 /* The five calls in plain C, with the best algorithms we know: what the proved calls are measured against.
  *
- * Nothing here is proved. Tables are filled in place and never cleared or copied; heights are relaxed in place in 32 bits;
- * states that were left are bits of a word; the price class is a count of leading zeros. */
+ * Nothing here is proved. Tables are filled in place and never copied, and but for the numbers of rows between states never
+ * cleared; heights are relaxed in place in 32 bits; states that were left are bits of a word; the price class is a count of
+ * leading zeros. */
+#include <string.h>
 #include "peer.h"
 
 #define INLINE static inline __attribute__((always_inline))
@@ -286,6 +288,7 @@ hemtaluq_quote_answer peer_quote(const uint8_t *file, size_t length, const uint1
 struct listing {
     uint8_t begin[25], entered[48], number[48];
     uint32_t into[24]; /* for each state the states with a row to it */
+    uint8_t between[24][24]; /* how many rows lead from one state to another */
     unsigned start;
     unsigned path[24];
     unsigned first;
@@ -310,6 +313,7 @@ INLINE uint32_t after_leaving(const struct listing *l, unsigned state, uint32_t 
     return l->into[state] & ~marks ? without_dead_ends(l, marks) : marks;
 }
 
+/* Where all states are marked only rows to the start go on, and their number is known. */
 static void count_from(struct listing *l, unsigned state, uint32_t marks, unsigned depth) {
     for (unsigned i = l->begin[state]; i < l->begin[state + 1]; i++) {
         unsigned entered = l->entered[i];
@@ -317,7 +321,9 @@ static void count_from(struct listing *l, unsigned state, uint32_t marks, unsign
             l->used += depth + 2;
             if (l->used > l->limit) return;
         } else if (!(marks >> entered & 1)) {
-            count_from(l, entered, after_leaving(l, entered, marks), depth + 1);
+            uint32_t after = after_leaving(l, entered, marks);
+            if (after == 0xffffff) l->used += l->between[entered][l->start] * (depth + 3);
+            else count_from(l, entered, after, depth + 1);
             if (l->used > l->limit) return;
         }
     }
@@ -381,10 +387,12 @@ hemtaluq_list_answer peer_list(const uint8_t *file, size_t length, uint32_t mach
     for (unsigned s = 0; s < states; s++) {
         l.begin[s] = (uint8_t)i;
         l.into[s] = 0;
+        memset(l.between[s], 0, states);
         for (unsigned k = first; k < last; k++)
             if (t.entered[k] == s) l.into[s] |= 1u << t.left[k];
         for (unsigned k = first; k < last; k++)
             if (t.left[k] == s) {
+                l.between[s][t.entered[k]]++;
                 l.entered[i] = t.entered[k];
                 l.number[i++] = (uint8_t)(k - first);
             }
