@@ -1,4 +1,5 @@
 """The page docs/benchmarks.md, from what bench/run measured. A cause is printed only where its goal is missed."""
+import textwrap
 
 # Why a goal is missed: for keys of bench/run that begin with the first word. The evidence is from `perf` and from the machine
 # code (`objdump -d dist/libhemtaluq.a`) of the library at the time of writing; look again when the crates have changed.
@@ -191,9 +192,23 @@ The stack was painted, the call was run on it, and the deepest byte that changed
 """
 
 
+def folded(text):
+    """Paragraphs and items in lines of at most 120 characters; headings, tables and commands as they are."""
+    lines = []
+    for part in text.split('\n\n'):
+        first = part.lstrip('\n')
+        if first.startswith(('|', '#', '    ')):
+            lines.append(part)
+        elif first.startswith('- '):
+            lines.append('\n'.join(textwrap.fill(item, 120, subsequent_indent='  ', break_long_words=False, break_on_hyphens=False) for item in first.split('\n')))
+        else:
+            lines.append(textwrap.fill(' '.join(part.split()), 120, break_long_words=False, break_on_hyphens=False))
+    return '\n\n'.join(lines).rstrip('\n') + '\n'
+
+
 def page(found):
-    return PAGE.format(
+    return folded(PAGE.format(
         fast=found['reps'][0], slow=found['reps'][1], gcc=found['gcc'], spin=found['spin'], glpsol=found['glpsol'].split(',')[0],
         cases='{:,}'.format(found['cases']), calls=calls_table(found), causes=causes(found), runs=RUNS, floors=floors_table(found), tools=tools_table(found), tool_goals=tool_goals(found),
         capacities=', '.join('%s: %d' % (r['name'], r['capacity']) for r in found['tools']),
-        growth=growth_table(found), stack=stack_table(found), sizes=sizes_table(found))
+        growth=growth_table(found), stack=stack_table(found), sizes=sizes_table(found)))
