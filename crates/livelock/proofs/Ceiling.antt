@@ -12,7 +12,7 @@ use Rattle.livelock.specs.Runs.{Configuration, Event, row, loss, present
 use Rattle.livelock.specs.Runs.{isQuietRow, isProgressRow, quietRows, progressRows}
 use Rattle.livelock.specs.Cycles.{leaves, enters}
 use Rattle.livelock.specs.Weights.{weight, Passes}
-use Rattle.livelock.specs.Figures.{mostStates, largestWeight, base, perProgress, contentsWeight}
+use Rattle.livelock.specs.Figures.{mostStates, largestWeight, base, perProgress, contentsWeight, Bounded}
 use Rattle.livelock.proofs.ListLaws.{all-always}
 use Rattle.livelock.proofs.SumLaws.{sum-mono, sum-times, sum-update}
 use Rattle.livelock.proofs.Tests.{both-iff, less-iff, equal-iff}
@@ -161,6 +161,5 @@ module _ (P : Plant) (wf : WellFormed P) (ws : List ℕ) (ok : Passes P ws) wher
 
 -- Demand 3. Take any plant whose weights pass. For every list of events, rows and losses, those that cannot happen included,
 -- from any states and any contents, the quiet rows that happen number at most F + n × W + G × g.
-pub ceiling : (P : Plant) → WellFormed P → (weights : List ℕ) → Passes P weights → (c : Configuration) (events : List Event)
-    → quietRows P c events ≤ base P weights + mostStates P * contentsWeight P weights (c .content) + perProgress P weights * progressRows P c events
+pub ceiling : (P : Plant) → WellFormed P → (weights : List ℕ) → Passes P weights → Bounded P weights
 ceiling P wf ws ok c es = omega (arith, all-steps P wf ws ok c es, opening P wf ws ok c)

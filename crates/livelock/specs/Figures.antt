@@ -1,8 +1,9 @@
--- The figures F, n and G of demand 3, and the ceiling (document 01, "Quoting").
+-- The figures F, n and G of demand 3, the ceiling (document 01, "Quoting") and the bound.
 use mathlib.Core.List.{List}
-use Prim.Native.Nat.{ℕ, _+_, _-_, _*_}
+use Prim.Native.Nat.{ℕ, _+_, _-_, _*_, _≤_}
 use Rattle.livelock.specs.Lists.{below, sum, greatest}
 use Rattle.livelock.specs.Plants.{Plant, machineCount, stateCount}
+use Rattle.livelock.specs.Runs.{Configuration, Event, quietRows, progressRows}
 use Rattle.livelock.specs.Weights.{weight}
 
 -- "S sums each machine's states less one".
@@ -32,3 +33,7 @@ contentsWeight P ws content = sum (λ t. weight ws t * content t) (below (P .typ
 -- "the ceiling is F + n × W + G × g, W being the sum of weight times content".
 abbrev pub ceilingOf : Plant → List ℕ → (ℕ → ℕ) → ℕ → ℕ
 ceilingOf P ws content g = base P ws + mostStates P * contentsWeight P ws content + perProgress P ws * g
+
+-- Demand 3: "the quiet rows that happen number at most F + n × W + G × g", for every list of events, from any states and any contents.
+abbrev pub Bounded : Plant → List ℕ → Type 0
+Bounded P ws = (c : Configuration) (events : List Event) → quietRows P c events ≤ ceilingOf P ws (c .content) (progressRows P c events)

@@ -2,11 +2,10 @@
 use mathlib.Core.Path.{_≡_}
 use mathlib.Core.Logic.{_⊎_}
 use mathlib.Core.List.{List}
-use Prim.Native.Nat.{ℕ, _+_, _*_, _≤_}
+use Prim.Native.Nat.{ℕ}
 use Rattle.livelock.specs.Plants.{Plant}
-use Rattle.livelock.specs.Runs.{Configuration, Event, quietRows, progressRows}
 use Rattle.livelock.specs.Weights.{Passes, FailingCycle}
-use Rattle.livelock.specs.Figures.{mostStates, base, perProgress, contentsWeight}
+use Rattle.livelock.specs.Figures.{Bounded}
 use Rattle.livelock.specs.CycleSets.{Entry, Balanced}
 use Rattle.livelock.proofs.Decision.{decision}
 use Rattle.livelock.proofs.Ceiling.{ceiling}
@@ -17,8 +16,7 @@ use Rattle.plant.proofs.FileBounds.{within-limits}
 
 module _ (file : List ℕ) (p : Plant) (end : ℕ) (reads : readPlant file ≡ found p end) (weights : List ℕ) where
   -- Demand 3 for the plant of a file.
-  pub file-ceiling : Passes p weights → (c : Configuration) (events : List Event)
-      → quietRows p c events ≤ base p weights + mostStates p * contentsWeight p weights (c .content) + perProgress p weights * progressRows p c events
+  pub file-ceiling : Passes p weights → Bounded p weights
   file-ceiling = ceiling p (within-limits file p end reads .formed) weights
 
   -- Demand 2 for the plant of a file.

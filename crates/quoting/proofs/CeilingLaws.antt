@@ -9,14 +9,14 @@ use Rattle.livelock.specs.Lists.{below, sum, greatest}
 use Rattle.livelock.specs.Plants.{Plant}
 use Rattle.livelock.specs.Runs.{Configuration}
 use Rattle.livelock.specs.Weights.{weight, Passes}
-use Rattle.livelock.specs.Figures.{mostStates, perProgress, contentsWeight}
+use Rattle.livelock.specs.Figures.{mostStates, perProgress, contentsWeight, Bounded}
 use Rattle.livelock.specs.Cycles.{RowOf}
 use Rattle.livelock.proofs.ListLaws.{all-below, all-at}
 use Rattle.livelock.proofs.SumLaws.{sum-equal}
 use Rattle.plant.specs.Found.{found, andThen}
 use Rattle.plant.specs.Limits.{WithinLimits}
 use Rattle.plant.specs.Reading.{byteAt, byteThat, byteIn, readRows, rowsByte, readMachine, readMachines, readPlant}
-use Rattle.weighing.specs.Weighing.{firstAbove, checkedSizes, checkedWeights, judgedWeights, Bounded}
+use Rattle.weighing.specs.Weighing.{firstAbove, checkedSizes, checkedWeights, judgedWeights}
 use Rattle.figures.proofs.FigureLaws.{most-limit, base-limit, per-progress-limit}
 use Rattle.weighing.proofs.WeighingLaws.{then-then, then-found, judged-weights}
 use Rattle.quoting.specs.Classes.{edges, classOf}

@@ -6,9 +6,8 @@ use Prim.Native.Nat.{ℕ, suc, _≤_}
 use lib.ListN.{length, drop}
 use lib.Dec.{eqb, ltb}
 use Rattle.livelock.specs.Plants.{Plant}
-use Rattle.livelock.specs.Runs.{Configuration, Event, quietRows, progressRows}
 use Rattle.livelock.specs.Weights.{Passes, FailingCycle}
-use Rattle.livelock.specs.Figures.{base, mostStates, perProgress, ceilingOf}
+use Rattle.livelock.specs.Figures.{base, mostStates, perProgress, Bounded}
 use Rattle.plant.specs.Found.{Found, found, fault, andThen}
 use Rattle.plant.specs.Reading.{readPlant}
 use Rattle.weighing.specs.Answers.{Answer, passed, cycle, refused, Judgement, passing, failing, refusing}
@@ -41,10 +40,6 @@ checked ws room P end = andThen (checkedWeights ws P end) (checkedRoom room)
 -- "File first, then downward as each call reads its parts; weighing checks 9, 10, 11": the plant to weigh, or the fault.
 abbrev pub judged : List ℕ → List ℕ → ℕ → Found Plant
 judged file ws room = andThen (readPlant file) (checked ws room)
-
--- Demand 3: "the quiet rows that happen number at most F + n × W + G × g", for every list of events, from any states and any contents.
-abbrev pub Bounded : Plant → List ℕ → Type 0
-Bounded P ws = (c : Configuration) (events : List Event) → quietRows P c events ≤ ceilingOf P ws (c .content) (progressRows P c events)
 
 -- "Passing hands back F, n and G as in the mission"; "On passing, the whole list does" keep its contents; and the bound holds.
 pub record OnPassing (P : Plant) (ws before after : List ℕ) (a : Answer) : Type 0 where
