@@ -36,6 +36,12 @@ abbrev pub added : (ℕ → ℕ) → Option ℕ → ℕ → ℕ
 added content none = content
 added content (some t) = update content t (content t + 1)
 
+-- "a type that is present": one of the plant's, with at least one message.
+abbrev pub typePresent : Plant → Configuration → ℕ → Bool
+typePresent P c t =
+    ltb t (P .types)
+    && present (c .content) (some t)
+
 -- "A row can happen when its machine is in the state left and, if it takes a type, at least one message of that type is present
 -- anywhere"; a loss, when its type "is present"; and neither, when the plant lacks the row or type.
 unfoldable pub canHappen : Plant → Configuration → Event → Bool
@@ -43,9 +49,7 @@ canHappen P c (row k) =
     ltb k (rowCount P)
     && (eqb (c .state (rowAt P k .machine)) (rowAt P k .left)
     && present (c .content) (rowAt P k .taken))
-canHappen P c (loss t) =
-    ltb t (P .types)
-    && present (c .content) (some t)
+canHappen P c (loss t) = typePresent P c t
 
 -- "The row moves its machine and adds or removes its one message." "A loss removes one message of a type that is present."
 unfoldable pub changed : Plant → Configuration → Event → Configuration
