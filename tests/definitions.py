@@ -161,7 +161,7 @@ def signed(z):
 
 
 def option(x):
-    return 'none' if x is None else 'some %d' % x
+    return 'none' if x is None else '(some %d)' % x
 
 
 def truth(b):
@@ -170,7 +170,7 @@ def truth(b):
 
 def plant_text(plant):
     rows = ''.join(
-        'record { machine = %d; left = %d; entered = %d; sent = %s; taken = %s; progress = %s } ∷ '
+        'rowWith %d %d %d %s %s %s ∷ '
         % (r.machine, r.left, r.entered, option(r.sent), option(r.taken), truth(r.progress)) for r in plant.rows)
     return 'record { types = %d; states = %s; rows = %s[] }' % (plant.types, numbers(plant.states), rows)
 
@@ -187,7 +187,7 @@ use Prim.Native.Nat.{ℕ}
 use lib.ListN.{getD}
 use lib.IntN.{ℤ, pos, negsuc}
 use Rattle.livelock.specs.Lists.{below, sum, sumℤ, greatest}
-use Rattle.livelock.specs.Plants.{Plant, hasProgress}
+use Rattle.livelock.specs.Plants.{Plant, rowWith, hasProgress}
 use Rattle.livelock.specs.Runs.{Configuration, Event, row, loss, canHappen, changed, after, afterAll, run}
 use Rattle.livelock.specs.Runs.{isQuietRow, isProgressRow, quietRows, progressRows}
 use Rattle.livelock.specs.Weights.{cycleWeight}

@@ -11,7 +11,7 @@ use lib.IntN.{pos, negsuc}
 use lib.Signed.{_≤ℤ_, leZ-yes}
 use lib.Dec.{lit<}
 use Rattle.livelock.specs.Lists.{below, sum, sumℤ, greatest, All, Distinct}
-use Rattle.livelock.specs.Plants.{Plant, hasProgress}
+use Rattle.livelock.specs.Plants.{Plant, rowWith, hasProgress}
 use Rattle.livelock.specs.Runs.{Configuration, Event, row, loss, canHappen, changed, after, afterAll, run}
 use Rattle.livelock.specs.Runs.{isQuietRow, isProgressRow, quietRows, progressRows}
 use Rattle.livelock.specs.Cycles.{Walk, SimpleCycle, Quiet}
@@ -28,10 +28,10 @@ panelAndProbe mark =
       types = 2;
       states = 2 ∷ 2 ∷ [];
       rows =
-          record { machine = 0; left = 0; entered = 1; sent = some 0; taken = none; progress = false }
-          ∷ record { machine = 0; left = 1; entered = 0; sent = none; taken = some 1; progress = mark }
-          ∷ record { machine = 1; left = 0; entered = 1; sent = none; taken = some 0; progress = false }
-          ∷ record { machine = 1; left = 1; entered = 0; sent = some 1; taken = none; progress = false }
+          rowWith 0 0 1 (some 0) none false
+          ∷ rowWith 0 1 0 none (some 1) mark
+          ∷ rowWith 1 0 1 none (some 0) false
+          ∷ rowWith 1 1 0 (some 1) none false
           ∷ [];
     }
 
@@ -229,8 +229,8 @@ tight =
       types = 1;
       states = 1 ∷ [];
       rows =
-          record { machine = 0; left = 0; entered = 0; sent = none; taken = some 0; progress = false }
-          ∷ record { machine = 0; left = 0; entered = 0; sent = some 0; taken = none; progress = true }
+          rowWith 0 0 0 none (some 0) false
+          ∷ rowWith 0 0 0 (some 0) none true
           ∷ [];
     }
 

@@ -22,9 +22,14 @@ pub record Plant : Type 0 where
   pub states : List ℕ
   pub rows : List Row
 
+-- A row written out, as it stands in examples: its machine, the states left and entered, the types sent and taken, and whether it has progress.
+abbrev pub rowWith : (machine left entered : ℕ) → (sent taken : Option ℕ) → (progress : Bool) → Row
+rowWith machine left entered sent taken progress =
+    record { machine = machine; left = left; entered = entered; sent = sent; taken = taken; progress = progress }
+
 -- What `rowAt` gives for a number that the plant lacks. Runs and cycles have only rows of the plant, so no promise speaks of it.
 abbrev pub noRow : Row
-noRow = record { machine = 0; left = 0; entered = 0; sent = none; taken = none; progress = false }
+noRow = rowWith 0 0 0 none none false
 
 -- A row "given by its number".
 abbrev pub rowAt : Plant → ℕ → Row

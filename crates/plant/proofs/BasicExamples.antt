@@ -5,6 +5,7 @@ use mathlib.Core.Option.{none}
 use mathlib.Core.List.{List, [], _∷_, _++_}
 use Prim.Native.Nat.{ℕ}
 use lib.ListN.{replicate}
+use Rattle.livelock.specs.Plants.{rowWith}
 use Rattle.livelock.proofs.BasicExamples.{panelAndProbe, plantA, plantB}
 use Rattle.plant.specs.Found.{found, fault}
 use Rattle.plant.specs.Reading.{byteAt, byteThat, byteIn, mapByte, stateField, typeField, readRow, readRows, rowsByte, readMachine, readMachines, readPlant}
@@ -147,7 +148,7 @@ unfolding byteAt byteThat byteIn mapByte stateField typeField readRow readRows r
 most-machines = refl
 
 -- One state and the row 00: it leaves and enters state 0.
-one-row : readPlant (0x01 ∷ 0x00 ∷ 0x01 ∷ 0x01 ∷ 0x00 ∷ []) ≡ found (record { types = 0; states = 1 ∷ []; rows = record { machine = 0; left = 0; entered = 0; sent = none; taken = none; progress = false } ∷ [] }) 5
+one-row : readPlant (0x01 ∷ 0x00 ∷ 0x01 ∷ 0x01 ∷ 0x00 ∷ []) ≡ found (record { types = 0; states = 1 ∷ []; rows = rowWith 0 0 0 none none false ∷ [] }) 5
 unfolding byteAt byteThat byteIn mapByte stateField typeField readRow readRows rowsByte readMachine readMachines readPlant
 one-row = refl
 
@@ -159,10 +160,10 @@ implied-states : readPlant (0x02 ∷ 0x00 ∷ 0x03 ∷ 0x03 ∷ 0x03 ∷ 0x01 �
       types = 0;
       states = 3 ∷ 3 ∷ [];
       rows =
-          record { machine = 0; left = 1; entered = 2; sent = none; taken = none; progress = false }
-          ∷ record { machine = 0; left = 1; entered = 0; sent = none; taken = none; progress = false }
-          ∷ record { machine = 0; left = 2; entered = 2; sent = none; taken = none; progress = true }
-          ∷ record { machine = 1; left = 0; entered = 2; sent = none; taken = none; progress = false }
+          rowWith 0 1 2 none none false
+          ∷ rowWith 0 1 0 none none false
+          ∷ rowWith 0 2 2 none none true
+          ∷ rowWith 1 0 2 none none false
           ∷ [];
     })
     15

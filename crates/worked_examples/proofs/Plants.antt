@@ -7,7 +7,7 @@ use Prim.Native.Nat.{ℕ}
 use lib.Dec.{lit<}
 use lib.Signed.{leZ-yes}
 use Rattle.livelock.specs.Lists.{below, sum, sumℤ, greatest, All, Distinct}
-use Rattle.livelock.specs.Plants.{Plant, hasProgress}
+use Rattle.livelock.specs.Plants.{Plant, rowWith, hasProgress}
 use Rattle.livelock.specs.Cycles.{Walk, SimpleCycle, Quiet}
 use Rattle.livelock.specs.Weights.{cycleWeight, Passes, FailingCycle}
 use Rattle.livelock.specs.Tests.{every}
@@ -30,7 +30,7 @@ rowPlant mark =
     record {
       types = 0;
       states = 1 ∷ [];
-      rows = record { machine = 0; left = 0; entered = 0; sent = none; taken = none; progress = mark } ∷ [];
+      rows = rowWith 0 0 0 none none mark ∷ [];
     }
 
 -- ---- reading

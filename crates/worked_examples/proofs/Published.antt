@@ -6,7 +6,7 @@ use mathlib.Core.List.{List, [], _∷_, _++_}
 use Prim.Native.Nat.{ℕ}
 use native.Mathlib.Nat.{le-refl}
 use Rattle.livelock.specs.Lists.{below, sum, sumℤ, greatest}
-use Rattle.livelock.specs.Plants.{Row, Plant, hasProgress}
+use Rattle.livelock.specs.Plants.{Row, Plant, rowWith, hasProgress}
 use Rattle.livelock.specs.Weights.{Passes}
 use Rattle.livelock.specs.CycleSets.{setEffect}
 use Rattle.livelock.specs.Tests.{every, isWalk, isDistinct}
@@ -28,14 +28,14 @@ use Rattle.worked_examples.proofs.AnswerLaws.{figures-owed}
 -- The rows of the clients, machines 0 and 1. Types 0 to 2 are client 0's request, acknowledgement and release, types 3 to 5 are client 1's.
 unfoldable clientRows : List Row
 clientRows =
-    record { machine = 0; left = 0; entered = 1; sent = some 0; taken = none; progress = false }
-    ∷ record { machine = 0; left = 1; entered = 2; sent = none; taken = some 1; progress = false }
-    ∷ record { machine = 0; left = 2; entered = 3; sent = none; taken = none; progress = true }
-    ∷ record { machine = 0; left = 3; entered = 0; sent = some 2; taken = none; progress = false }
-    ∷ record { machine = 1; left = 0; entered = 1; sent = some 3; taken = none; progress = false }
-    ∷ record { machine = 1; left = 1; entered = 2; sent = none; taken = some 4; progress = false }
-    ∷ record { machine = 1; left = 2; entered = 3; sent = none; taken = none; progress = false }
-    ∷ record { machine = 1; left = 3; entered = 0; sent = some 5; taken = none; progress = false }
+    rowWith 0 0 1 (some 0) none false
+    ∷ rowWith 0 1 2 none (some 1) false
+    ∷ rowWith 0 2 3 none none true
+    ∷ rowWith 0 3 0 (some 2) none false
+    ∷ rowWith 1 0 1 (some 3) none false
+    ∷ rowWith 1 1 2 none (some 4) false
+    ∷ rowWith 1 2 3 none none false
+    ∷ rowWith 1 3 0 (some 5) none false
     ∷ []
 
 -- The plant with a server of so many states and these rows, machine 2.
@@ -46,24 +46,24 @@ served states server = record { types = 6; states = 4 ∷ 4 ∷ states ∷ []; r
 unfoldable choosing : Plant
 choosing =
     served 5
-    (record { machine = 2; left = 0; entered = 1; sent = none; taken = some 0; progress = false }
-    ∷ record { machine = 2; left = 1; entered = 2; sent = some 1; taken = none; progress = false }
-    ∷ record { machine = 2; left = 2; entered = 0; sent = none; taken = some 2; progress = false }
-    ∷ record { machine = 2; left = 0; entered = 3; sent = none; taken = some 3; progress = false }
-    ∷ record { machine = 2; left = 3; entered = 4; sent = some 4; taken = none; progress = false }
-    ∷ record { machine = 2; left = 4; entered = 0; sent = none; taken = some 5; progress = false }
+    (rowWith 2 0 1 none (some 0) false
+    ∷ rowWith 2 1 2 (some 1) none false
+    ∷ rowWith 2 2 0 none (some 2) false
+    ∷ rowWith 2 0 3 none (some 3) false
+    ∷ rowWith 2 3 4 (some 4) none false
+    ∷ rowWith 2 4 0 none (some 5) false
     ∷ [])
 
 -- The server that serves the clients in turn.
 unfoldable inTurn : Plant
 inTurn =
     served 6
-    (record { machine = 2; left = 0; entered = 1; sent = none; taken = some 0; progress = false }
-    ∷ record { machine = 2; left = 1; entered = 2; sent = some 1; taken = none; progress = false }
-    ∷ record { machine = 2; left = 2; entered = 3; sent = none; taken = some 2; progress = false }
-    ∷ record { machine = 2; left = 3; entered = 4; sent = none; taken = some 3; progress = false }
-    ∷ record { machine = 2; left = 4; entered = 5; sent = some 4; taken = none; progress = false }
-    ∷ record { machine = 2; left = 5; entered = 0; sent = none; taken = some 5; progress = false }
+    (rowWith 2 0 1 none (some 0) false
+    ∷ rowWith 2 1 2 (some 1) none false
+    ∷ rowWith 2 2 3 none (some 2) false
+    ∷ rowWith 2 3 4 none (some 3) false
+    ∷ rowWith 2 4 5 (some 4) none false
+    ∷ rowWith 2 5 0 none (some 5) false
     ∷ [])
 
 reads-choosing : readPlant twoClients ≡ found choosing 59
