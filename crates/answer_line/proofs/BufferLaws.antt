@@ -11,6 +11,7 @@ use lib.Dec.{eqb}
 use Rattle.livelock.specs.Plants.{Plant}
 use Rattle.plant.specs.Found.{Found, found, fault, andThen}
 use Rattle.plant.specs.Reading.{readPlant}
+use Rattle.plant.specs.Limits.{longestFile}
 use Rattle.plant.proofs.FileBounds.{within-limits}
 use Rattle.plant.proofs.FirstBytes.{first-bytes}
 use Rattle.weighing.specs.Answers.{Answer}
@@ -19,9 +20,9 @@ use Rattle.answer_line.specs.Files.{weightsOf, checkedBytes, judgedFiles
 use Rattle.answer_line.proofs.WeightLaws.{weights-length}
 use Rattle.answer_line.proofs.OwedLaws.{too-many, any-weights, both-refused, odd-checked, even-checked}
 
--- No more than the first 4,131 bytes of a plant file matter.
-pub same-plant : (s : List ℕ) (n : ℕ) → 4131 ≤ n → readPlant (take n s) ≡ readPlant s
-same-plant s n h = first-bytes (take n s) ∙ ap readPlant (take-take 4131 n s h) ∙ sym (first-bytes s)
+-- No more bytes of a plant file matter than those of the longest file and one more.
+pub same-plant : (s : List ℕ) (n : ℕ) → longestFile < n → readPlant (take n s) ≡ readPlant s
+same-plant s n h = first-bytes (take n s) ∙ ap readPlant (take-take (longestFile + 1) n s h) ∙ sym (first-bytes s)
 
 -- A weights file of 130 bytes or more has more weights than a plant has types, or an odd length.
 long-refused : (weights : List ℕ) (P : Plant) (end : ℕ) → P .types ≤ 64 → 130 ≤ length weights → checkedBytes weights P end ≡ fault 9 0
@@ -42,8 +43,8 @@ module _ (weights before after : List ℕ) (a : Answer) (k : ℕ) (room : 130 �
       owed
   part-refused (fault number place) few owed = any-weights owed
 
--- So the line of the two parts is the line of the two files, if the buffers hold 4,131 and 130 bytes.
-pub same-line : (plant weights line : List ℕ) (n k : ℕ) → 4131 ≤ n → 130 ≤ k → Printed (take n plant) (take k weights) line → Printed plant weights line
+-- So the line of the two parts is the line of the two files, if the buffers hold more bytes than the longest file has, and 130.
+pub same-line : (plant weights line : List ℕ) (n k : ℕ) → longestFile < n → 130 ≤ k → Printed (take n plant) (take k weights) line → Printed plant weights line
 same-line plant weights line n k h room p =
     record { answer = p .answer; after = p .after; owed = go (decLe (length weights) k); line-is = p .line-is }
   where
@@ -61,7 +62,7 @@ same-line plant weights line n k h room p =
         part-refused weights (replicate 64 0) (p .after) (p .answer) k room (omega arith) (readPlant plant) (λ P end e. within-limits plant P end e .few-types) part
 
 -- The line of what two buffers of so many bytes hold is that of the two files.
-pub held-line : (plant weights line : List ℕ) (n m : ℕ) → 4131 ≤ length plant → 130 ≤ length weights → Printed (take n plant) (take m weights) line
+pub held-line : (plant weights line : List ℕ) (n m : ℕ) → longestFile < length plant → 130 ≤ length weights → Printed (take n plant) (take m weights) line
     → PrintedOf plant n weights m line
 held-line plant weights line n m long long′ p plantFile weightsFile holds holds′ =
     same-line plantFile weightsFile line (length plant) (length weights) long long′

@@ -1,10 +1,11 @@
 // The work of the program `ceiling`: reads its two files by name and prints one line. Each stored run is a program whose main calls it.
 ghost use mathlib.Core.Path.{_≡_};
-ghost use Prim.Native.Nat.{_≤_};
+ghost use Prim.Native.Nat.{_≤_, _<_};
 ghost use lib.ListN.{length};
 ghost use lib.IntN.{pos};
 ghost use lib.Signed.{_<ℤ_};
 ghost use Rattle.io.specs.Counts.{Counts};
+ghost use Rattle.plant.specs.Limits.{longestFile};
 ghost use Rattle.answer_line.specs.Files.{PrintedOf};
 use libc::STDERR_FILENO;
 use libc::STDOUT_FILENO;
@@ -43,10 +44,10 @@ fn write_owed(plant: &[u8], n: usize, weights: &[u8], m: usize, line: &[u8])
     }
 }
 
-// Prints the line for the two files, of which n and m bytes were read into the buffers. A plant has at most 4,130 bytes and its weights at most 128:
+// Prints the line for the two files, of which n and m bytes were read into the buffers. A plant has at most `longestFile` bytes and its weights at most 128:
 // longer files are refused by what the buffers hold of them, if that is one byte more than a plant has, and two more than its weights.
 fn print_line(plant: &[u8], n: usize, weights: &[u8], m: usize)
-    requires { ⌜ Counts n (now plant) × Counts m (now weights) × (4131 ≤ length (now plant)) × (130 ≤ length (now weights)) ⌝ }
+    requires { ⌜ Counts n (now plant) × Counts m (now weights) × (longestFile < length (now plant)) × (130 ≤ length (now weights)) ⌝ }
 {
     let mut line = [0u8; 512];
     let end = answer_line::write_line(&plant[..n], &weights[..m], &mut line);

@@ -14,7 +14,7 @@ use Rattle.livelock.proofs.Tests.{and-iff, both-iff, less-iff, at-most-iff}
 use Rattle.plant.specs.Found.{Found, found, fault, andThen}
 use Rattle.plant.specs.Reading.{byteAt, byteThat, inRange, byteIn, hasBit, isMap, mapByte, stateField, typeField, readRow}
 use Rattle.plant.specs.Reading.{withRow, readRows, rowsByte}
-use Rattle.plant.specs.Limits.{OneMessage, Placed, at-the-end, within}
+use Rattle.plant.specs.Limits.{mostRowBytes, OneMessage, Placed, at-the-end, within}
 
 -- P of a value and the offset after it, and of a fault that it is placed in a file of n bytes.
 pub data Each {A : Type 0} (P : A → ℕ → Type 0) (n : ℕ) : Found A → Type 0 where
@@ -142,7 +142,7 @@ one-bit false = omega arith
 
 -- A row takes at most four bytes of the file and is a row of the machine, with types of the plant.
 pub readRow-each : (s : List ℕ) (m states types implied at : ℕ) → implied < states → at ≤ length s
-    → Each (λ r next. Next (length s) (at + 4) next × RowIn m states types r) (length s) (readRow m states types implied s at)
+    → Each (λ r next. Next (length s) (at + mostRowBytes) next × RowIn m states types r) (length s) (readRow m states types implied s at)
 unfolding readRow
 readRow-each s m states types implied at hi l =
     each-then (mapByte-each s at) λ map a ha.
@@ -160,7 +160,7 @@ readRow-each s m states types implied at hi l =
 
 -- Rows keep what each row keeps. J speaks of the rows still to come, the offset and the plant so far.
 pub readRows-each : (s : List ℕ) (J : ℕ → ℕ → Plant → Type 0) (m states : ℕ)
-    → ((k at next : ℕ) (q : Plant) (r : Row) → J (suc k) at q → next ≤ at + 4 → RowIn m states (q .types) r → J k next (withRow q r))
+    → ((k at next : ℕ) (q : Plant) (r : Row) → J (suc k) at q → next ≤ at + mostRowBytes → RowIn m states (q .types) r → J k next (withRow q r))
     → (n implied at : ℕ) (p : Plant) → implied < states → at ≤ length s → J n at p
     → Each (λ q next. (next ≤ length s) × J 0 next q) (length s) (readRows n m states implied s at p)
 unfolding readRows

@@ -14,7 +14,7 @@ use Rattle.livelock.proofs.ListLaws.{all-append, all-weaken}
 use Rattle.livelock.proofs.SumLaws.{sum-append, sum-equal, sum-zero}
 use Rattle.plant.specs.Found.{Found, found, fault, movedBy}
 use Rattle.plant.specs.Reading.{withRow, withMachine, readMachine, readMachines, noMachines, readPlant}
-use Rattle.plant.specs.Limits.{Ascending, rowsOf, OneMessage, WithinLimits, Placed, at-the-end, within}
+use Rattle.plant.specs.Limits.{mostRowBytes, longestFile, Ascending, rowsOf, OneMessage, WithinLimits, Placed, at-the-end, within}
 use Rattle.plant.proofs.Bounds.{Each, got, stopped, each-found, each-fault, each-then, each-cond, byteIn-each, rowsByte-each, one-bit, RowIn, readRows-each}
 
 -- ---- the plant while it is read
@@ -28,15 +28,15 @@ pub record Formed (at : ℕ) (p : Plant) : Type 0 where
   pub formed : WellFormed p
   pub ascending : Ascending (p .rows)
   pub one-message : All OneMessage (p .rows)
-  pub bytes : at ≤ 2 + 2 * machineCount p + 4 * rowCount p
+  pub bytes : at ≤ 2 + 2 * machineCount p + mostRowBytes * rowCount p
 
 -- The plant while the rows of its last machine are read, of which k are to come.
-record Growing (m states k at : ℕ) (p : Plant) : Type 0 where
-  so-far : Formed at p
-  last : machineCount p ≡ suc m
-  size : stateCount p m ≡ states
-  room : rowCount p + k ≤ 1024
-  own : rowsOf p m + k ≤ 255
+pub record Growing (m states k at : ℕ) (p : Plant) : Type 0 where
+  pub so-far : Formed at p
+  pub last : machineCount p ≡ suc m
+  pub size : stateCount p m ≡ states
+  pub room : rowCount p + k ≤ 1024
+  pub own : rowsOf p m + k ≤ 255
 
 ascending-snoc : (rs : List Row) (r : Row) → Ascending rs → All (λ q. q .machine ≤ r .machine) rs → Ascending (rs ++ (r ∷ []))
 unfolding Ascending All
@@ -48,7 +48,7 @@ unfolding sum
 rowsOf-snoc p r m = omega (arith, sum-append (λ (q : Row). cond (eqb (q .machine) m) 1 0) (p .rows) (r ∷ []))
 
 -- A row more of the last machine.
-with-row : (m states k at next : ℕ) (p : Plant) (r : Row) → Growing m states (suc k) at p → next ≤ at + 4 → RowIn m states (p .types) r
+pub with-row : (m states k at next : ℕ) (p : Plant) (r : Row) → Growing m states (suc k) at p → next ≤ at + mostRowBytes → RowIn m states (p .types) r
     → Growing m states k next (withRow p r)
 unfolding All
 with-row m states k at next p r g l i =
@@ -109,7 +109,7 @@ no-rows-yet p f =
     ∙ sum-zero (p .rows)
 
 -- A machine more, with n rows to come.
-with-machine : (states n at next : ℕ) (p : Plant) → Formed at p → next ≤ at + 2 → (1 ≤ states) × (states ≤ 64) → (n ≤ 255) × (rowCount p + n ≤ 1024)
+pub with-machine : (states n at next : ℕ) (p : Plant) → Formed at p → next ≤ at + 2 → (1 ≤ states) × (states ≤ 64) → (n ≤ 255) × (rowCount p + n ≤ 1024)
     → Growing (machineCount p) states n next (withMachine p states)
 unfolding All
 with-machine states n at next p f l hs hn =
@@ -198,7 +198,7 @@ module _ (s : List ℕ) where
       }
 
   -- Every plant that a file reads as is within the limits, and was read to the end of the file, which is not far.
-  pub readPlant-each : Each (λ p next. WithinLimits p × (next ≡ length s) × (next ≤ 2 + 2 * machineCount p + 4 * rowCount p)) (length s) (readPlant s)
+  pub readPlant-each : Each (λ p next. WithinLimits p × (next ≡ length s) × (next ≤ 2 + 2 * machineCount p + mostRowBytes * rowCount p)) (length s) (readPlant s)
   unfolding readPlant
   readPlant-each =
       each-then (byteIn-each s 0 1 _ 2 (omega arith) (omega arith)) λ machines a ha.
@@ -227,11 +227,11 @@ module _ (s : List ℕ) where
   within-limits p end e = each-found p end readPlant-each e .0
 
   -- A plant file has two bytes, two for each machine and at most four for each row,
-  pub length-of-file : (p : Plant) (end : ℕ) → readPlant s ≡ found p end → length s ≤ 2 + 2 * machineCount p + 4 * rowCount p
+  pub length-of-file : (p : Plant) (end : ℕ) → readPlant s ≡ found p end → length s ≤ 2 + 2 * machineCount p + mostRowBytes * rowCount p
   length-of-file p end e = let h = each-found p end readPlant-each e in omega (arith, h .1, h .2)
 
-  -- so at most 2 + 16 × 2 + 1,024 × 4.
-  pub longest-file : (p : Plant) (end : ℕ) → readPlant s ≡ found p end → length s ≤ 4130
+  -- so at most as many as the longest file.
+  pub longest-file : (p : Plant) (end : ℕ) → readPlant s ≡ found p end → length s ≤ longestFile
   longest-file p end e = let h = within-limits p end e in omega (arith, length-of-file p end e, h .few-machines, h .rows-in-all)
 
   -- Every fault is placed in the file.

@@ -1,5 +1,4 @@
--- No more than the first 4,131 bytes of a file matter: a plant file has at most 2 + 16 × 2 + 1,024 × 4 = 4,130 bytes,
--- and whether there is one byte more decides about number 8.
+-- No more bytes of a file matter than those of the longest file and one more, which decides about number 8.
 use mathlib.Core.Path.{_≡_, refl, sym, _∙_, ap}
 use mathlib.Core.Bool.{Bool, true, false, cond}
 use mathlib.Core.List.{List}
@@ -13,6 +12,7 @@ use Rattle.livelock.specs.Plants.{Plant, rowCount, machineCount}
 use Rattle.plant.specs.Found.{Found, andThen, movedBy}
 use Rattle.plant.specs.Reading.{byteAt, byteThat, byteIn, hasBit, mapByte, stateField, typeField, readRow}
 use Rattle.plant.specs.Reading.{noMachines, withRow, withMachine, readRows, rowsByte, readMachine, readMachines, readPlant}
+use Rattle.plant.specs.Limits.{mostRowBytes, longestFile}
 use Rattle.plant.proofs.Bounds.{Each, got, stopped, byteIn-each, mapByte-each, rowsByte-each, stateField-each, typeField-each}
 use Rattle.plant.proofs.Bounds.{one-type, one-bit, readRow-each}
 use Rattle.plant.proofs.FileBounds.{Formed, Machines, readMachine-each, readMachines-each, no-machines}
@@ -67,7 +67,7 @@ module _ (s s′ : List ℕ) (N : ℕ) (g : Agree s s′ N) where
   typeField-same true types at l = rw (byteIn-same 0 types 6 at (omega arith))
   typeField-same false types at l = refl
 
-  readRow-same : (m states types implied at : ℕ) → implied < states → at + 4 ≤ N → readRow m states types implied s at ≡ readRow m states types implied s′ at
+  readRow-same : (m states types implied at : ℕ) → implied < states → at + mostRowBytes ≤ N → readRow m states types implied s at ≡ readRow m states types implied s′ at
   unfolding readRow
   readRow-same m states types implied at hi l =
       rw (← mapByte-same at (omega arith)) (same-then (mapByte-each s at) λ map a ha.
@@ -82,7 +82,7 @@ module _ (s s′ : List ℕ) (N : ℕ) (g : Agree s s′ N) where
       omega (arith, ha .0 .near, hb .0 .near, hc .0 .near, hd .0 .near, one-bit (hasBit map 1), one-bit (hasBit map 2), one-type map (ha .1)) in
       rw (typeField-same (hasBit map 8) types d l4) refl))))
 
-  readRows-same : (m states n implied at : ℕ) (p : Plant) → implied < states → at + 4 * n ≤ N → readRows n m states implied s at p ≡ readRows n m states implied s′ at p
+  readRows-same : (m states n implied at : ℕ) (p : Plant) → implied < states → at + mostRowBytes * n ≤ N → readRows n m states implied s at p ≡ readRows n m states implied s′ at p
   unfolding readRows
   readRows-same m states zero implied at p hi l = refl
   readRows-same m states (suc n) implied at p hi l =
@@ -92,13 +92,13 @@ module _ (s s′ : List ℕ) (N : ℕ) (g : Agree s s′ N) where
 
 -- ---- machines and the file
 
-module _ (s s′ : List ℕ) (N : ℕ) (g : Agree s s′ N) (enough : 4130 < N) where
+module _ (s s′ : List ℕ) (N : ℕ) (g : Agree s s′ N) (enough : longestFile < N) where
   readMachine-same : (at : ℕ) (p : Plant) → Formed at p → machineCount p < 16 → readMachine s at p ≡ readMachine s′ at p
   unfolding readMachine
   readMachine-same at p f few =
       rw (← byteIn-same s s′ N g 1 65 3 at (omega (arith, f .bytes, f .rows-in-all))) (same-then (byteIn-each s at 1 65 3 (omega arith) (omega arith)) λ states a ha.
       rw (← rowsByte-same s s′ N g (rowCount p) a (omega (arith, ha .0 .near, f .bytes, f .rows-in-all))) (same-then (rowsByte-each s a (rowCount p)) λ n b hb.
-      let l : b + 4 * n ≤ N = omega (arith, ha .0 .near, hb .0 .near, hb .1 .1, f .bytes) in
+      let l : b + mostRowBytes * n ≤ N = omega (arith, ha .0 .near, hb .0 .near, hb .1 .1, f .bytes) in
       ap (movedBy b)
       (readRows-same (drop b s) (drop b s′) (N - b) (agree-drop s s′ N b g (omega arith)) (machineCount p) states n 0 0 (withMachine p states) (ha .1 .0) (omega arith))))
 
@@ -120,13 +120,13 @@ module _ (s s′ : List ℕ) (N : ℕ) (g : Agree s s′ N) (enough : 4130 < N) 
       let l : end < N = omega (arith, h .1 .so-far .bytes, h .1 .so-far .rows-in-all, h .1 .number, ha .1 .1) in
       rw (lt-ltb end (length s) (omega (arith, g .long)), lt-ltb end (length s′) (omega (arith, g .long′))))))
 
--- A file reads as its first 4,131 bytes do.
-pub first-bytes : (s : List ℕ) → readPlant s ≡ readPlant (take 4131 s)
-first-bytes s = go (decLe (length s) 4131)
+-- A file reads as its first bytes do, one more than the longest file has.
+pub first-bytes : (s : List ℕ) → readPlant s ≡ readPlant (take (longestFile + 1) s)
+first-bytes s = go (decLe (length s) (longestFile + 1))
   where
-    go : Dec (length s ≤ 4131) → readPlant s ≡ readPlant (take 4131 s)
-    go (yes l) = ap readPlant (sym (take-all 4131 s l))
+    go : Dec (length s ≤ longestFile + 1) → readPlant s ≡ readPlant (take (longestFile + 1) s)
+    go (yes l) = ap readPlant (sym (take-all (longestFile + 1) s l))
     go (no l) =
-        readPlant-same s (take 4131 s) 4131
-        (record { long = omega arith; long′ = omega (arith, length-take 4131 s); same = λ i h. sym (getD-take 4131 s i 0 h) })
+        readPlant-same s (take (longestFile + 1) s) (longestFile + 1)
+        (record { long = omega arith; long′ = omega (arith, length-take (longestFile + 1) s); same = λ i h. sym (getD-take (longestFile + 1) s i 0 h) })
         (omega arith)

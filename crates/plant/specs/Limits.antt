@@ -3,10 +3,19 @@ use mathlib.Core.Path.{_≡_}
 use mathlib.Core.Logic.{_⊎_}
 use mathlib.Core.Option.{none}
 use mathlib.Core.List.{List, [], _∷_}
-use Prim.Native.Nat.{ℕ, _≤_, _<_}
+use Prim.Native.Nat.{ℕ, _+_, _*_, _≤_, _<_}
 use lib.Dec.{eqb}
 use Rattle.livelock.specs.Lists.{All, count}
 use Rattle.livelock.specs.Plants.{Row, Plant, rowCount, machineCount, WellFormed}
+
+-- "A row is a map byte, then one byte for each field whose bit stands": the most bytes of a row. The type sent and the type taken never
+-- stand together.
+abbrev pub mostRowBytes : ℕ
+mostRowBytes = 4
+
+-- Two counts, two bytes for each of 16 machines, and 1,024 rows: the most bytes of a file that reads.
+abbrev pub longestFile : ℕ
+longestFile = 2 + 2 * 16 + mostRowBytes * 1024
 
 -- "row numbers run through the whole file": rows stand in ascending order of their machines.
 unfoldable pub Ascending : List Row → Type 0
