@@ -13,9 +13,10 @@ use lib.IntN.{ℤ, pos, _-ℤ_}
 use Rattle.livelock.proofs.CycleWeights.{messageWeight}
 use Rattle.livelock.proofs.Differences.{difference-minus}
 use Rattle.deciding.specs.Signs.{rise, fall}
-use Rattle.livelock.specs.Plants.{Row}
+use Rattle.livelock.specs.Plants.{Row, hasProgress}
 use Rattle.tables.specs.Tables.{rowIn, rowOf}
 use Rattle.tables.specs.declared.TableRow.{TableRow}
+use Rattle.tables.proofs.RowLaws.{row-progress}
 use Rattle.edges.specs.Edges.{rowWeight, oneIfQuiet, EdgeOf, Edges, Has, Room, Listed, RowsBetween}
 use Rattle.deciding.specs.Rounds.{EdgesIn}
 use Rattle.deciding.proofs.SignLaws.{rise-at-most, fall-at-most}
@@ -45,7 +46,7 @@ all-listed t ws low k high e q h = subst (λ (x : ℕ). Listed t ws low x e) q h
 
 -- Row k is stored at the end of the list, and counted if it is quiet.
 module _ (t : List ℕ) (ws : List ℕ) (low k : ℕ) (e : Edges) (h : Listed t ws low k e) (from-low : low ≤ k) (room : k < low + 255)
-    (w : ℤ) (weighs : w ≡ rowWeight ws (rowIn t k)) (q : ℕ) (counted : q ≡ oneIfQuiet (rowIn t k .progress)) where
+    (w : ℤ) (weighs : w ≡ rowWeight ws (rowIn t k)) (q : ℕ) (counted : q ≡ oneIfQuiet (hasProgress (rowIn t k))) where
   -- The lists after the store, and the edges.
   from-after : List ℕ
   from-after = set (e .from) (e .count) (rowIn t k .left)
@@ -96,11 +97,11 @@ module _ (t : List ℕ) (ws : List ℕ) (low k : ℕ) (e : Edges) (h : Listed t 
       (wider (getD (e .row) i 0) (getD (e .from) i 0) (getD (e .to) i 0) (getD (e .weight) i (pos 0)) (h .each i b))
 
   -- row k, if it is quiet, is an edge,
-  this : rowIn t k .progress ≡ false → EdgeOf t ws low (k + 1) k (rowIn t k .left) (rowIn t k .entered) w
+  this : hasProgress (rowIn t k) ≡ false → EdgeOf t ws low (k + 1) k (rowIn t k .left) (rowIn t k .entered) w
   this quiet = record { from-low = from-low; below-high = omega arith; quiet = quiet; left = refl; entered = refl; weighs = weighs }
 
   -- and it stands behind them.
-  new : rowIn t k .progress ≡ false → EdgeAt (e .count)
+  new : hasProgress (rowIn t k) ≡ false → EdgeAt (e .count)
   unfolding from-after to-after weight-after row-after
   new quiet =
       rw (
@@ -112,18 +113,18 @@ module _ (t : List ℕ) (ws : List ℕ) (low k : ℕ) (e : Edges) (h : Listed t 
       (this quiet)
 
   -- There are no more edges than rows,
-  few-after : Counts q (rowIn t k .progress) → (e .count + q) + low ≤ k + 1
+  few-after : Counts q (hasProgress (rowIn t k)) → (e .count + q) + low ≤ k + 1
   few-after (inl c) = omega (arith, h .few, c .0)
   few-after (inr c) = omega (arith, h .few, c .0)
 
   -- each edge is a quiet row,
-  each-after : Counts q (rowIn t k .progress) → (i : ℕ) → i < e .count + q → Dec (i < e .count) → EdgeAt i
+  each-after : Counts q (hasProgress (rowIn t k)) → (i : ℕ) → i < e .count + q → Dec (i < e .count) → EdgeAt i
   each-after c i b (yes d) = old i d
   each-after (inl c) i b (no d) = subst EdgeAt (omega (arith, c .0)) (new (c .1))
   each-after (inr c) i b (no d) = absurd (omega (arith, c .0))
 
   -- and each quiet row is an edge.
-  every-after : Counts q (rowIn t k .progress) → (j : ℕ) → low ≤ j → j < k + 1 → rowIn t j .progress ≡ false → Dec (j < k) → Has edges-after j
+  every-after : Counts q (hasProgress (rowIn t k)) → (j : ℕ) → low ≤ j → j < k + 1 → hasProgress (rowIn t j) ≡ false → Dec (j < k) → Has edges-after j
   unfolding edges-after row-after
   every-after c j a b quiet (yes d) =
       let p = h .every j a d quiet in
@@ -134,7 +135,7 @@ module _ (t : List ℕ) (ws : List ℕ) (low k : ℕ) (e : Edges) (h : Listed t 
       record { place = e .count; within = omega (arith, c .0); is = getD-set-same (e .row) (e .count) k 0 (rw (h .room .row-room) in-room) ∙ same }
   every-after (inr c) j a b quiet (no d) =
       let same : j ≡ k = omega arith in
-      absurd (c .1 (subst (λ (x : ℕ). rowIn t x .progress ≡ false) same quiet))
+      absurd (c .1 (subst (λ (x : ℕ). hasProgress (rowIn t x) ≡ false) same quiet))
 
   -- So the edges are the quiet rows up to row k.
   next-listed : Listed t ws low (k + 1)
@@ -147,7 +148,7 @@ module _ (t : List ℕ) (ws : List ℕ) (low k : ℕ) (e : Edges) (h : Listed t 
       })
   unfolding edges-after from-after to-after weight-after row-after
   next-listed =
-      let c : Counts q (rowIn t k .progress) = rw counted (counts (rowIn t k .progress)) in
+      let c : Counts q (hasProgress (rowIn t k)) = rw counted (counts (hasProgress (rowIn t k))) in
       record {
         few = few-after c;
         room =
@@ -184,7 +185,7 @@ row-listed t ws low k e h from-low room r is w weighs q counted =
       row = set (e .row) (e .count) k;
     }))
     (sym is)
-    (next-listed t ws low k e h from-low room w (weighs ∙ ap (rowWeight ws) is) q (counted ∙ ap (λ (x : Row). oneIfQuiet (x .progress)) is))
+    (next-listed t ws low k e h from-low room w (weighs ∙ ap (rowWeight ws) is) q (counted ∙ ap oneIfQuiet (row-progress r ∙ ap hasProgress is)))
 
 -- ---- limits
 

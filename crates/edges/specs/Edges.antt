@@ -6,7 +6,7 @@ use Prim.Native.Nat.{ℕ, _+_, _≤_, _<_}
 use lib.ListN.{length, getD}
 use lib.IntN.{ℤ, pos, _-ℤ_}
 use Rattle.livelock.proofs.CycleWeights.{messageWeight}
-use Rattle.livelock.specs.Plants.{Row}
+use Rattle.livelock.specs.Plants.{Row, hasProgress}
 use Rattle.tables.specs.Tables.{rowIn, RoomFor}
 
 -- "weight sent less weight taken", of a row.
@@ -21,7 +21,7 @@ oneIfQuiet progress = cond progress 0 1
 pub record EdgeOf (t : List ℕ) (ws : List ℕ) (low high j a b : ℕ) (w : ℤ) : Type 0 where
   pub from-low : low ≤ j
   pub below-high : j < high
-  pub quiet : rowIn t j .progress ≡ false
+  pub quiet : hasProgress (rowIn t j) ≡ false
   pub left : a ≡ rowIn t j .left
   pub entered : b ≡ rowIn t j .entered
   pub weighs : w ≡ rowWeight ws (rowIn t j)
@@ -52,7 +52,7 @@ pub record Listed (t : List ℕ) (ws : List ℕ) (low high : ℕ) (e : Edges) : 
   pub few : e .count + low ≤ high
   pub room : Room (e .from) (e .to) (e .weight) (e .row)
   pub each : (i : ℕ) → i < e .count → EdgeOf t ws low high (getD (e .row) i 0) (getD (e .from) i 0) (getD (e .to) i 0) (getD (e .weight) i (pos 0))
-  pub every : (j : ℕ) → low ≤ j → j < high → rowIn t j .progress ≡ false → Has e j
+  pub every : (j : ℕ) → low ≤ j → j < high → hasProgress (rowIn t j) ≡ false → Has e j
 
 -- A machine's rows from `low` up to, and not including, `high`: at most 255, between so many states.
 pub record RowsBetween (t : List ℕ) (low high states : ℕ) : Type 0 where

@@ -188,14 +188,13 @@ module _ (shape : Shape) (table : List ℕ) (ready : Ready shape table) (limits 
   module _ (ws : List ℕ) (m : ℕ) (within : m < shape .machines) (e : Edges) (listed : Listed table ws (getD (shape .first) m 0) (getD (shape .first) (m + 1) 0) e) where
     -- Each edge is a quiet row of the machine,
     pub edge-row : (i : ℕ) → i < e .count → RowEdge (plantOf shape table) ws m (getD (e .row) i 0) (getD (e .from) i 0) (getD (e .to) i 0) (getD (e .weight) i (pos 0))
-    unfolding hasProgress
     edge-row i l =
         let x = listed .each i l in
         let j = getD (e .row) i 0 in
         let r = row-between m within j (x .from-low) (x .below-high) in
         let is = row-stored m within j r in
         record {
-          row = (r, ap (λ (r : Row). r .progress) is ∙ x .quiet);
+          row = (r, ap hasProgress is ∙ x .quiet);
           left = x .left ∙ sym (ap (λ (r : Row). r .left) is);
           entered = x .entered ∙ sym (ap (λ (r : Row). r .entered) is);
           weighs = rw is (x .weighs);
@@ -203,11 +202,10 @@ module _ (shape : Shape) (table : List ℕ) (ready : Ready shape table) (limits 
 
     -- and each of these is an edge.
     pub row-edge : (j : ℕ) → QuietRowOf (plantOf shape table) m j → Has e j
-    unfolding hasProgress
     row-edge j r =
         let between = row-of-machine (plantOf shape table) limits m j (r .0 .0) .0 (r .0 .1) in
         let is = row-stored m within j (r .0) in
-        listed .every j (omega (arith, between .0, low-is m within)) (omega (arith, between .1, high-is m within)) (sym (ap (λ (r : Row). r .progress) is) ∙ r .1)
+        listed .every j (omega (arith, between .0, low-is m within)) (omega (arith, between .1, high-is m within)) (sym (ap hasProgress is) ∙ r .1)
 
     -- Where every cycle of the edges is below zero, every quiet simple cycle of the machine is.
     pub machine-passes : AllBelowZero (graphOf e) → (c : List ℕ) → SimpleCycle (plantOf shape table) m c → Quiet (plantOf shape table) c → cycleWeight (plantOf shape table) ws c <ℤ pos 0

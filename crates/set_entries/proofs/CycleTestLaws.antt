@@ -41,9 +41,9 @@ marked seen s x l e q = false≢true (sym e ∙ rw (← q) (getD-set-same seen s
 
 -- The test of one row, in parts.
 goes-on-iff : (r : Row) (m s : ℕ) (seen : List Bool)
-    → (goesOn r m s seen ≡ true) ↔ ((r .machine ≡ m) × ((r .progress ≡ false) × ((r .left ≡ s) × (getD seen s false ≡ false))))
+    → (goesOn r m s seen ≡ true) ↔ ((r .machine ≡ m) × ((hasProgress r ≡ false) × ((r .left ≡ s) × (getD seen s false ≡ false))))
 goes-on-iff r m s seen =
-    both-iff _ _ (equal-iff (r .machine) m) (both-iff _ _ (not-iff (r .progress)) (both-iff _ _ (equal-iff (r .left) s) (not-iff (getD seen s false))))
+    both-iff _ _ (equal-iff (r .machine) m) (both-iff _ _ (not-iff (hasProgress r)) (both-iff _ _ (equal-iff (r .left) s) (not-iff (getD seen s false))))
 
 module _ (P : Plant) (rows : ℕ) (c : List ℕ) (is : TableOf P rows c) (m end : ℕ) where
   -- What the test asks of rows that begin at state s, where some states are marked.
@@ -56,7 +56,7 @@ module _ (P : Plant) (rows : ℕ) (c : List ℕ) (is : TableOf P rows c) (m end 
 
   -- From the test. A state that a row leaves is marked, so no later row leaves it.
   leading : (s : ℕ) (seen : List Bool) (ks : List ℕ) → length seen ≡ 256 → All (λ k. k < rows) ks → leads c m end s seen ks ≡ true → Leading s seen ks
-  unfolding leads All Distinct Walk hasProgress
+  unfolding leads All Distinct Walk
   leading s seen [] room l e = record { of-machine = tt; quiet = tt; walk = eqb-true s end e; unmarked = tt; once = tt }
   leading s seen (k ∷ ks) room l e =
       let b = and-iff (goesOn (rowIn c k) m s seen) _ .0 e in
@@ -66,7 +66,7 @@ module _ (P : Plant) (rows : ℕ) (c : List ℕ) (is : TableOf P rows c) (m end 
       let rest = leading (rowIn c k .entered) (set seen s true) ks (length-set seen s true ∙ room) (l .1) (b .1) in
       record {
         of-machine = ((rw (is .rows-are) (l .0), ap (λ (r : Row). r .machine) (is .row-is k (l .0)) ∙ g .0), rest .of-machine);
-        quiet = (ap (λ (r : Row). r .progress) (is .row-is k (l .0)) ∙ g .1 .0, rest .quiet);
+        quiet = (ap hasProgress (is .row-is k (l .0)) ∙ g .1 .0, rest .quiet);
         walk = (here, subst (λ (x : ℕ). Walk (leaves P) (enters P) x ks end) (sym (ap (λ (r : Row). r .entered) (is .row-is k (l .0)))) (rest .walk));
         unmarked = (rw here (g .1 .1 .1), all-weaken _ _ (λ j h. unmarked-before seen s (leaves P j) (g .1 .1 .1) h) ks (rest .unmarked));
         once = (
@@ -77,14 +77,14 @@ module _ (P : Plant) (rows : ℕ) (c : List ℕ) (is : TableOf P rows c) (m end 
 
   -- To the test.
   leads-so : (s : ℕ) (seen : List Bool) (ks : List ℕ) → All (λ k. k < rows) ks → Leading s seen ks → leads c m end s seen ks ≡ true
-  unfolding leads All Distinct Walk hasProgress
+  unfolding leads All Distinct Walk
   leads-so s seen [] l w = eq-eqb s end (w .walk)
   leads-so s seen (k ∷ ks) l w =
       let here : leaves P k ≡ s = w .walk .0 in
       and-iff (goesOn (rowIn c k) m s seen) _ .1 (
         goes-on-iff (rowIn c k) m s seen .1 (
           sym (ap (λ (r : Row). r .machine) (is .row-is k (l .0))) ∙ w .of-machine .0 .1,
-          (sym (ap (λ (r : Row). r .progress) (is .row-is k (l .0))) ∙ w .quiet .0, (sym (ap (λ (r : Row). r .left) (is .row-is k (l .0))) ∙ here, rw (← here) (w .unmarked .0))),
+          (sym (ap hasProgress (is .row-is k (l .0))) ∙ w .quiet .0, (sym (ap (λ (r : Row). r .left) (is .row-is k (l .0))) ∙ here, rw (← here) (w .unmarked .0))),
         ),
         leads-so (rowIn c k .entered) (set seen s true) ks (l .1)
             (record {

@@ -9,11 +9,12 @@ use native.Mathlib.Omega.{arith}
 use lib.ListN.{length, take, getD, set, length-map, List·getD-append}
 use lib.Seq.{take-suc-set, getD-at}
 use Rattle.livelock.specs.Lists.{below, All}
-use Rattle.livelock.specs.Plants.{Row, rowAt, noRow}
+use Rattle.livelock.specs.Plants.{Row, rowAt, noRow, hasProgress}
 use Rattle.livelock.proofs.ListLaws.{all-below}
 use Rattle.livelock.proofs.Pigeonhole.{below-length}
 use Rattle.plant.specs.Reading.{withRow, withMachine}
-use Rattle.tables.specs.Tables.{rowIn, plantIn, Stored}
+use Rattle.tables.specs.Tables.{rowIn, rowOf, plantIn, Stored}
+use Rattle.tables.specs.declared.TableRow.{TableRow}
 
 -- The first n rows of a table are n.
 pub rows-in : (table : List ℕ) (n : ℕ) → length (map (rowIn table) (below n)) ≡ n
@@ -41,6 +42,11 @@ getD-map-below f d (suc n) k l = rw (map-append f (below n) (n ∷ [])) (go (ℕ
 -- The plant's row k is the table's.
 pub row-is : (types : ℕ) (states : List ℕ) (rows : ℕ) (table : List ℕ) (k : ℕ) → k < rows → rowAt (plantIn types states rows table) k ≡ rowIn table k
 row-is types states rows table k l = getD-map-below (rowIn table) noRow rows k l
+
+-- The mark of a value of `row_in` says whether its row has progress. Nothing else above the theory looks into `hasProgress`.
+pub row-progress : (r : TableRow) → r .progress ≡ hasProgress (rowOf r)
+unfolding hasProgress
+row-progress r = refl
 
 rows-stored : {k : ℕ} {r : Row} {before after : List ℕ} → Stored k r before after → map (rowIn after) (below (k + 1)) ≡ map (rowIn before) (below k) ++ (r ∷ [])
 unfolding below

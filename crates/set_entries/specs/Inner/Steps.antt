@@ -6,7 +6,7 @@ use Prim.Native.Nat.{ℕ, _+_}
 use lib.Dec.{eqb}
 use lib.ListN as Cells
 use lib.ListN.{getD}
-use Rattle.livelock.specs.Plants.{Row, Plant}
+use Rattle.livelock.specs.Plants.{Row, Plant, isQuiet}
 use Rattle.plant.specs.Found.{Found, andThen}
 use Rattle.plant.specs.declared.End.{End}
 use Rattle.set_entries.specs.Sets.{numberIn, entryEnds}
@@ -15,7 +15,7 @@ use Rattle.set_entries.specs.Entries.{valueFound, NumbersBelow, TableOf,
 
 -- Whether a row is a quiet row of machine m that leaves state s, which is not marked as left.
 abbrev pub goesOn : Row → (m s : ℕ) (seen : List Bool) → Bool
-goesOn r m s seen = eqb (r .machine) m && (not (r .progress) && (eqb (r .left) s && not (getD seen s false)))
+goesOn r m s seen = eqb (r .machine) m && (isQuiet r && (eqb (r .left) s && not (getD seen s false)))
 
 -- Whether quiet rows of machine m lead from state s to the state `end`, and leave no state that is marked, each marking the state it leaves.
 unfoldable pub leads : List ℕ → (m end s : ℕ) (seen : List Bool) (rows : List ℕ) → Bool
