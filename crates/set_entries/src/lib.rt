@@ -3,6 +3,7 @@ ghost use mathlib.Core.Path.{_≡_};
 ghost use mathlib.Core.Bool.{false};
 ghost use Prim.Native.Nat.{_+_, _-_, _^_, _≤_, _<_, min};
 ghost use lib.ListN.{length, getD, replicate};
+ghost use Rattle.livelock.specs.Plants.{hasProgress};
 ghost use Rattle.tables.specs.Tables.{rowIn, rowOf, RoomFor};
 ghost use Rattle.set_entries.specs.Sets.{numberIn, rowsAt, entryBegins};
 ghost use Rattle.set_entries.specs.Entries.{valueFound, part, RowsThere, JudgedEntry};
@@ -95,6 +96,13 @@ fn rows_in(set: &[u32], at: usize, end: usize, rows: u32) -> End
     judged
 }
 
+// Whether a row is a progress row.
+fn has_progress(row: TableRow) -> bool
+    ensures { λ r. ⌜ r ≡ hasProgress (rowOf row) ⌝ }
+{
+    row.progress
+}
+
 // Whether a row is a quiet row of machine m that leaves state `at`, which no row before it has left.
 fn goes_on(row: TableRow, m: u8, at: u8, seen: &[bool; 256]) -> bool
     ensures { λ r. ⌜ r ≡ goesOn (rowOf row) m at (now (seen .entry)) ⌝ }
@@ -102,7 +110,7 @@ fn goes_on(row: TableRow, m: u8, at: u8, seen: &[bool; 256]) -> bool
     if row.machine != m {
         return false;
     }
-    if row.progress {
+    if has_progress(row) {
         return false;
     }
     if row.left != at {
