@@ -191,7 +191,7 @@ use Rattle.livelock.specs.Plants.{Plant, rowWith, hasProgress}
 use Rattle.livelock.specs.Runs.{Configuration, Event, row, loss, canHappen, changed, after, afterAll, run}
 use Rattle.livelock.specs.Runs.{isQuietRow, isProgressRow, quietRows, progressRows}
 use Rattle.livelock.specs.Weights.{cycleWeight}
-use Rattle.livelock.specs.Figures.{mostStates, base, perProgress, ceilingOf}
+use Rattle.livelock.specs.Figures.{mostStates, base, perProgress, figuresOf, contentsWeight, ceilingOf}
 use Rattle.livelock.specs.CycleSets.{Entry, setEffect}
 use Rattle.livelock.specs.Tests.{every, isDistinct, isWalk, isSimpleCycle, isQuietCycle}
 use Rattle.livelock.proofs.Tests.{isWellFormed}
@@ -240,7 +240,7 @@ def state(theorems, rng, i, plant):
     theorems.define('events%d' % i, 'List Event', events_text(events))
     bound = f + n * sum(w * x for w, x in zip(weights, contents)) + g * progress
     theorems.equal('run%d' % i, [('quietRows %s %s events%d' % (p, c, i), str(quiet)), ('progressRows %s %s events%d' % (p, c, i), str(progress)),
-                                 ('ceilingOf %s %s (%s .content) %d' % (p, ws, c, progress), str(bound))]
+                                 ('ceilingOf (figuresOf %s %s) (contentsWeight %s %s (%s .content)) %d' % (p, ws, p, ws, c, progress), str(bound))]
                    + [('afterAll %s %s events%d .state %d' % (p, c, i, m), str(s)) for m, s in enumerate(end)]
                    + [('afterAll %s %s events%d .content %d' % (p, c, i, t), str(x)) for t, x in enumerate(left)]
                    + [('run %s %s events%d' % (p, c, i), events_text(happened))], '%s %s events%d' % (p, c, i))

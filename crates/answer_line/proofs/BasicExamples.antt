@@ -9,7 +9,7 @@ use Rattle.answer_line.specs.Lines.{decimalWithin, decimal, figure, figu
 use Rattle.answer_line.specs.Files.{weightsOf, checkedBytes, judgedFiles}
 
 -- `passed 10 2 9`.
-line-passed : lineOf (passed 10 2 9) ([]) ≡ 112 ∷ 97 ∷ 115 ∷ 115 ∷ 101 ∷ 100 ∷ 32 ∷ 49 ∷ 48 ∷ 32 ∷ 50 ∷ 32 ∷ 57 ∷ 10 ∷ []
+line-passed : lineOf (passed (record { base = 10; «most_states» = 2; «per_progress» = 9 })) ([]) ≡ 112 ∷ 97 ∷ 115 ∷ 115 ∷ 101 ∷ 100 ∷ 32 ∷ 49 ∷ 48 ∷ 32 ∷ 50 ∷ 32 ∷ 57 ∷ 10 ∷ []
 unfolding decimalWithin decimal figure figures
 line-passed = refl
 

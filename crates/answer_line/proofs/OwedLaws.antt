@@ -85,12 +85,12 @@ handed plant weights before after a owed = handed-found weights before after a (
 
 -- An answer that shows a cycle, and how many rows it shows.
 abbrev ShowsCycle : Answer → Type 0
-ShowsCycle (passed F n G) = ⊥
+ShowsCycle (passed f) = ⊥
 ShowsCycle (cycle count) = Unit {0}
 ShowsCycle (refused number place) = ⊥
 
 abbrev rowsShown : Answer → ℕ
-rowsShown (passed F n G) = 0
+rowsShown (passed f) = 0
 rowsShown (cycle count) = count
 rowsShown (refused number place) = 0
 

@@ -4,6 +4,7 @@ use mathlib.Core.List.{List, [], _∷_, _++_}
 use Prim.Native.Nat.{ℕ, zero, suc, _+_, _/_, _%_}
 use lib.ListN.{take}
 use lib.Dec.{ltb}
+use Rattle.livelock.specs.Figures.{Figures}
 use Rattle.weighing.specs.Answers.{Answer, passed, cycle, refused}
 
 -- The byte of a digit: `0` is 48.
@@ -47,8 +48,8 @@ abbrev pub lineWith : List ℕ → List ℕ → List ℕ
 lineWith word numbers = word ++ figures numbers ++ lineEnd
 
 -- "`passed F n G`".
-abbrev pub passedLine : ℕ → ℕ → ℕ → List ℕ
-passedLine F n G = lineWith passedWord (F ∷ n ∷ G ∷ [])
+abbrev pub passedLine : Figures → List ℕ
+passedLine f = lineWith passedWord (f .base ∷ f .«most_states» ∷ f .«per_progress» ∷ [])
 
 -- "`cycle` and the rows".
 abbrev pub cycleLine : List ℕ → List ℕ
@@ -60,6 +61,6 @@ refusedLine number place = lineWith refusedWord (number ∷ place ∷ [])
 
 -- "It prints one line": the rows are the front of the list after weighing.
 abbrev pub lineOf : Answer → List ℕ → List ℕ
-lineOf (passed F n G) after = passedLine F n G
+lineOf (passed f) after = passedLine f
 lineOf (cycle count) after = cycleLine (take count after)
 lineOf (refused number place) after = refusedLine number place

@@ -128,11 +128,10 @@ fn write_answer(answer: Weighed, cycle: &[u16], line: &mut [u8]) -> usize
     ensures { λ r. ⌜ WroteLine (now (line .entry)) (now (line .exit)) r (lineOf (answerOf answer) (now (cycle .entry))) ⌝ }
 {
     match answer {
-        Weighed::Passed {
-            base,
-            most_states,
-            per_progress,
-        } => write_line_with(b"passed", &[base, most_states, per_progress], line),
+        Weighed::Passed(figures) => {
+            let numbers = [figures.base, figures.most_states, figures.per_progress];
+            write_line_with(b"passed", &numbers, line)
+        }
         Weighed::Cycle { rows } => {
             let numbers = widened(cycle, rows);
             write_line_with(b"cycle", &numbers[..rows], line)

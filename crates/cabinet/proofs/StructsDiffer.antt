@@ -23,7 +23,7 @@ refused-0 : (readStruct (Reading.refused 8 4) .kind ≡ 0) × (weighStruct (Weig
 refused-0 = (refl, refl, refl, refl, refl)
 
 -- HEMTALUQ_COUNTS 1, HEMTALUQ_PASSED 2, HEMTALUQ_CYCLE 3, HEMTALUQ_CEILING 4, HEMTALUQ_LISTED 5, HEMTALUQ_CONFIRMED 6, HEMTALUQ_NEGATIVE 7.
-kinds : (readStruct (Reading.counts 2 2 4) .kind ≡ 1) × (weighStruct (Weighing.passed 10 2 9) .kind ≡ 2) × (weighStruct (Weighing.cycle 2) .kind ≡ 3)
+kinds : (readStruct (Reading.counts 2 2 4) .kind ≡ 1) × (weighStruct (Weighing.passed (record { base = 10; «most_states» = 2; «per_progress» = 9 })) .kind ≡ 2) × (weighStruct (Weighing.cycle 2) .kind ≡ 3)
     × (quoteStruct (Quoting.quoted 39 6) .kind ≡ 4) × (listStruct (Listing.entries 3) .kind ≡ 5)
     × (confirmStruct Confirming.confirmed .kind ≡ 6) × (confirmStruct (Confirming.negative 1 (negsuc 0)) .kind ≡ 7)
 kinds = (refl, refl, refl, refl, refl, refl, refl)
@@ -44,17 +44,14 @@ read-one-to-one (Reading.refused n p) (Reading.refused n′ p′) e =
     cc
 
 pub weigh-one-to-one : (a b : Weighing.Answer) → weighStruct a ≡ weighStruct b → a ≡ b
-weigh-one-to-one (Weighing.passed F n G) (Weighing.passed F′ n′ G′) e =
-    let p : F ≡ F′ = ap (λ (x : WeighAnswer). x .base) e in
-    let q : n ≡ n′ = ap (λ (x : WeighAnswer). x .«most_states») e in
-    let r : G ≡ G′ = ap (λ (x : WeighAnswer). x .«per_progress») e in
-    cc
-weigh-one-to-one (Weighing.passed F n G) (Weighing.cycle k) e = absurd (omega (arith, ap (λ (x : WeighAnswer). x .kind) e))
-weigh-one-to-one (Weighing.passed F n G) (Weighing.refused m p) e = absurd (omega (arith, ap (λ (x : WeighAnswer). x .kind) e))
-weigh-one-to-one (Weighing.cycle k) (Weighing.passed F n G) e = absurd (omega (arith, ap (λ (x : WeighAnswer). x .kind) e))
+weigh-one-to-one (Weighing.passed f) (Weighing.passed g) e =
+    λ i. Weighing.passed (record { base = e i .base; «most_states» = e i .«most_states»; «per_progress» = e i .«per_progress» })
+weigh-one-to-one (Weighing.passed f) (Weighing.cycle k) e = absurd (omega (arith, ap (λ (x : WeighAnswer). x .kind) e))
+weigh-one-to-one (Weighing.passed f) (Weighing.refused m p) e = absurd (omega (arith, ap (λ (x : WeighAnswer). x .kind) e))
+weigh-one-to-one (Weighing.cycle k) (Weighing.passed f) e = absurd (omega (arith, ap (λ (x : WeighAnswer). x .kind) e))
 weigh-one-to-one (Weighing.cycle k) (Weighing.cycle k′) e = ap Weighing.cycle (ap (λ (x : WeighAnswer). x .rows) e)
 weigh-one-to-one (Weighing.cycle k) (Weighing.refused m p) e = absurd (omega (arith, ap (λ (x : WeighAnswer). x .kind) e))
-weigh-one-to-one (Weighing.refused m p) (Weighing.passed F n G) e = absurd (omega (arith, ap (λ (x : WeighAnswer). x .kind) e))
+weigh-one-to-one (Weighing.refused m p) (Weighing.passed f) e = absurd (omega (arith, ap (λ (x : WeighAnswer). x .kind) e))
 weigh-one-to-one (Weighing.refused m p) (Weighing.cycle k) e = absurd (omega (arith, ap (λ (x : WeighAnswer). x .kind) e))
 weigh-one-to-one (Weighing.refused m p) (Weighing.refused m′ p′) e =
     let q : m ≡ m′ = ap (λ (x : WeighAnswer). x .number) e in

@@ -26,8 +26,8 @@ readStruct (Reading.refused number place) = record { kind = 0; number = number; 
 
 -- "Passing hands back F, n and G": kind 2; a cycle shown, with the count of its rows: kind 3.
 abbrev pub weighStruct : WeighingAnswers.Answer → WeighAnswer
-weighStruct (WeighingAnswers.passed F n G) =
-    record { kind = 2; number = 0; place = 0; base = F; «most_states» = n; «per_progress» = G; rows = 0 }
+weighStruct (WeighingAnswers.passed f) =
+    record { kind = 2; number = 0; place = 0; base = f .base; «most_states» = f .«most_states»; «per_progress» = f .«per_progress»; rows = 0 }
 weighStruct (WeighingAnswers.cycle rows) = record { kind = 3; number = 0; place = 0; base = 0; «most_states» = 0; «per_progress» = 0; rows = rows }
 weighStruct (WeighingAnswers.refused number place) =
     record { kind = 0; number = number; place = place; base = 0; «most_states» = 0; «per_progress» = 0; rows = 0 }

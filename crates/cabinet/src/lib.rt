@@ -115,17 +115,13 @@ pub extern "C" fn hemtaluq_weigh_v1(file: &[u8], weights: &[u16], cycle: &mut [u
 {
     let answer = weighing::weigh(file, weights, cycle);
     match answer {
-        Weighed::Passed {
-            base,
-            most_states,
-            per_progress,
-        } => WeighAnswer {
+        Weighed::Passed(figures) => WeighAnswer {
             kind: 2,
             number: 0,
             place: 0,
-            base,
-            most_states,
-            per_progress: per_progress,
+            base: figures.base,
+            most_states: figures.most_states,
+            per_progress: figures.per_progress,
             rows: 0,
         },
         Weighed::Cycle { rows } => WeighAnswer {

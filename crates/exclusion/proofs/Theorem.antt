@@ -10,6 +10,8 @@ use Rattle.livelock.specs.Plants.{Plant}
 use Rattle.livelock.proofs.Exclusion.{exclusion}
 use Rattle.plant.specs.Found.{Found, found, fault}
 use Rattle.plant.specs.declared.Fault.{Fault}
+use Rattle.figures.specs.FigureSums.{figuresIn}
+use Rattle.figures.specs.declared.Figures.{Figures}
 use Rattle.weighing.specs.Answers as Weighing
 use Rattle.weighing.specs.Weighing.{judgedWeights, judged, Owed}
 use Rattle.weighing.specs.declared.Weighed.{Weighed}
@@ -56,14 +58,14 @@ sees file ws set before after w c passed confirmed room weighs confirms p q =
     }
 
 -- What a match on each answer tells.
-pub figures-told : {w : Weighed} (F n G : ℕ) → w ≡ Weigheds.Passed F n G → (_≡_ {A = Bool} true true) ↔ Weighing.HasFigures (Weighing.answerOf w)
-figures-told F n G e = (λ t. (F, n, G, ap Weighing.answerOf e), λ f. refl)
+pub figures-told : {w : Weighed} (f : Figures) → w ≡ Weigheds.Passed f → (_≡_ {A = Bool} true true) ↔ Weighing.HasFigures (Weighing.answerOf w)
+figures-told f e = (λ t. (figuresIn f, ap Weighing.answerOf e), λ h. refl)
 
 pub cycle-told : {w : Weighed} (k : ℕ) → w ≡ Weigheds.Cycle k → (false ≡ true) ↔ Weighing.HasFigures (Weighing.answerOf w)
-cycle-told k e = (λ t. absurd (false≢true t), λ f. let h = sym (ap Weighing.answerOf e) ∙ f .3 in cc)
+cycle-told k e = (λ t. absurd (false≢true t), λ f. let h = sym (ap Weighing.answerOf e) ∙ f .1 in cc)
 
 pub weighing-refused : {w : Weighed} (g : Fault) → w ≡ Weigheds.Refused g → (false ≡ true) ↔ Weighing.HasFigures (Weighing.answerOf w)
-weighing-refused g e = (λ t. absurd (false≢true t), λ f. let h = sym (ap Weighing.answerOf e) ∙ f .3 in cc)
+weighing-refused g e = (λ t. absurd (false≢true t), λ f. let h = sym (ap Weighing.answerOf e) ∙ f .1 in cc)
 
 pub confirmed-told : {c : Confirmation} → c ≡ Confirmations.Confirmed → (_≡_ {A = Bool} true true) ↔ (Confirming.answerOf c ≡ Confirming.confirmed)
 confirmed-told e = (λ t. ap Confirming.answerOf e, λ f. refl)

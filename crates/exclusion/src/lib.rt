@@ -19,11 +19,7 @@ fn is_passed(answer: Weighed) -> bool
     ensures { λ r. ⌜ (r ≡ true) ↔ Weighing.HasFigures (Weighing.answerOf answer) ⌝ }
 {
     match answer {
-        Weighed::Passed {
-            base,
-            most_states,
-            per_progress,
-        } => true,
+        Weighed::Passed(figures) => true,
         Weighed::Cycle { rows } => false,
         Weighed::Refused(fault) => false,
     }

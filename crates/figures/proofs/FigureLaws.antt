@@ -13,7 +13,8 @@ use Rattle.livelock.specs.Figures.{statesLessOne, mostStates, largestWeight, ba
 use Rattle.livelock.proofs.ListLaws.{all-at, all-below}
 use Rattle.livelock.proofs.SumLaws.{sum-next, greatest-next, greatest-bound}
 use Rattle.plant.specs.Limits.{WithinLimits}
-use Rattle.figures.specs.FigureSums.{FiguresOf}
+use Rattle.figures.specs.FigureSums.{figuresIn, FiguresOf}
+use Rattle.figures.specs.declared.Figures.{Figures}
 
 -- ---- loops that count upwards
 
@@ -53,7 +54,11 @@ module _ (states ws : List ℕ) (n less w : ℕ)
     (total : less ≡ sum (λ m. getD states m 0 - 1) (below (length states)))
     (largest : w ≡ greatest (λ t. getD ws t 0) (below (length ws))) where
   pub figures-are : FiguresOf states ws (record { base = less + n * w * less; «most_states» = n; «per_progress» = (n - 1) + n * n * w })
-  figures-are P s t = (rw (s, t, most, total, largest), rw (s, most), rw (s, t, most, largest))
+  figures-are P s t = rw (s, t, most, total, largest)
+
+-- Structs that hold the same figures are the same.
+pub same-figures : (f g : Figures) → figuresIn f ≡ figuresIn g → f ≡ g
+same-figures f g e = λ i. record { base = e i .base; «most_states» = e i .«most_states»; «per_progress» = e i .«per_progress» }
 
 -- ---- the largest figures
 

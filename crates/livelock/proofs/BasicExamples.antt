@@ -16,7 +16,7 @@ use Rattle.livelock.specs.Runs.{Configuration, Event, row, loss, canHapp
 use Rattle.livelock.specs.Runs.{isQuietRow, isProgressRow, quietRows, progressRows}
 use Rattle.livelock.specs.Cycles.{Walk, SimpleCycle, Quiet}
 use Rattle.livelock.specs.Weights.{cycleWeight, Passes}
-use Rattle.livelock.specs.Figures.{statesLessOne, mostStates, largestWeight, base, perProgress, contentsWeight, ceilingOf}
+use Rattle.livelock.specs.Figures.{statesLessOne, mostStates, largestWeight, base, perProgress, figuresOf, contentsWeight, ceilingOf}
 use Rattle.livelock.specs.CycleSets.{Entry, setEffect, Balanced}
 
 -- ---- plants A and B of document 01
@@ -218,7 +218,7 @@ both-balanced =
 three-and-four : ℕ → ℕ
 three-and-four t = getD (3 ∷ 4 ∷ []) t 0
 
-ceiling-39 : (contentsWeight plantA (2 ∷ 1 ∷ []) three-and-four ≡ 10) × (ceilingOf plantA (2 ∷ 1 ∷ []) three-and-four 1 ≡ 39)
+ceiling-39 : (contentsWeight plantA (2 ∷ 1 ∷ []) three-and-four ≡ 10) × (ceilingOf (figuresOf plantA (2 ∷ 1 ∷ [])) 10 1 ≡ 39)
 unfolding panelAndProbe three-and-four below sum greatest
 ceiling-39 = (refl, refl)
 
@@ -247,6 +247,6 @@ tight-events : List Event
 tight-events = row 0 ∷ row 1 ∷ row 0 ∷ row 0 ∷ row 0 ∷ row 0 ∷ []
 
 -- From content 3 there are 4 quiet rows and 1 progress row, and the ceiling is 4.
-tight-run : (quietRows tight three tight-events ≡ 4) × (progressRows tight three tight-events ≡ 1) × (ceilingOf tight (1 ∷ []) (three .content) 1 ≡ 4)
+tight-run : (quietRows tight three tight-events ≡ 4) × (progressRows tight three tight-events ≡ 1) × (ceilingOf (figuresOf tight (1 ∷ [])) (contentsWeight tight (1 ∷ []) (three .content)) 1 ≡ 4)
 unfolding tight three tight-events below sum greatest run canHappen changed after isQuietRow isProgressRow hasProgress
 tight-run = (refl, refl, refl)

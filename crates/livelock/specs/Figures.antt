@@ -26,14 +26,29 @@ base P ws = statesLessOne P + mostStates P * largestWeight P ws * statesLessOne 
 abbrev pub perProgress : Plant → List ℕ → ℕ
 perProgress P ws = (mostStates P - 1) + mostStates P * mostStates P * largestWeight P ws
 
+-- "F, n and G" as one value; F is the base, to which n times W and G for each progress row are added. The fields have the names of the struct in code.
+pub record Figures : Type 0 where
+  pub base : ℕ
+  pub «most_states» : ℕ
+  pub «per_progress» : ℕ
+
+-- "these F, n and G": the figures of a plant and its weights.
+abbrev pub figuresOf : Plant → List ℕ → Figures
+figuresOf P ws = record { base = base P ws; «most_states» = mostStates P; «per_progress» = perProgress P ws }
+
 -- "W sums weight times opening content over the types".
 abbrev pub contentsWeight : Plant → List ℕ → (ℕ → ℕ) → ℕ
 contentsWeight P ws content = sum (λ t. weight ws t * content t) (below (P .types))
 
--- "the ceiling is F + n × W + G × g, W being the sum of weight times content".
-abbrev pub ceilingOf : Plant → List ℕ → (ℕ → ℕ) → ℕ → ℕ
-ceilingOf P ws content g = base P ws + mostStates P * contentsWeight P ws content + perProgress P ws * g
+-- "the ceiling is F + n × W + G × g, W being the sum of weight times content": of these figures, with contents of weight W.
+abbrev pub ceilingOf : Figures → ℕ → ℕ → ℕ
+ceilingOf f W g = f .base + f .«most_states» * W + f .«per_progress» * g
 
--- Demand 3: "the quiet rows that happen number at most F + n × W + G × g", for every list of events, from any states and any contents.
+-- "the quiet rows that happen number at most F + n × W + G × g", for every list of events, from any states and any contents: by these figures.
+abbrev pub BoundedBy : Plant → List ℕ → Figures → Type 0
+BoundedBy P ws f =
+    (c : Configuration) (events : List Event) → quietRows P c events ≤ ceilingOf f (contentsWeight P ws (c .content)) (progressRows P c events)
+
+-- Demand 3: the bound by the plant's own figures.
 abbrev pub Bounded : Plant → List ℕ → Type 0
-Bounded P ws = (c : Configuration) (events : List Event) → quietRows P c events ≤ ceilingOf P ws (c .content) (progressRows P c events)
+Bounded P ws = BoundedBy P ws (figuresOf P ws)

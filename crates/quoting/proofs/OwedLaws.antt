@@ -3,13 +3,12 @@ use mathlib.Core.Path.{_≡_, refl, sym, ap, _∙_, subst}
 use mathlib.Core.Logic.{_↔_, _⊎_, inl, inr}
 use mathlib.Core.Bool.{Bool, true, false, cond, false≢true}
 use mathlib.Core.List.{List}
-use Prim.Native.Nat.{ℕ, _+_, _*_, _≤_, _<_}
+use Prim.Native.Nat.{ℕ, _≤_, _<_}
 use lib.Dec.{eqb, ltb}
 use lib.ListN.{length, getD}
 use Rattle.livelock.specs.Plants.{Plant, WellFormed}
 use Rattle.livelock.specs.Weights.{Passes, FailingCycle}
-use Rattle.livelock.specs.Figures.{mostStates, perProgress}
-use Rattle.livelock.specs.Figures as Figures
+use Rattle.livelock.specs.Figures.{Figures, figuresOf, ceilingOf}
 use Rattle.livelock.proofs.Decision.{decision, not-both}
 use Rattle.plant.specs.Found.{Found, found, fault, andThen}
 use Rattle.plant.specs.Reading.{noMachines}
@@ -42,28 +41,28 @@ check-good types contents g passes ok =
     let a = contents-good contents g P (x .0) 0 (x .1) (x .2) in
     (a .one-each, a .small, a .few-progress)
 
-module _ (passes : Bool) (F n G : ℕ) (ws contents : List ℕ) (g : ℕ) where
+module _ (passes : Bool) (f : Figures) (ws contents : List ℕ) (g : ℕ) where
   -- A fault is handed on,
-  pub check-refused : (f : Fault) → Checks (length ws) contents g passes (CheckVariants.Fault f) → OwedChecked passes F n G ws contents g (refused (f .number) (f .place))
-  check-refused f ok P end t = ap (quotedFor F n G ws contents g) (ok P end t)
+  pub check-refused : (e : Fault) → Checks (length ws) contents g passes (CheckVariants.Fault e) → OwedChecked passes f ws contents g (refused (e .number) (e .place))
+  check-refused e ok P end t = ap (quotedFor f ws contents g) (ok P end t)
 
   -- and without one the ceiling is that of the figures and W.
-  pub check-priced : (w : ℕ) (a : Answer) → w ≡ weightOfContents ws contents → Priced F n G w g a
-      → Checks (length ws) contents g passes CheckVariants.Good → OwedChecked passes F n G ws contents g a
+  pub check-priced : (w : ℕ) (a : Answer) → w ≡ weightOfContents ws contents → Priced f w g a
+      → Checks (length ws) contents g passes CheckVariants.Good → OwedChecked passes f ws contents g a
   check-priced w a e p ok P end t =
-      subst (λ (x : ℕ). a ≡ quoted (F + n * x + G * g) (classOf (F + n * x + G * g))) e p
-      ∙ ap (quotedFor F n G ws contents g) (ok P end t)
+      subst (λ (x : ℕ). Priced f x g a) e p
+      ∙ ap (quotedFor f ws contents g) (ok P end t)
 
   -- What is owed after the checks: their fault, and for a plant what it is owed by its own.
-  checked-owed : (a : Answer) (P : Plant) (end : ℕ) → P .types ≡ length ws → OwedChecked passes F n G ws contents g a
-      → (a ≡ quotedFor F n G ws contents g (cond passes (found P end) (fault 22 0)) → Owed ws contents g a (found P end))
+  checked-owed : (a : Answer) (P : Plant) (end : ℕ) → P .types ≡ length ws → OwedChecked passes f ws contents g a
+      → (a ≡ quotedFor f ws contents g (cond passes (found P end) (fault 22 0)) → Owed ws contents g a (found P end))
       → Owed ws contents g a (checkedContents contents g P end)
   unfolding checkedContents checkedAmounts
   checked-owed a P end t given owed =
       go (eqb (length contents) (P .types)) (ltb (firstAbove 1000000 (amounts contents g)) (length (amounts contents g))) (given P end t)
     where
       go : (x y : Bool)
-          → a ≡ quotedFor F n G ws contents g
+          → a ≡ quotedFor f ws contents g
           (andThen (cond x (cond y (fault 21 (firstAbove 1000000 (amounts contents g))) (found P end)) (fault 20 0)) (λ Q e. cond passes (found Q e) (fault 22 0)))
           → Owed ws contents g a (cond x (cond y (fault 21 (firstAbove 1000000 (amounts contents g))) (found P end)) (fault 20 0))
       go true true e = for-fault e
@@ -111,15 +110,15 @@ module _ (file ws contents : List ℕ) (g : ℕ) where
     failing-weights = let x = verdict-fails (judgedWeights file ws) owed in weights-fit file ws (x .0) (x .1) (x .2)
 
     -- and 22 is owed after the checks.
-    pub quote-failing : (b : Answer) → OwedChecked false 0 0 0 ws contents g b → Owed ws contents g b (judged file ws contents g)
-    quote-failing b given =
+    pub quote-failing : (f : Figures) (b : Answer) → OwedChecked false f ws contents g b → Owed ws contents g b (judged file ws contents g)
+    quote-failing f b given =
         let x = verdict-fails (judgedWeights file ws) owed in
         for-input file ws (x .0) (x .1) (x .2) contents g b
-        (checked-owed false 0 0 0 ws contents g b (x .0) (x .1) (one-each file ws (x .0) (x .1) (x .2)) given (λ e. for-plant (λ p. absurd (x .3 p)) (λ n. e)))
+        (checked-owed false f ws contents g b (x .0) (x .1) (one-each file ws (x .0) (x .1) (x .2)) given (λ e. for-plant (λ p. absurd (x .3 p)) (λ n. e)))
 
-  module _ (F n G : ℕ) (owed : OwedVerdict ws (weighed.passing F n G) (judgedWeights file ws)) where
+  module _ (f : Figures) (owed : OwedVerdict ws (weighed.passing f) (judgedWeights file ws)) where
     -- Where figures were handed back, the weights pass,
-    passing-plant : (P : Plant) × (end : ℕ) × (judgedWeights file ws ≡ found P end) × Passes P ws × OnPassingVerdict P ws (weighed.passing F n G)
+    passing-plant : (P : Plant) × (end : ℕ) × (judgedWeights file ws ≡ found P end) × Passes P ws × OnPassingVerdict P ws (weighed.passing f)
     passing-plant = verdict-passes (judgedWeights file ws) (λ P end e. judged-weights file ws P end e .0 .formed) owed
 
     -- they are within their limits,
@@ -127,33 +126,33 @@ module _ (file ws contents : List ℕ) (g : ℕ) where
     passing-weights = let x = passing-plant in weights-fit file ws (x .0) (x .1) (x .2)
 
     -- the figures are the plant's,
-    figures-are : (P : Plant) → OnPassingVerdict P ws (weighed.passing F n G) → (F ≡ Figures.base P ws) × (n ≡ mostStates P) × (G ≡ perProgress P ws)
-    figures-are P h = let e = h .figures in (cc, cc, cc)
+    figures-are : (P : Plant) → OnPassingVerdict P ws (weighed.passing f) → f ≡ figuresOf P ws
+    figures-are P h = let e = h .figures in cc
 
     -- so they are within theirs,
-    pub figures-fit : FiguresFit F n G
+    pub figures-fit : FiguresFit f
     figures-fit =
         let x = passing-plant in
-        let f = figures-are (x .0) (x .4) in
         let limits = judged-weights file ws (x .0) (x .1) (x .2) .0 in
         let light : (t : ℕ) → t < x .0 .types → getD ws t 0 ≤ 1000 = λ t l. weights-fit file ws (x .0) (x .1) (x .2) .1 t in
-        record {
-          base-limit = rw (f .0) (base-limit (x .0) limits ws light);
-          most-limit = rw (f .1) (most-limit (x .0) limits);
-          per-progress-limit = rw (f .2) (per-progress-limit (x .0) limits ws light);
-        }
+        subst FiguresFit (sym (figures-are (x .0) (x .4)))
+        (record {
+          base-limit = base-limit (x .0) limits ws light;
+          most-limit = most-limit (x .0) limits;
+          per-progress-limit = per-progress-limit (x .0) limits ws light;
+        })
 
     -- and the ceiling made of them is the plant's,
-    ceiling-is : (P : Plant) → OnPassingVerdict P ws (weighed.passing F n G) → P .types ≡ length ws → F + n * weightOfContents ws contents + G * g ≡ ceilingFor P ws contents g
-    ceiling-is P h types = let f = figures-are P h in rw (f .0, f .1, f .2, ← types)
+    ceiling-is : (P : Plant) → OnPassingVerdict P ws (weighed.passing f) → P .types ≡ length ws → ceilingOf f (weightOfContents ws contents) g ≡ ceilingFor P ws contents g
+    ceiling-is P h types = rw (figures-are P h, ← types)
 
     -- which is what is owed.
-    pub quote-passing : (b : Answer) → OwedChecked true F n G ws contents g b → Owed ws contents g b (judged file ws contents g)
+    pub quote-passing : (b : Answer) → OwedChecked true f ws contents g b → Owed ws contents g b (judged file ws contents g)
     quote-passing b given =
         let x = passing-plant in
         let types = one-each file ws (x .0) (x .1) (x .2) in
         for-input file ws (x .0) (x .1) (x .2) contents g b
-        (checked-owed true F n G ws contents g b (x .0) (x .1) types given
+        (checked-owed true f ws contents g b (x .0) (x .1) types given
         (λ e. for-plant
         (λ q. record { quote = e ∙ ap (λ (c : ℕ). quoted c (classOf c)) (ceiling-is (x .0) (x .4) types); bounds = bound-for (x .0) ws contents g (x .4 .bounded) })
         (λ q. absurd (q (x .3)))))

@@ -8,7 +8,7 @@ use lib.Dec.{eqb, ltb}
 use Rattle.livelock.specs.Plants.{Plant}
 use Rattle.livelock.specs.Runs.{Configuration, Event, quietRows, progressRows}
 use Rattle.livelock.specs.Weights.{Passes}
-use Rattle.livelock.specs.Figures.{ceilingOf}
+use Rattle.livelock.specs.Figures.{figuresOf, contentsWeight, ceilingOf}
 use Rattle.plant.specs.Found.{Found, found, fault, andThen}
 use Rattle.plant.specs.Reading.{readPlant}
 use Rattle.weighing.specs.Weighing.{firstAbove, checkedWeights}
@@ -42,7 +42,7 @@ judged file ws contents g = andThen (readPlant file) (checked ws contents g)
 
 -- "the ceiling is F + n × W + G × g".
 abbrev pub ceilingFor : Plant → List ℕ → List ℕ → ℕ → ℕ
-ceilingFor P ws contents g = ceilingOf P ws (content contents) g
+ceilingFor P ws contents g = ceilingOf (figuresOf P ws) (contentsWeight P ws (content contents)) g
 
 -- A run opens with these contents; its states are any.
 abbrev pub OpensWith : Plant → List ℕ → Configuration → Type 0

@@ -2,11 +2,13 @@
 ghost use mathlib.Core.Path.{_≡_};
 ghost use Prim.Native.Nat.{_≤_};
 ghost use lib.ListN.{length};
+ghost use Rattle.figures.specs.FigureSums.{figuresIn};
 ghost use Rattle.weighing.specs.Weighing.{firstAbove};
 ghost use Rattle.quoting.specs.Classes.{classOf};
 ghost use Rattle.quoting.specs.Answers.{answerOf};
 ghost use Rattle.quoting.specs.Quoting.{amounts, judged, Owed};
 ghost use Rattle.quoting.specs.Inner.Checks.{AllAtMost, weightOfContents, Refuses, Checks, Priced, FiguresFit, OwedChecked};
+use figures::Figures;
 use plant::Fault;
 use weighing::Verdict;
 
@@ -143,40 +145,32 @@ fn contents_weight(weights: &[u16], contents: &[u32]) -> u64
 }
 
 // The ceiling F + n × W + G × g with its price class.
-fn price(base: u64, most_states: u64, per_progress: u64, weight: u64, g: u32) -> Quoted
-    requires { ⌜ FiguresFit base «most_states» «per_progress» × (weight ≤ 64000000000) × (g ≤ 1000000) ⌝ }
-    ensures { λ r. ⌜ Priced base «most_states» «per_progress» weight g (answerOf r) ⌝ }
+fn price(figures: Figures, weight: u64, g: u32) -> Quoted
+    requires { ⌜ FiguresFit (figuresIn figures) × (weight ≤ 64000000000) × (g ≤ 1000000) ⌝ }
+    ensures { λ r. ⌜ Priced (figuresIn figures) weight g (answerOf r) ⌝ }
 {
-    let ceiling = base + most_states * weight + per_progress * g as u64;
+    let ceiling = figures.base + figures.most_states * weight + figures.per_progress * g as u64;
     Quoted::Ceiling {
         ceiling,
         class: price_class(ceiling),
     }
 }
 
-// Checks the contents and g, and quotes. Weights that do not pass have no figures.
+// Checks the contents and g, and quotes. Weights that do not pass have no figures, and zeros stand for them.
 fn quote_weighed(
     passes: bool,
-    base: u64,
-    most_states: u64,
-    per_progress: u64,
+    figures: Figures,
     weights: &[u16],
     contents: &[u32],
     g: u32,
 ) -> Quoted
-    requires { ⌜ FiguresFit base «most_states» «per_progress» × (length (now weights) ≤ 64) × AllAtMost 1000 (now weights) ⌝ }
-    ensures { λ r. ⌜ OwedChecked passes base «most_states» «per_progress» (now (weights .entry)) (now (contents .entry)) g (answerOf r) ⌝ }
+    requires { ⌜ FiguresFit (figuresIn figures) × (length (now weights) ≤ 64) × AllAtMost 1000 (now weights) ⌝ }
+    ensures { λ r. ⌜ OwedChecked passes (figuresIn figures) (now (weights .entry)) (now (contents .entry)) g (answerOf r) ⌝ }
 {
     let checked = check_numbers(weights.len(), contents, g, passes);
     match checked {
         Check::Fault(fault) => Quoted::Refused(fault),
-        Check::Good => price(
-            base,
-            most_states,
-            per_progress,
-            contents_weight(weights, contents),
-            g,
-        ),
+        Check::Good => price(figures, contents_weight(weights, contents), g),
     }
 }
 
@@ -187,11 +181,14 @@ pub fn quote(file: &[u8], weights: &[u16], contents: &[u32], g: u32) -> Quoted
     let verdict = weighing::judge(file, weights);
     match verdict {
         Verdict::Refused(fault) => Quoted::Refused(fault),
-        Verdict::Fails => quote_weighed(false, 0, 0, 0, weights, contents, g),
-        Verdict::Passes {
-            base,
-            most_states,
-            per_progress,
-        } => quote_weighed(true, base, most_states, per_progress, weights, contents, g),
+        Verdict::Fails => {
+            let none = Figures {
+                base: 0,
+                most_states: 0,
+                per_progress: 0,
+            };
+            quote_weighed(false, none, weights, contents, g)
+        }
+        Verdict::Passes(figures) => quote_weighed(true, figures, weights, contents, g),
     }
 }

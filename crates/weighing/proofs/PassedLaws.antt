@@ -1,22 +1,21 @@
 -- Demand 3 from the side of the answer: whenever weighing hands back F, n and G, the bound holds with these F, n and G.
-use mathlib.Core.Path.{_≡_, refl, sym, ap, _∙_, subst}
+use mathlib.Core.Path.{_≡_, refl, sym, _∙_, subst}
 use mathlib.Core.Bool.{false≢true}
 use mathlib.Core.List.{List}
-use Prim.Native.Nat.{ℕ, _+_, _*_, _≤_}
+use Prim.Native.Nat.{ℕ}
 use lib.ListN.{length}
 use Rattle.livelock.specs.Plants.{Plant}
-use Rattle.livelock.specs.Runs.{Configuration, Event, quietRows, progressRows}
 use Rattle.livelock.specs.Weights.{Passes}
-use Rattle.livelock.specs.Figures.{base, mostStates, perProgress, contentsWeight}
+use Rattle.livelock.specs.Figures.{Figures, figuresOf, BoundedBy}
 use Rattle.plant.specs.Found.{Found, found, fault}
 use Rattle.plant.specs.Reading.{readPlant}
-use Rattle.weighing.specs.Answers.{Answer, passed, cycle, refused, HasFigures}
+use Rattle.weighing.specs.Answers.{Answer, passed, HasFigures}
 use Rattle.weighing.specs.Weighing.{judged, OnPassing, Owed, for-fault, for-plant}
 use Rattle.weighing.proofs.WeighingLaws.{judged-plant, checked-good, judged-limits, passed-iff}
 
 -- Figures are not owed for a fault.
 pub no-figures : (ws before after : List ℕ) (a : Answer) (number place : ℕ) → Owed ws before after a (fault number place) → HasFigures a → ⊥
-no-figures ws before after a number place (for-fault h) f = let e = sym (h .refusal) ∙ f .3 in false≢true cc
+no-figures ws before after a number place (for-fault h) f = let e = sym (h .refusal) ∙ f .1 in false≢true cc
 
 -- For weights that pass, what is owed on passing is owed.
 on-passing : {ws before after : List ℕ} {a : Answer} {P : Plant} {end : ℕ} → Owed ws before after a (found P end) → Passes P ws → OnPassing P ws before after a
@@ -35,31 +34,11 @@ module _ (file ws before after : List ℕ) (a : Answer) (P : Plant) (end : ℕ) 
           let passes = passed-iff file ws before after a Q k e owed .0 figures in
           subst (λ (x : Plant). Passes x ws × OnPassing x ws before after a) (sym same) (passes, on-passing (subst (Owed ws before after a) e owed) passes)
 
--- The three figures of an answer.
-abbrev figureF : Answer → ℕ
-figureF (passed F n G) = F
-figureF (cycle k) = 0
-figureF (refused number place) = 0
-
-abbrev figureN : Answer → ℕ
-figureN (passed F n G) = n
-figureN (cycle k) = 0
-figureN (refused number place) = 0
-
-abbrev figureG : Answer → ℕ
-figureG (passed F n G) = G
-figureG (cycle k) = 0
-figureG (refused number place) = 0
-
 -- "Whenever the weighing passes weights, this bound holds and it hands back exactly these F, n and G": an answer that meets the contract
 -- of `weigh` and hands back F, n and G bounds every list of events from any states and any contents of the plant that was read.
-pub passed-bound : (file ws before after : List ℕ) (F n G : ℕ) (P : Plant) (end : ℕ) → readPlant file ≡ found P end
-    → Owed ws before after (passed F n G) (judged file ws (length before))
-    → (c : Configuration) (events : List Event)
-    → quietRows P c events ≤ F + n * contentsWeight P ws (c .content) + G * progressRows P c events
-passed-bound file ws before after F n G P end reads owed c events =
-    let h = passed-owed file ws before after (passed F n G) P end reads owed (F, n, G, refl) .1 in
-    let e : F ≡ base P ws = ap figureF (h .figures) in
-    let e′ : n ≡ mostStates P = ap figureN (h .figures) in
-    let e″ : G ≡ perProgress P ws = ap figureG (h .figures) in
-    rw (e, e′, e″) (h .bounded c events)
+pub passed-bound : (file ws before after : List ℕ) (f : Figures) (P : Plant) (end : ℕ) → readPlant file ≡ found P end
+    → Owed ws before after (passed f) (judged file ws (length before)) → BoundedBy P ws f
+passed-bound file ws before after f P end reads owed =
+    let h = passed-owed file ws before after (passed f) P end reads owed (f, refl) .1 in
+    let e : figuresOf P ws ≡ f = let same = h .figures in cc in
+    subst (BoundedBy P ws) e (h .bounded)

@@ -14,7 +14,8 @@ use borrow.Author.Tests.{eq-eqb, ne-eqb, lt-ltb, le-ltb, eqb-true, ltb-false}
 use Rattle.livelock.specs.Lists.{sum}
 use Rattle.livelock.specs.Plants.{Plant, machineCount, stateCount, WellFormed}
 use Rattle.livelock.specs.Weights.{Passes, FailingCycle}
-use Rattle.livelock.specs.Figures.{base, mostStates, perProgress}
+use Rattle.livelock.specs.Figures.{mostStates, figuresOf}
+use Rattle.livelock.specs.Figures as Theory
 use Rattle.livelock.proofs.SumLaws.{greatest-below}
 use Rattle.livelock.proofs.Graphs.{Graph, Cycle}
 use Rattle.livelock.proofs.QuietGraphs.{cycle-machine}
@@ -39,7 +40,7 @@ use Rattle.machines.specs.Machines.{Weighable, graphOf, FirstFailing}
 use Rattle.machines.proofs.TurnLaws.{machines-are, states-in, turn-edges}
 use Rattle.weighing.specs.Inner.Checks.{WeightsChecked, RoomChecked, Shows}
 use Rattle.edges.specs.Edges.{Edges, Listed}
-use Rattle.figures.specs.FigureSums.{FiguresOf}
+use Rattle.figures.specs.FigureSums.{figuresIn, FiguresOf}
 use Rattle.deciding.specs.Rounds.{EdgesIn, AllBelowZero, SomeZeroOrMore, Decided}
 use Rattle.searching.specs.Searches.{ShownRows}
 use Rattle.figures.specs.declared.Figures.{Figures}
@@ -47,7 +48,7 @@ use Rattle.weighing.specs.declared.Weighed.{Weighed}
 use Rattle.weighing.specs.declared.Weighed.the-variants as Variants
 use Rattle.weighing.specs.declared.Verdict.{Verdict}
 use Rattle.weighing.specs.declared.Verdict.the-variants as Verdicts
-use Rattle.figures.proofs.FigureLaws.{states-limit, most-limit}
+use Rattle.figures.proofs.FigureLaws.{same-figures}
 use Rattle.edges.proofs.ListedLaws.{edges-in}
 use Rattle.machines.proofs.MachineLaws.{machine-passes, machine-fails}
 
@@ -74,19 +75,19 @@ module _ (limit : ℕ) (ws : List ℕ) (i x : ℕ) (rest : i + firstAbove limit 
 module _ (s : Shape) (table ws : List ℕ) (ok : Weighable s table ws) where
   -- The verdict with the figures f: it is owed where the weights pass, and the bound holds.
   module _ (f : Figures) (figures : FiguresOf (take (s .machines) (s .states)) ws f) where
-    -- They are the plant's: n,
+    -- They are the plant's,
+    figures-are : figuresIn f ≡ figuresOf (plantOf s table) ws
+    figures-are = figures (plantOf s table) refl (sym (ok .one-each))
+
+    -- and so is n among them,
     pub most-is : f .«most_states» ≡ mostStates (plantOf s table)
-    most-is = figures (plantOf s table) refl (sym (ok .one-each)) .1
+    most-is = ap (λ (x : Theory.Figures). x .«most_states») figures-are
 
-    -- and all three,
-    figures-are : Answers.passing (f .base) (f .«most_states») (f .«per_progress») ≡ Answers.passing (base (plantOf s table) ws) (mostStates (plantOf s table)) (perProgress (plantOf s table) ws)
-    figures-are = let x = figures (plantOf s table) refl (sym (ok .one-each)) in rw (x .0, x .1, x .2)
-
-    -- and so the verdict is owed.
-    pub passing-verdict : Passes (plantOf s table) ws → (end : ℕ) → OwedVerdict ws (Answers.passing (f .base) (f .«most_states») (f .«per_progress»)) (found (plantOf s table) end)
+    -- and the verdict is owed.
+    pub passing-verdict : Passes (plantOf s table) ws → (end : ℕ) → OwedVerdict ws (Answers.passing (figuresIn f)) (found (plantOf s table) end)
     passing-verdict p end =
         verdict-for-plant
-        (λ q. record { figures = figures-are; bounded = ceiling (plantOf s table) (ok .limits .formed) ws p })
+        (λ q. record { figures = ap Answers.passing figures-are; bounded = ceiling (plantOf s table) (ok .limits .formed) ws p })
         (λ q. absurd (q p))
 
   -- Machine m is the first that fails, and e are its edges.
@@ -231,19 +232,19 @@ checks-judged {t} {table} ready file ws read reads weighed types weights types-a
 
 -- Whether an answer is one of passing.
 abbrev isPassed : Answer → Bool
-isPassed (passed F n G) = true
+isPassed (passed f) = true
 isPassed (cycle k) = false
 isPassed (refused number place) = false
 
 -- A count of rows is not figures.
-not-figures : (k F n G : ℕ) → cycle k ≡ passed F n G → ⊥
-not-figures k F n G e = false≢true (ap isPassed e)
+not-figures : (k : ℕ) (f : Theory.Figures) → cycle k ≡ passed f → ⊥
+not-figures k f e = false≢true (ap isPassed e)
 
 module _ (ws before after : List ℕ) (a : Answer) (P : Plant) (formed : WellFormed P)
     (passing : Passes P ws → OnPassing P ws before after a) (failing : (Passes P ws → ⊥) → OnFailing P ws before after a) where
   -- Weights that pass have figures.
   figures-for : Passes P ws → HasFigures a
-  figures-for p = (_, _, _, passing p .figures)
+  figures-for p = (_, passing p .figures)
 
   -- An answer with figures is not owed for weights with a failing cycle.
   passes-for : HasFigures a → Passes P ws
@@ -251,7 +252,7 @@ module _ (ws before after : List ℕ) (a : Answer) (P : Plant) (formed : WellFor
     where
       go : Passes P ws ⊎ ((c : List ℕ) × FailingCycle P ws c) → Passes P ws
       go (inl p) = p
-      go (inr x) = absurd (not-figures _ _ _ _ (sym (failing (λ p. not-both P ws (x .0) p (x .1)) .count) ∙ f .3))
+      go (inr x) = absurd (not-figures _ _ (sym (failing (λ p. not-both P ws (x .0) p (x .1)) .count) ∙ f .1))
 
 -- Figures are handed back exactly when the weights pass.
 owed-iff : (ws before after : List ℕ) (a : Answer) (P : Plant) (end : ℕ) → WellFormed P → Owed ws before after a (found P end) → HasFigures a ↔ Passes P ws
@@ -337,7 +338,7 @@ passed-iff file ws before after a P end e owed =
 
 -- The kinds of answers: figures, a count of rows, a refusal.
 abbrev pub kindOf : Answer → ℕ
-kindOf (passed F n G) = 0
+kindOf (passed f) = 0
 kindOf (cycle k) = 1
 kindOf (refused number place) = 2
 
@@ -361,13 +362,15 @@ kind-determined file ws before after after′ a b =
 
 -- Different answers never mean the same.
 pub one-to-one : (a b : Weighed) → answerOf a ≡ answerOf b → a ≡ b
-one-to-one (Variants.Passed F n G) (Variants.Passed F′ n′ G′) e = cc
-one-to-one (Variants.Passed F n G) (Variants.Cycle k′) e = cc
-one-to-one (Variants.Passed F n G) (Variants.Refused g) e = cc
-one-to-one (Variants.Cycle k) (Variants.Passed F′ n′ G′) e = cc
+one-to-one (Variants.Passed f) (Variants.Passed g) e =
+    let same : figuresIn f ≡ figuresIn g = cc in
+    ap Variants.Passed (same-figures f g same)
+one-to-one (Variants.Passed f) (Variants.Cycle k′) e = cc
+one-to-one (Variants.Passed f) (Variants.Refused g) e = cc
+one-to-one (Variants.Cycle k) (Variants.Passed g) e = cc
 one-to-one (Variants.Cycle k) (Variants.Cycle k′) e = cc
 one-to-one (Variants.Cycle k) (Variants.Refused g) e = cc
-one-to-one (Variants.Refused f) (Variants.Passed F′ n′ G′) e = cc
+one-to-one (Variants.Refused f) (Variants.Passed g) e = cc
 one-to-one (Variants.Refused f) (Variants.Cycle k′) e = cc
 one-to-one (Variants.Refused f) (Variants.Refused g) e =
     let n : f .number ≡ g .number = cc in
@@ -393,12 +396,12 @@ verdict-determined file ws v w = same-verdict (judgedWeights file ws) (λ P end 
 
 -- The kinds of verdicts: figures, that the weights do not pass, a refusal.
 abbrev kindOfVerdict : Judgement → ℕ
-kindOfVerdict (Answers.passing F n G) = 0
+kindOfVerdict (Answers.passing f) = 0
 kindOfVerdict Answers.failing = 1
 kindOfVerdict (Answers.refusing number place) = 2
 
 -- Figures are another verdict than that the weights do not pass,
-pub passing-other : {A : Type 0} {F n G : ℕ} → Answers.passing F n G ≡ Answers.failing → A
+pub passing-other : {A : Type 0} {f : Theory.Figures} → Answers.passing f ≡ Answers.failing → A
 passing-other e = absurd (omega (arith, ap kindOfVerdict e))
 
 -- and so is a refusal.
@@ -416,25 +419,25 @@ verdict-fails (fault n q) (verdict-for-fault h) = absurd (omega (arith, ap kindO
 verdict-fails (found P end) (verdict-for-plant passes fails) = (P, end, refl, λ p. absurd (omega (arith, ap kindOfVerdict (passes p .figures))))
 
 -- and figures are owed for a plant for which they do.
-pub verdict-passes : {ws : List ℕ} {F n G : ℕ} (x : Found Plant) → ((P : Plant) (end : ℕ) → x ≡ found P end → WellFormed P) → OwedVerdict ws (Answers.passing F n G) x
-    → (P : Plant) × (end : ℕ) × (x ≡ found P end) × Passes P ws × OnPassingVerdict P ws (Answers.passing F n G)
+pub verdict-passes : {ws : List ℕ} {f : Theory.Figures} (x : Found Plant) → ((P : Plant) (end : ℕ) → x ≡ found P end → WellFormed P) → OwedVerdict ws (Answers.passing f) x
+    → (P : Plant) × (end : ℕ) × (x ≡ found P end) × Passes P ws × OnPassingVerdict P ws (Answers.passing f)
 verdict-passes (fault n q) formed (verdict-for-fault h) = absurd (omega (arith, ap kindOfVerdict h))
-verdict-passes {ws} {F} {n} {G} (found P end) formed (verdict-for-plant passes fails) = go (decision P (formed P end refl) ws)
+verdict-passes {ws} {f} (found P end) formed (verdict-for-plant passes fails) = go (decision P (formed P end refl) ws)
   where
     go : Passes P ws ⊎ ((c : List ℕ) × FailingCycle P ws c)
-        → (Q : Plant) × (k : ℕ) × (found P end ≡ found Q k) × Passes Q ws × OnPassingVerdict Q ws (Answers.passing F n G)
+        → (Q : Plant) × (k : ℕ) × (found P end ≡ found Q k) × Passes Q ws × OnPassingVerdict Q ws (Answers.passing f)
     go (inl p) = (P, end, refl, p, passes p)
     go (inr x) = absurd (omega (arith, ap kindOfVerdict (fails (λ p. not-both P ws (x .0) p (x .1)))))
 
 -- So where figures are the verdict, weighing owes them too, with the list kept,
-pub verdict-owed : {ws : List ℕ} {F n G : ℕ} (before : List ℕ) (x : Found Plant) → OwedVerdict ws (Answers.passing F n G) x → Owed ws before before (passed F n G) x
+pub verdict-owed : {ws : List ℕ} {f : Theory.Figures} (before : List ℕ) (x : Found Plant) → OwedVerdict ws (Answers.passing f) x → Owed ws before before (passed f) x
 verdict-owed before (fault n q) (verdict-for-fault h) = absurd (omega (arith, ap kindOfVerdict h))
 verdict-owed before (found P end) (verdict-for-plant passes fails) =
     for-plant
     (λ p. let h = passes p in record { figures = passing-is (h .figures); whole-kept = refl; bounded = h .bounded })
     (λ q. absurd (omega (arith, ap kindOfVerdict (fails q))))
   where
-    passing-is : {F n G F′ n′ G′ : ℕ} → Answers.passing F n G ≡ Answers.passing F′ n′ G′ → passed F n G ≡ passed F′ n′ G′
+    passing-is : {f g : Theory.Figures} → Answers.passing f ≡ Answers.passing g → passed f ≡ passed g
     passing-is e = cc
 
 -- and where the weights fail, the list was long enough.
@@ -443,13 +446,15 @@ verdict-room file ws room v = let x = verdict-fails (judged file ws room) v in j
 
 -- Different verdicts never mean the same.
 pub verdicts-differ : (a b : Verdict) → judgementOf a ≡ judgementOf b → a ≡ b
-verdicts-differ (Verdicts.Passes F n G) (Verdicts.Passes F′ n′ G′) e = cc
-verdicts-differ (Verdicts.Passes F n G) Verdicts.Fails e = cc
-verdicts-differ (Verdicts.Passes F n G) (Verdicts.Refused g) e = cc
-verdicts-differ Verdicts.Fails (Verdicts.Passes F′ n′ G′) e = cc
+verdicts-differ (Verdicts.Passes f) (Verdicts.Passes g) e =
+    let same : figuresIn f ≡ figuresIn g = cc in
+    ap Verdicts.Passes (same-figures f g same)
+verdicts-differ (Verdicts.Passes f) Verdicts.Fails e = cc
+verdicts-differ (Verdicts.Passes f) (Verdicts.Refused g) e = cc
+verdicts-differ Verdicts.Fails (Verdicts.Passes g) e = cc
 verdicts-differ Verdicts.Fails Verdicts.Fails e = refl
 verdicts-differ Verdicts.Fails (Verdicts.Refused g) e = cc
-verdicts-differ (Verdicts.Refused f) (Verdicts.Passes F′ n′ G′) e = cc
+verdicts-differ (Verdicts.Refused f) (Verdicts.Passes g) e = cc
 verdicts-differ (Verdicts.Refused f) Verdicts.Fails e = cc
 verdicts-differ (Verdicts.Refused f) (Verdicts.Refused g) e =
     let n : f .number ≡ g .number = cc in

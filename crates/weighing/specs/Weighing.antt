@@ -7,7 +7,7 @@ use lib.ListN.{length, drop}
 use lib.Dec.{eqb, ltb}
 use Rattle.livelock.specs.Plants.{Plant}
 use Rattle.livelock.specs.Weights.{Passes, FailingCycle}
-use Rattle.livelock.specs.Figures.{base, mostStates, perProgress, Bounded}
+use Rattle.livelock.specs.Figures.{figuresOf, Bounded}
 use Rattle.plant.specs.Found.{Found, found, fault, andThen}
 use Rattle.plant.specs.Reading.{readPlant}
 use Rattle.weighing.specs.Answers.{Answer, passed, cycle, refused, Judgement, passing, failing, refusing}
@@ -43,7 +43,7 @@ judged file ws room = andThen (readPlant file) (checked ws room)
 
 -- "Passing hands back F, n and G as in the mission"; "On passing, the whole list does" keep its contents; and the bound holds.
 pub record OnPassing (P : Plant) (ws before after : List ℕ) (a : Answer) : Type 0 where
-  pub figures : a ≡ passed (base P ws) (mostStates P) (perProgress P ws)
+  pub figures : a ≡ passed (figuresOf P ws)
   pub whole-kept : after ≡ before
   pub bounded : Bounded P ws
 
@@ -69,7 +69,7 @@ pub data Owed (ws before after : List ℕ) (a : Answer) : Found Plant → Type 0
 
 -- "Passing hands back F, n and G as in the mission"; and the bound holds.
 pub record OnPassingVerdict (P : Plant) (ws : List ℕ) (v : Judgement) : Type 0 where
-  pub figures : v ≡ passing (base P ws) (mostStates P) (perProgress P ws)
+  pub figures : v ≡ passing (figuresOf P ws)
   pub bounded : Bounded P ws
 
 -- What a verdict owes, by the input alone: for a fault its number and place; for a plant the figures if the weights pass, and that they do not if not.

@@ -11,29 +11,20 @@ ghost use Rattle.edges.specs.Edges.{Room};
 ghost use Rattle.machines.specs.Machines.{Weighable};
 ghost use Rattle.weighing.specs.Inner.Checks.{WeightsChecked, RoomChecked, OwedJudged, JudgedFor};
 use decoding::Shape;
+use figures::Figures;
 use plant::End;
 use plant::Fault;
 
 // The answer of weighing: F, n and G, or how many rows are shown, or a fault.
 pub enum Weighed {
-    Passed {
-        base: u64,
-        most_states: u64,
-        per_progress: u64,
-    },
-    Cycle {
-        rows: usize,
-    },
+    Passed(Figures),
+    Cycle { rows: usize },
     Refused(Fault),
 }
 
 // The answer of weighing without a cycle: F, n and G, or that the weights do not pass, or a fault.
 pub enum Verdict {
-    Passes {
-        base: u64,
-        most_states: u64,
-        per_progress: u64,
-    },
+    Passes(Figures),
     Fails,
     Refused(Fault),
 }
@@ -144,12 +135,7 @@ fn judge_table(
             states: casts::index_u8(states[m]),
         };
     }
-    let verdict = Verdict::Passes {
-        base: figures.base,
-        most_states: figures.most_states,
-        per_progress: figures.per_progress,
-    };
-    without_edges(verdict)
+    without_edges(Verdict::Passes(figures))
 }
 
 // Reads a file into a lent table, makes the checks 9 to 11 and decides.
@@ -216,15 +202,7 @@ pub fn weigh(file: &[u8], weights: &[u16], cycle: &mut [u16]) -> Weighed
     );
     let verdict = judged.verdict;
     match verdict {
-        Verdict::Passes {
-            base,
-            most_states,
-            per_progress,
-        } => Weighed::Passed {
-            base,
-            most_states,
-            per_progress,
-        },
+        Verdict::Passes(figures) => Weighed::Passed(figures),
         Verdict::Fails => {
             let count = judged.count;
             let own = judged.states;

@@ -5,7 +5,7 @@ use Prim.Native.Nat.{ℕ, _≤_}
 use lib.ListN.{length}
 use Rattle.livelock.specs.Plants.{Plant}
 use Rattle.livelock.specs.Weights.{Passes}
-use Rattle.livelock.specs.Figures.{base, mostStates, perProgress}
+use Rattle.livelock.specs.Figures.{figuresOf}
 use Rattle.plant.specs.Found.{Found, found}
 use Rattle.plant.specs.Reading.{readPlant}
 use Rattle.weighing.specs.Answers.{Answer, passed}
@@ -17,7 +17,7 @@ use Rattle.quoting.specs.Quoting as Quoting
 
 -- An answer of weighing that is owed for a plant in which the weights pass has their figures.
 figures-of : {ws before after : List ℕ} {a : Answer} {P : Plant} {end : ℕ} → Owed ws before after a (found P end) → Passes P ws
-    → a ≡ passed (base P ws) (mostStates P) (perProgress P ws)
+    → a ≡ passed (figuresOf P ws)
 figures-of (for-plant passing failing) p = passing p .figures
 
 -- Where they do not pass, it shows a cycle.
@@ -27,7 +27,7 @@ failing-of (for-plant passing failing) f = failing f
 -- So has one that is owed for a file that reads as the plant, with good weights and a lent list of 64 entries or more.
 pub figures-owed : (file ws before after : List ℕ) (a : Answer) (P : Plant) (end : ℕ) → readPlant file ≡ found P end → length ws ≡ P .types
     → length ws ≤ firstAbove 1000 ws → Passes P ws → 64 ≤ length before → Owed ws before after a (judged file ws (length before))
-    → a ≡ passed (base P ws) (mostStates P) (perProgress P ws)
+    → a ≡ passed (figuresOf P ws)
 figures-owed file ws before after a P end reads one-each light p room owed =
     let is : found P end ≡ judged file ws (length before) = refuse-none ws (length before) P end one-each light room ∙ judged-plant file ws (length before) P end reads in
     figures-of (owed-same ws before after a (judged file ws (length before)) (found P end) (sym is) owed) p

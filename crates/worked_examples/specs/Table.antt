@@ -23,7 +23,8 @@ use Rattle.worked_examples.specs.Files.{fileA, fileB, oneState, oneRow, 
 -- Every answer that meets the contract of `weigh`, for a lent list of 64 entries or more, has these figures.
 abbrev pub PassedWith : List ℕ → List ℕ → ℕ → ℕ → ℕ → Type 0
 PassedWith file ws F n G =
-    (before after : List ℕ) (a : WeighingAnswers.Answer) → 64 ≤ length before → Weighing.Owed ws before after a (Weighing.judged file ws (length before)) → a ≡ WeighingAnswers.passed F n G
+    (before after : List ℕ) (a : WeighingAnswers.Answer) → 64 ≤ length before → Weighing.Owed ws before after a (Weighing.judged file ws (length before))
+    → a ≡ WeighingAnswers.passed (record { base = F; «most_states» = n; «per_progress» = G })
 
 -- A quiet simple cycle of a machine of the plant of a file, and its weight.
 pub record CycleWeighs (file ws : List ℕ) (m : ℕ) (rows : List ℕ) (z : ℤ) : Type 0 where

@@ -32,14 +32,10 @@ fn weigh(title: &[u8], file: &[u8], weights: &[u16]) {
     let answer = weighing::weigh(file, weights, &mut cycle);
     printing::say(title);
     match answer {
-        Weighed::Passed {
-            base,
-            most_states,
-            per_progress,
-        } => {
-            printing::say_number(b"passed with F ", base);
-            printing::say_number(b", n ", most_states);
-            printing::say_number(b", G ", per_progress);
+        Weighed::Passed(figures) => {
+            printing::say_number(b"passed with F ", figures.base);
+            printing::say_number(b", n ", figures.most_states);
+            printing::say_number(b", G ", figures.per_progress);
         }
         Weighed::Cycle { rows } => {
             printing::say(b"not passed, shown are the rows");

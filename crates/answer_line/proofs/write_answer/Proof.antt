@@ -25,8 +25,12 @@ slice-aggregate-write-line-with-2 c = search needs
 write-line-with-requires : tie.Need-write-line-with-requires
 unfolding All
 write-line-with-requires c κs =
-    let t = c .before .before .before .known-told .given in
-    (few-figures (omega arith) (omega arith) (omega (arith, t .0 .1, t .1 .0 .1, t .1 .1 .0 .1), (omega (arith, t .0 .1, t .1 .0 .1, t .1 .1 .0 .1), (omega (arith, t .0 .1, t .1 .0 .1, t .1 .1 .0 .1), tt))), c .before .before .before .before .before .before .before .before .pre .2)
+    let known = c .before .before .before .known-told .given .0 .1 .1 in
+    let base = known .0 in
+    let states = known .1 .0 in
+    let progress = known .1 .1 .0 in
+    let room = c .before .before .before .before .before .before .before .before .pre .2 in
+    (few-figures (omega arith) (omega arith) (omega (arith, base), (omega (arith, states), (omega (arith, progress), tt))), room)
 
 enum-known-answer-2 : tie.Need-enum-known-answer-2
 enum-known-answer-2 c = search needs

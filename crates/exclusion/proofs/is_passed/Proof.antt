@@ -14,7 +14,7 @@ enum-known-answer-3 : tie.Need-enum-known-answer-3
 enum-known-answer-3 c = search needs
 
 returns : tie.Need-returns
-returns c = figures-told _ _ _ (c .before .answer .given .1)
+returns c = figures-told _ (c .before .answer .given .1)
 
 returns-2 : tie.Need-returns-2
 returns-2 c = cycle-told _ (c .before .answer2 .given .1)

@@ -4,37 +4,43 @@ use mathlib.Core.Path.{ap}
 use native.Mathlib.Nat.{mul-le-mul}
 use native.Mathlib.Omega.{arith}
 use Prim.Native.Nat.{_+_, _*_, _≤_}
+use Rattle.livelock.specs.Figures.{ceilingOf}
+use Rattle.figures.specs.FigureSums.{figuresIn}
 use Rattle.quoting.specs.Answers.{quoted}
 use Rattle.quoting.proofs.price.Statement.{statement}
 use Rattle.quoting.proofs.price.Tie as tie
 
 -- n × W is at most 64 × 64,000,000,000,
-states-part : (c : tie.Start) → c .args .most-states * c .args .weight ≤ 4096000000000
+states-part : (c : tie.Start) → c .args .figures .«most_states» * c .args .weight ≤ 4096000000000
 states-part c = mul-le-mul (c .pre .0 .most-limit) (c .pre .1)
 
 -- and G × g at most 4,096,063 × 1,000,000.
-progress-part : (c : tie.Start) → c .args .per-progress * c .args .g ≤ 4096063000000
+progress-part : (c : tie.Start) → c .args .figures .«per_progress» * c .args .g ≤ 4096063000000
 progress-part c = mul-le-mul (c .pre .0 .per-progress-limit) (c .pre .2)
 
 mul-ceiling : tie.Need-mul-ceiling
-mul-ceiling c = record { fits = omega (arith, states-part c) }
+mul-ceiling c = record { fits = omega (arith, states-part (c .before)) }
 
 add-ceiling : tie.Need-add-ceiling
-add-ceiling c = record { fits = omega (arith, c .pre .0 .base-limit, states-part c) }
+add-ceiling c =
+    let start = c .before .before in
+    record { fits = omega (arith, start .pre .0 .base-limit, states-part start) }
 
 mul-ceiling-2 : tie.Need-mul-ceiling-2
-mul-ceiling-2 c = record { fits = omega (arith, progress-part c) }
+mul-ceiling-2 c = record { fits = omega (arith, progress-part (c .before .before .before)) }
 
 add-ceiling-2 : tie.Need-add-ceiling-2
-add-ceiling-2 c = record { fits = omega (arith, c .pre .0 .base-limit, states-part c, progress-part c) }
+add-ceiling-2 c =
+    let start = c .before .before .before in
+    record { fits = omega (arith, start .pre .0 .base-limit, states-part start, progress-part start) }
 
 price-class-requires : tie.Need-price-class-requires
 price-class-requires c κs = search needs
 
 returns : tie.Need-returns
 returns c =
-    let a = c .before .args in
-    ap (quoted (a .base + a .most-states * a .weight + a .per-progress * a .g)) (c .price-class .ensures)
+    let a = c .before .before .before .before .args in
+    ap (quoted (ceilingOf (figuresIn (a .figures)) (a .weight) (a .g))) (c .price-class .ensures)
 
 pub price-spec : {M : Type 1} → statement M
 price-spec =

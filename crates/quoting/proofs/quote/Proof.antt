@@ -28,8 +28,8 @@ quote-weighed-requires-2 : tie.Need-quote-weighed-requires-2
 quote-weighed-requires-2 c κs =
     let a = c .before .before .before .before .before .before .before .args in
     let owed = owed-told (c .before .before .before .judge .ensures) (c .before .verdict2 .given .1) in
-    let good = passing-weights (a .file .now) (a .weights .now) (a .contents .now) (a .g) _ _ _ owed in
-    (figures-fit (a .file .now) (a .weights .now) (a .contents .now) (a .g) _ _ _ owed, good .0, good .1)
+    let good = passing-weights (a .file .now) (a .weights .now) (a .contents .now) (a .g) _ owed in
+    (figures-fit (a .file .now) (a .weights .now) (a .contents .now) (a .g) _ owed, good .0, good .1)
 
 returns : tie.Need-returns
 returns c =
@@ -39,12 +39,12 @@ returns c =
 returns-2 : tie.Need-returns-2
 returns-2 c =
     let a = c .before .before .before .before .before .before .before .args in
-    quote-failing (a .file .now) (a .weights .now) (a .contents .now) (a .g) (owed-told (c .before .before .before .judge .ensures) (c .before .enum-told .given .1)) _ (c .quote-weighed .ensures)
+    quote-failing (a .file .now) (a .weights .now) (a .contents .now) (a .g) (owed-told (c .before .before .before .judge .ensures) (c .before .enum-told .given .1)) _ _ (c .quote-weighed .ensures)
 
 returns-3 : tie.Need-returns-3
 returns-3 c =
     let a = c .before .before .before .before .before .before .before .before .args in
-    quote-passing (a .file .now) (a .weights .now) (a .contents .now) (a .g) _ _ _ (owed-told (c .before .before .before .before .judge .ensures) (c .before .before .verdict2 .given .1)) _ (c .quote-weighed2 .ensures)
+    quote-passing (a .file .now) (a .weights .now) (a .contents .now) (a .g) _ (owed-told (c .before .before .before .before .judge .ensures) (c .before .before .verdict2 .given .1)) _ (c .quote-weighed2 .ensures)
 
 pub quote-spec : {M : Type 1} → statement M
 quote-spec =

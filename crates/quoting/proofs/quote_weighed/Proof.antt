@@ -3,6 +3,7 @@ use borrow.Author.Needs.{needs}
 use mathlib.Core.Path.{subst}
 use native.Mathlib.Omega.{arith}
 use lib.ListN.{length}
+use Rattle.figures.specs.FigureSums.{figuresIn}
 use Rattle.quoting.specs.Inner.Checks.{Checks}
 use Rattle.quoting.specs.declared.Check.the-variants.{Good}
 use Rattle.quoting.proofs.AmountLaws.{contents-limit}
@@ -44,14 +45,14 @@ price-requires c κs =
 returns : tie.Need-returns
 returns c =
     let a = c .before .before .before .before .before .before .args in
-    check-refused (a .passes) (a .base) (a .most-states) (a .per-progress) (a .weights .now) (a .contents .now) (a .g) _
+    check-refused (a .passes) (figuresIn (a .figures)) (a .weights .now) (a .contents .now) (a .g) _
     (subst (Checks (length (a .weights .now)) (a .contents .now) (a .g) (a .passes)) (c .before .checked .given .1) (c .before .before .before .check-numbers .ensures))
 
 returns-2 : tie.Need-returns-2
 returns-2 c =
     let a = c .before .before .before .before .before .before .before .args in
     let w = c .before .contents-weight in
-    check-priced (a .passes) (a .base) (a .most-states) (a .per-progress) (a .weights .now) (a .contents .now) (a .g) (w .result) _
+    check-priced (a .passes) (figuresIn (a .figures)) (a .weights .now) (a .contents .now) (a .g) (w .result) _
     (w .ensures) (c .price .ensures) (checked-good (c .before .before))
 
 pub quote-weighed-spec : {M : Type 1} → statement M

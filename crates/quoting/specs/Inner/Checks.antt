@@ -2,11 +2,12 @@
 use mathlib.Core.Path.{_≡_}
 use mathlib.Core.Bool.{Bool, cond}
 use mathlib.Core.List.{List}
-use Prim.Native.Nat.{ℕ, _+_, _*_, _≤_}
+use Prim.Native.Nat.{ℕ, _*_, _≤_}
 use lib.ListN.{length, getD}
 use Rattle.livelock.specs.Lists.{below, sum}
 use Rattle.livelock.specs.Plants.{Plant}
 use Rattle.livelock.specs.Weights.{weight}
+use Rattle.livelock.specs.Figures.{Figures, ceilingOf}
 use Rattle.plant.specs.Found.{Found, found, fault, andThen}
 use Rattle.plant.specs.Steps.{faultFound}
 use Rattle.quoting.specs.Answers.{Answer, quoted, refused}
@@ -41,23 +42,22 @@ abbrev pub Checks : ℕ → List ℕ → ℕ → Bool → Check → Type 0
 Checks types contents g passes r = (P : Plant) (end : ℕ) → P .types ≡ types → checkFound r P end ≡ checkedPassing contents g passes P end
 
 -- The ceiling of these figures, and its class.
-abbrev pub Priced : ℕ → ℕ → ℕ → ℕ → ℕ → Answer → Type 0
-Priced F n G weight g a =
-    a ≡ quoted (F + n * weight + G * g) (classOf (F + n * weight + G * g))
+abbrev pub Priced : Figures → ℕ → ℕ → Answer → Type 0
+Priced f weight g a = a ≡ quoted (ceilingOf f weight g) (classOf (ceilingOf f weight g))
 
 -- Figures within the limits.
-pub record FiguresFit (F n G : ℕ) : Type 0 where
-  pub base-limit : F ≤ 64513008
-  pub most-limit : n ≤ 64
-  pub per-progress-limit : G ≤ 4096063
+pub record FiguresFit (f : Figures) : Type 0 where
+  pub base-limit : f .base ≤ 64513008
+  pub most-limit : f .«most_states» ≤ 64
+  pub per-progress-limit : f .«per_progress» ≤ 4096063
 
 -- What is said after weighing: the fault found, or the ceiling of the figures.
-abbrev pub quotedFor : ℕ → ℕ → ℕ → List ℕ → List ℕ → ℕ → Found Plant → Answer
-quotedFor F n G ws contents g (fault number place) = refused number place
-quotedFor F n G ws contents g (found P end) =
-    quoted (F + n * weightOfContents ws contents + G * g) (classOf (F + n * weightOfContents ws contents + G * g))
+abbrev pub quotedFor : Figures → List ℕ → List ℕ → ℕ → Found Plant → Answer
+quotedFor f ws contents g (fault number place) = refused number place
+quotedFor f ws contents g (found P end) =
+    quoted (ceilingOf f (weightOfContents ws contents) g) (classOf (ceilingOf f (weightOfContents ws contents) g))
 
 -- The answer is what is said, after the checks 20, 21 and 22, of every plant with a type for each weight.
-abbrev pub OwedChecked : Bool → ℕ → ℕ → ℕ → List ℕ → List ℕ → ℕ → Answer → Type 0
-OwedChecked passes F n G ws contents g a =
-    (P : Plant) (end : ℕ) → P .types ≡ length ws → a ≡ quotedFor F n G ws contents g (checkedPassing contents g passes P end)
+abbrev pub OwedChecked : Bool → Figures → List ℕ → List ℕ → ℕ → Answer → Type 0
+OwedChecked passes f ws contents g a =
+    (P : Plant) (end : ℕ) → P .types ≡ length ws → a ≡ quotedFor f ws contents g (checkedPassing contents g passes P end)
