@@ -4,7 +4,7 @@ use mathlib.Core.List.{[], _∷_}
 use Rattle.plant.specs.Found.{fault}
 use Rattle.plant.specs.Reading.{byteAt, byteThat, byteIn, rowsByte, readRows, readMachine, readMachines, readPlant}
 use Rattle.weighing.specs.Answers.{passed, cycle, refused}
-use Rattle.weighing.specs.Weighing.{checkedWeights, checked}
+use Rattle.weighing.specs.Weighing.{checkedWeights}
 use Rattle.answer_line.specs.Lines.{decimalWithin, decimal, figure, figures, lineOf}
 use Rattle.answer_line.specs.Files.{weightsOf, checkedBytes, judgedFiles}
 
@@ -40,7 +40,7 @@ odd-length = refl
 
 -- and so is one weight for no type;
 one-weight : judgedFiles (1 ∷ 0 ∷ 1 ∷ 0 ∷ []) (7 ∷ 0 ∷ []) ≡ fault 9 0
-unfolding byteAt byteThat byteIn rowsByte readRows readMachine readMachines readPlant weightsOf checkedWeights checked checkedBytes
+unfolding byteAt byteThat byteIn rowsByte readRows readMachine readMachines readPlant weightsOf checkedWeights checkedBytes
 one-weight = refl
 
 -- but the plant's own faults come first.

@@ -30,7 +30,7 @@ long-refused weights P end few long = go (eqb (length weights % 2) 1) refl
   where
     go : (b : Bool) → eqb (length weights % 2) 1 ≡ b → checkedBytes weights P end ≡ fault 9 0
     go true e = odd-checked weights P end e
-    go false e = even-checked weights P end e ∙ too-many (weightsOf weights) 64 P end (omega (arith, weights-length weights))
+    go false e = even-checked weights P end e ∙ too-many (weightsOf weights) P end (omega (arith, weights-length weights))
 
 module _ (weights before after : List ℕ) (a : Answer) (k : ℕ) (room : 130 ≤ k) (long : k ≤ length weights) where
   -- The part of a longer weights file is refused as the whole is.

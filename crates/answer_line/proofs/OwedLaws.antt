@@ -15,15 +15,16 @@ use Rattle.plant.specs.Found.{Found, found, fault, andThen}
 use Rattle.plant.specs.Reading.{readPlant}
 use Rattle.plant.proofs.FileBounds.{within-limits}
 use Rattle.weighing.specs.Answers.{Answer, passed, cycle, refused}
-use Rattle.weighing.specs.Weighing.{checkedWeights, checked, judged, Owed, for-fault, for-plant}
+use Rattle.weighing.specs.Weighing.{checkedWeights, judged, Owed, for-fault, for-plant}
+use Rattle.weighing.proofs.WeighingLaws.{judged-64}
 use Rattle.answer_line.specs.Files.{weightsOf, checkedBytes, judgedFiles, Printed}
 use Rattle.answer_line.specs.Lines.{lineOf}
 use Rattle.answer_line.specs.Inner.Steps.{FewRows, handedOver}
 
 -- More weights than types: "9 | not one for each type | 0".
-pub too-many : (ws : List ℕ) (room : ℕ) (P : Plant) (end : ℕ) → P .types < length ws → checked ws room P end ≡ fault 9 0
-unfolding checked checkedWeights
-too-many ws room P end h = let differ : length ws ≡ P .types → ⊥ = λ e. omega arith in rw (ne-eqb (length ws) (P .types) differ)
+pub too-many : (ws : List ℕ) (P : Plant) (end : ℕ) → P .types < length ws → checkedWeights ws P end ≡ fault 9 0
+unfolding checkedWeights
+too-many ws P end h = let differ : length ws ≡ P .types → ⊥ = λ e. omega arith in rw (ne-eqb (length ws) (P .types) differ)
 
 -- For a fault the weights do not matter.
 pub any-weights : {ws vs before after : List ℕ} {a : Answer} {number place : ℕ} → Owed ws before after a (fault number place) → Owed vs before after a (fault number place)
@@ -46,42 +47,44 @@ pub even-handed : (weights : List ℕ) → eqb (length weights % 2) 1 ≡ false 
 unfolding handedOver
 even-handed weights e = rw e
 
-pub even-checked : (weights : List ℕ) (P : Plant) (end : ℕ) → eqb (length weights % 2) 1 ≡ false → checkedBytes weights P end ≡ checked (weightsOf weights) 64 P end
+pub even-checked : (weights : List ℕ) (P : Plant) (end : ℕ) → eqb (length weights % 2) 1 ≡ false → checkedBytes weights P end ≡ checkedWeights (weightsOf weights) P end
 unfolding checkedBytes
 even-checked weights P end e = rw e
 
 -- What is owed for a plant with at most 64 types does not change if only 65 weights are handed over, or 65 for an odd length.
 handed-plant : (weights before after : List ℕ) (a : Answer) (P : Plant) (end : ℕ) → P .types ≤ 64
-    → Owed (handedOver weights) before after a (checked (handedOver weights) 64 P end) → Owed (weightsOf weights) before after a (checkedBytes weights P end)
+    → Owed (handedOver weights) before after a (checkedWeights (handedOver weights) P end) → Owed (weightsOf weights) before after a (checkedBytes weights P end)
 handed-plant weights before after a P end few owed = go (eqb (length weights % 2) 1) refl
   where
     go : (b : Bool) → eqb (length weights % 2) 1 ≡ b → Owed (weightsOf weights) before after a (checkedBytes weights P end)
     go true e =
         both-refused
-        (too-many (handedOver weights) 64 P end (omega (arith, ap length (odd-handed weights e))))
+        (too-many (handedOver weights) P end (omega (arith, ap length (odd-handed weights e))))
         (odd-checked weights P end e)
         owed
     go false e = elim (decLe (length (weightsOf weights)) 65) [
       | yes h ↦
           subst⁻¹ (λ (z : Found Plant). Owed (weightsOf weights) before after a z) (even-checked weights P end e)
-          (subst (λ (vs : List ℕ). Owed vs before after a (checked vs 64 P end)) (even-handed weights e ∙ take-all 65 (weightsOf weights) h) owed)
+          (subst (λ (vs : List ℕ). Owed vs before after a (checkedWeights vs P end)) (even-handed weights e ∙ take-all 65 (weightsOf weights) h) owed)
       | no h ↦
           both-refused
-          (too-many (handedOver weights) 64 P end (omega (arith, ap length (even-handed weights e), length-take-le 65 (weightsOf weights) (omega arith))))
-          (even-checked weights P end e ∙ too-many (weightsOf weights) 64 P end (omega arith))
+          (too-many (handedOver weights) P end (omega (arith, ap length (even-handed weights e), length-take-le 65 (weightsOf weights) (omega arith))))
+          (even-checked weights P end e ∙ too-many (weightsOf weights) P end (omega arith))
           owed
     ]
 
 -- The same for every file.
 handed-found : (weights before after : List ℕ) (a : Answer) (x : Found Plant) → ((P : Plant) (end : ℕ) → x ≡ found P end → P .types ≤ 64)
-    → Owed (handedOver weights) before after a (andThen x (checked (handedOver weights) 64)) → Owed (weightsOf weights) before after a (andThen x (checkedBytes weights))
+    → Owed (handedOver weights) before after a (andThen x (checkedWeights (handedOver weights))) → Owed (weightsOf weights) before after a (andThen x (checkedBytes weights))
 handed-found weights before after a (found P end) few owed = handed-plant weights before after a P end (few P end refl) owed
 handed-found weights before after a (fault number place) few owed = any-weights owed
 
 -- What is owed for the weights handed over is owed for the two files.
 pub handed : (plant weights before after : List ℕ) (a : Answer) → Owed (handedOver weights) before after a (judged plant (handedOver weights) 64)
     → Owed (weightsOf weights) before after a (judgedFiles plant weights)
-handed plant weights before after a owed = handed-found weights before after a (readPlant plant) (λ P end e. within-limits plant P end e .few-types) owed
+handed plant weights before after a owed =
+    handed-found weights before after a (readPlant plant) (λ P end e. within-limits plant P end e .few-types)
+    (subst (Owed (handedOver weights) before after a) (judged-64 plant (handedOver weights)) owed)
 
 -- An answer that shows a cycle, and how many rows it shows.
 abbrev ShowsCycle : Answer → Type 0

@@ -9,7 +9,7 @@ use Rattle.livelock.specs.Plants.{Plant}
 use Rattle.plant.specs.Found.{Found, fault, andThen}
 use Rattle.plant.specs.Reading.{readPlant}
 use Rattle.weighing.specs.Answers.{Answer}
-use Rattle.weighing.specs.Weighing.{checked, Owed}
+use Rattle.weighing.specs.Weighing.{checkedWeights, Owed}
 use Rattle.answer_line.specs.Lines.{lineOf}
 
 -- "two bytes a weight, low byte first": a last single byte gives none.
@@ -18,9 +18,9 @@ weightsOf [] = []
 weightsOf (low ∷ []) = []
 weightsOf (low ∷ high ∷ bytes) = (low + 256 * high) ∷ weightsOf bytes
 
--- "an odd length is 9 at place 0", then the checks 9 and 10 of the weights; the program's own list has room for a cycle.
+-- "an odd length is 9 at place 0", then the checks 9 and 10 of the weights. The program's own list has room for a cycle, so that check 11 finds nothing.
 unfoldable pub checkedBytes : List ℕ → Plant → ℕ → Found Plant
-checkedBytes weights P end = cond (eqb (length weights % 2) 1) (fault 9 0) (checked (weightsOf weights) 64 P end)
+checkedBytes weights P end = cond (eqb (length weights % 2) 1) (fault 9 0) (checkedWeights (weightsOf weights) P end)
 
 -- "reads plant.bin and weights.bin": the plant to weigh, or the first fault, the plant's own faults first.
 abbrev pub judgedFiles : List ℕ → List ℕ → Found Plant

@@ -33,39 +33,40 @@ none-above limit (x ∷ xs) h i = go (ltb limit x) refl h (none-above limit xs) 
     go false q l rest zero = ltb-false limit x q
     go false q l rest (suc i) = rest (le-of-suc-le-suc l) i
 
-module _ (contents : List ℕ) (g : ℕ) where
-  -- g stands behind the contents: there is one number more,
-  pub amounts-length : length (amounts contents g) ≡ length contents + 1
-  amounts-length = length-append contents (g ∷ [])
+module _ (contents last : List ℕ) where
+  -- The last numbers stand behind the contents: there are so many more,
+  pub amounts-length : length (amounts contents last) ≡ length contents + length last
+  amounts-length = length-append contents last
 
-  -- the numbers before it are the contents,
-  content-at : (i : ℕ) → i < length contents → getD (amounts contents g) i 0 ≡ getD contents i 0
-  content-at i l = List·getD-append contents (g ∷ []) 0 i l
+  -- and the numbers before them are the contents.
+  content-at : (i : ℕ) → i < length contents → getD (amounts contents last) i 0 ≡ getD contents i 0
+  content-at i l = List·getD-append contents last 0 i l
 
-  -- and it is the last.
-  g-at : (i : ℕ) → i ≡ length contents → getD (amounts contents g) i 0 ≡ g
-  g-at i e = ap (λ (k : ℕ). getD (amounts contents g) k 0) e ∙ getD-append-seam contents g [] 0
-
-  module _ (i x : ℕ) (rest : i + firstAbove 1000000 (drop i (amounts contents g)) ≡ x) where
+  module _ (i x : ℕ) (rest : i + firstAbove 1000000 (drop i (amounts contents last)) ≡ x) where
     -- A content above 1,000,000 is the first number above it,
     pub content-stops : i < length contents → 1000000 < getD contents i 0 → i ≡ x
-    content-stops l a = above-stops 1000000 (amounts contents g) i x rest (omega (arith, amounts-length)) (rw (content-at i l) a)
+    content-stops l a = above-stops 1000000 (amounts contents last) i x rest (omega (arith, amounts-length)) (rw (content-at i l) a)
 
     -- and one that is not is passed over.
-    pub content-goes-on : i < length contents → getD contents i 0 ≤ 1000000 → i + 1 + firstAbove 1000000 (drop (i + 1) (amounts contents g)) ≡ x
-    content-goes-on l a = above-goes-on 1000000 (amounts contents g) i x rest (omega (arith, amounts-length)) (rw (content-at i l) a)
+    pub content-goes-on : i < length contents → getD contents i 0 ≤ 1000000 → i + 1 + firstAbove 1000000 (drop (i + 1) (amounts contents last)) ≡ x
+    content-goes-on l a = above-goes-on 1000000 (amounts contents last) i x rest (omega (arith, amounts-length)) (rw (content-at i l) a)
 
-    module _ (last : i ≡ length contents) where
-      -- After the contents, g above 1,000,000 is the first,
-      pub g-stops : 1000000 < g → length contents ≡ x
-      g-stops a = sym last ∙ above-stops 1000000 (amounts contents g) i x rest (omega (arith, amounts-length)) (rw (g-at i last) a)
+module _ (contents : List ℕ) (g : ℕ) where
+  -- g stands behind the contents,
+  g-at : (i : ℕ) → i ≡ length contents → getD (amounts contents (g ∷ [])) i 0 ≡ g
+  g-at i e = ap (λ (k : ℕ). getD (amounts contents (g ∷ [])) k 0) e ∙ getD-append-seam contents g [] 0
 
-      -- and else there is none.
-      pub none-stops : g ≤ 1000000 → i + 1 ≡ x
-      none-stops a =
-          above-ends 1000000 (amounts contents g) (i + 1) x
-          (above-goes-on 1000000 (amounts contents g) i x rest (omega (arith, amounts-length)) (rw (g-at i last) a))
-          (omega (arith, amounts-length))
+  module _ (i x : ℕ) (rest : i + firstAbove 1000000 (drop i (amounts contents (g ∷ []))) ≡ x) (last : i ≡ length contents) where
+    -- and after them g above 1,000,000 is the first,
+    pub g-stops : 1000000 < g → length contents ≡ x
+    g-stops a = sym last ∙ above-stops 1000000 (amounts contents (g ∷ [])) i x rest (omega (arith, amounts-length contents (g ∷ []))) (rw (g-at i last) a)
+
+    -- and else there is none.
+    pub none-stops : g ≤ 1000000 → i + 1 ≡ x
+    none-stops a =
+        above-ends 1000000 (amounts contents (g ∷ [])) (i + 1) x
+        (above-goes-on 1000000 (amounts contents (g ∷ [])) i x rest (omega (arith, amounts-length contents (g ∷ []))) (rw (g-at i last) a))
+        (omega (arith, amounts-length contents (g ∷ [])))
 
 -- ---- the checks
 
@@ -77,21 +78,21 @@ module _ (contents : List ℕ) (g : ℕ) (passes : Bool) (P : Plant) (end : ℕ)
 
   module _ (one-each : length contents ≡ P .types) where
     -- A number above 1,000,000: fault 21 at the first.
-    pub refuse-21 : (i : ℕ) → i ≡ firstAbove 1000000 (amounts contents g) → i < length (amounts contents g) → fault 21 i ≡ checkedPassing contents g passes P end
+    pub refuse-21 : (i : ℕ) → i ≡ firstAbove 1000000 (amounts contents (g ∷ [])) → i < length (amounts contents (g ∷ [])) → fault 21 i ≡ checkedPassing contents g passes P end
     unfolding checkedContents checkedAmounts
     refuse-21 i q l =
-        rw (q, eq-eqb (length contents) (P .types) one-each, lt-ltb (firstAbove 1000000 (amounts contents g)) (length (amounts contents g)) (rw (← q) l))
+        rw (q, eq-eqb (length contents) (P .types) one-each, lt-ltb (firstAbove 1000000 (amounts contents (g ∷ []))) (length (amounts contents (g ∷ []))) (rw (← q) l))
 
-    module _ (small : length (amounts contents g) ≤ firstAbove 1000000 (amounts contents g)) where
+    module _ (small : length (amounts contents (g ∷ [])) ≤ firstAbove 1000000 (amounts contents (g ∷ []))) where
       -- Weights that do not pass: fault 22.
       pub refuse-22 : passes ≡ false → fault 22 0 ≡ checkedPassing contents g passes P end
       unfolding checkedContents checkedAmounts
-      refuse-22 q = rw (q, eq-eqb (length contents) (P .types) one-each, le-ltb (firstAbove 1000000 (amounts contents g)) (length (amounts contents g)) small)
+      refuse-22 q = rw (q, eq-eqb (length contents) (P .types) one-each, le-ltb (firstAbove 1000000 (amounts contents (g ∷ []))) (length (amounts contents (g ∷ []))) small)
 
       -- Otherwise a ceiling is quoted.
       pub refuse-none : passes ≡ true → found P end ≡ checkedPassing contents g passes P end
       unfolding checkedContents checkedAmounts
-      refuse-none q = rw (q, eq-eqb (length contents) (P .types) one-each, le-ltb (firstAbove 1000000 (amounts contents g)) (length (amounts contents g)) small)
+      refuse-none q = rw (q, eq-eqb (length contents) (P .types) one-each, le-ltb (firstAbove 1000000 (amounts contents (g ∷ []))) (length (amounts contents (g ∷ []))) small)
 
 -- ---- what the checks say when they find a plant
 
@@ -103,7 +104,7 @@ pub record Amounts (contents : List ℕ) (g : ℕ) (Q P : Plant) : Type 0 where
   pub few-progress : g ≤ 1000000
 
 -- The contents and g, of which none is above.
-amounts-limit : (contents : List ℕ) (g : ℕ) → AllAtMost 1000000 (amounts contents g) → AllAtMost 1000000 contents × (g ≤ 1000000)
+amounts-limit : (contents : List ℕ) (g : ℕ) → AllAtMost 1000000 (amounts contents (g ∷ [])) → AllAtMost 1000000 contents × (g ≤ 1000000)
 amounts-limit [] g h = (λ i. zero-le, h 0)
 amounts-limit (x ∷ xs) g h = let r = amounts-limit xs g (λ i. h (suc i)) in (λ i. go i (r .0), r .1)
   where
@@ -115,13 +116,13 @@ amounts-limit (x ∷ xs) g h = let r = amounts-limit xs g (λ i. h (suc i)) in (
 pub contents-good : (contents : List ℕ) (g : ℕ) (Q P : Plant) (k end : ℕ) → checkedContents contents g Q k ≡ found P end → Amounts contents g Q P
 unfolding checkedContents checkedAmounts
 contents-good contents g Q P k end =
-    go (eqb (length contents) (Q .types)) (ltb (firstAbove 1000000 (amounts contents g)) (length (amounts contents g))) refl refl
+    go (eqb (length contents) (Q .types)) (ltb (firstAbove 1000000 (amounts contents (g ∷ []))) (length (amounts contents (g ∷ [])))) refl refl
   where
-    go : (a b : Bool) → eqb (length contents) (Q .types) ≡ a → ltb (firstAbove 1000000 (amounts contents g)) (length (amounts contents g)) ≡ b
-        → cond a (cond b (fault 21 (firstAbove 1000000 (amounts contents g))) (found Q k)) (fault 20 0) ≡ found P end → Amounts contents g Q P
+    go : (a b : Bool) → eqb (length contents) (Q .types) ≡ a → ltb (firstAbove 1000000 (amounts contents (g ∷ []))) (length (amounts contents (g ∷ []))) ≡ b
+        → cond a (cond b (fault 21 (firstAbove 1000000 (amounts contents (g ∷ [])))) (found Q k)) (fault 20 0) ≡ found P end → Amounts contents g Q P
     go true true p q e = no-plant _ _ P end e
     go true false p q e =
-        let r = amounts-limit contents g (none-above 1000000 (amounts contents g) (ltb-false _ _ q)) in
+        let r = amounts-limit contents g (none-above 1000000 (amounts contents (g ∷ [])) (ltb-false _ _ q)) in
         record { same = cc; one-each = eqb-true _ _ p; small = r .0; few-progress = r .1 }
     go false b p q e = no-plant _ _ P end e
 

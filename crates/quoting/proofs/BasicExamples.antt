@@ -1,21 +1,23 @@
 -- Ceilings, price classes and the checks 20 and 21 that the checker computes by the definitions alone, so that an edit of a definition is caught here first.
 use mathlib.Core.Path.{_≡_, refl}
-use mathlib.Core.List.{[], _∷_}
+use mathlib.Core.List.{List, [], _∷_}
+use Prim.Native.Nat.{ℕ}
 use Rattle.livelock.specs.Lists.{below, sum, greatest}
+use Rattle.livelock.specs.Plants.{Plant}
 use Rattle.livelock.specs.Figures.{contentsWeight}
 use Rattle.livelock.proofs.BasicExamples.{panelAndProbe, plantA}
-use Rattle.plant.specs.Found.{found, fault}
+use Rattle.plant.specs.Found.{Found, found, fault, andThen}
 use Rattle.plant.specs.Reading.{byteAt, byteThat, byteIn, mapByte, stateField, typeField, readRow, readRows, rowsByte, readMachine, readMachines, readPlant}
 use Rattle.plant.proofs.BasicExamples.{panelAndProbeFile}
 use Rattle.weighing.specs.Weighing.{firstAbove, checkedSizes, checkedWeights}
 use Rattle.quoting.specs.Classes.{edges, classOf}
-use Rattle.quoting.specs.Quoting.{content, checkedAmounts, checkedContents, checked, judged, ceilingFor}
+use Rattle.quoting.specs.Quoting.{content, checkedAmounts, checkedContents, judged, ceilingFor}
 
 -- ---- plant A of document 01
 
 -- Its 20 bytes, with weights 2, 1, contents 3, 4 and g 1: no fault,
 judged-A : judged (panelAndProbeFile 0x1B) (2 ∷ 1 ∷ []) (3 ∷ 4 ∷ []) 1 ≡ found plantA 20
-unfolding panelAndProbeFile panelAndProbe byteAt byteThat byteIn mapByte stateField typeField readRow readRows rowsByte readMachine readMachines readPlant firstAbove checkedSizes checkedWeights checkedAmounts checkedContents checked
+unfolding panelAndProbeFile panelAndProbe byteAt byteThat byteIn mapByte stateField typeField readRow readRows rowsByte readMachine readMachines readPlant firstAbove checkedSizes checkedWeights checkedAmounts checkedContents
 judged-A = refl
 
 -- W 10, ceiling 39, class 6.
@@ -37,34 +39,38 @@ last-classes = (refl, refl)
 
 -- ---- faults, one by one
 
+-- The checks of plant A, whose file has 20 bytes.
+abbrev checkedA : (ws contents : List ℕ) → ℕ → Found Plant
+checkedA ws contents g = andThen (checkedWeights ws plantA 20) (checkedContents contents g)
+
 -- Number 20: a content too few, and one too many, before number 21.
-content-missing : checked (2 ∷ 1 ∷ []) (1000001 ∷ []) 1000001 plantA 20 ≡ fault 20 0
-unfolding panelAndProbe firstAbove checkedSizes checkedWeights checkedAmounts checkedContents checked
+content-missing : checkedA (2 ∷ 1 ∷ []) (1000001 ∷ []) 1000001 ≡ fault 20 0
+unfolding panelAndProbe firstAbove checkedSizes checkedWeights checkedAmounts checkedContents
 content-missing = refl
 
-content-too-many : checked (2 ∷ 1 ∷ []) (3 ∷ 4 ∷ 1000001 ∷ []) 1 plantA 20 ≡ fault 20 0
-unfolding panelAndProbe firstAbove checkedSizes checkedWeights checkedAmounts checkedContents checked
+content-too-many : checkedA (2 ∷ 1 ∷ []) (3 ∷ 4 ∷ 1000001 ∷ []) 1 ≡ fault 20 0
+unfolding panelAndProbe firstAbove checkedSizes checkedWeights checkedAmounts checkedContents
 content-too-many = refl
 
 -- Number 21: 1,000,000 is a content and a g, and 1,000,001 is none.
-amounts-1000000 : checked (2 ∷ 1 ∷ []) (1000000 ∷ 1000000 ∷ []) 1000000 plantA 20 ≡ found plantA 20
-unfolding panelAndProbe firstAbove checkedSizes checkedWeights checkedAmounts checkedContents checked
+amounts-1000000 : checkedA (2 ∷ 1 ∷ []) (1000000 ∷ 1000000 ∷ []) 1000000 ≡ found plantA 20
+unfolding panelAndProbe firstAbove checkedSizes checkedWeights checkedAmounts checkedContents
 amounts-1000000 = refl
 
 -- A content is refused at its index, and g at the type count; the first decides.
-content-1000001 : checked (2 ∷ 1 ∷ []) (1000000 ∷ 1000001 ∷ []) 1000001 plantA 20 ≡ fault 21 1
-unfolding panelAndProbe firstAbove checkedSizes checkedWeights checkedAmounts checkedContents checked
+content-1000001 : checkedA (2 ∷ 1 ∷ []) (1000000 ∷ 1000001 ∷ []) 1000001 ≡ fault 21 1
+unfolding panelAndProbe firstAbove checkedSizes checkedWeights checkedAmounts checkedContents
 content-1000001 = refl
 
-g-1000001 : checked (2 ∷ 1 ∷ []) (1000000 ∷ 1000000 ∷ []) 1000001 plantA 20 ≡ fault 21 2
-unfolding panelAndProbe firstAbove checkedSizes checkedWeights checkedAmounts checkedContents checked
+g-1000001 : checkedA (2 ∷ 1 ∷ []) (1000000 ∷ 1000000 ∷ []) 1000001 ≡ fault 21 2
+unfolding panelAndProbe firstAbove checkedSizes checkedWeights checkedAmounts checkedContents
 g-1000001 = refl
 
 -- Numbers 9 and 10 come before number 20.
-weight-missing : checked (2 ∷ []) (3 ∷ []) 1 plantA 20 ≡ fault 9 0
-unfolding panelAndProbe firstAbove checkedSizes checkedWeights checkedAmounts checkedContents checked
+weight-missing : checkedA (2 ∷ []) (3 ∷ []) 1 ≡ fault 9 0
+unfolding panelAndProbe firstAbove checkedSizes checkedWeights checkedAmounts checkedContents
 weight-missing = refl
 
-weight-1001 : checked (2 ∷ 1001 ∷ []) (3 ∷ []) 1 plantA 20 ≡ fault 10 1
-unfolding panelAndProbe firstAbove checkedSizes checkedWeights checkedAmounts checkedContents checked
+weight-1001 : checkedA (2 ∷ 1001 ∷ []) (3 ∷ []) 1 ≡ fault 10 1
+unfolding panelAndProbe firstAbove checkedSizes checkedWeights checkedAmounts checkedContents
 weight-1001 = refl

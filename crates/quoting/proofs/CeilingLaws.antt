@@ -13,14 +13,14 @@ use Rattle.livelock.specs.Figures.{mostStates, perProgress, contentsWeight, Bou
 use Rattle.livelock.specs.Cycles.{RowOf}
 use Rattle.livelock.proofs.ListLaws.{all-below, all-at}
 use Rattle.livelock.proofs.SumLaws.{sum-equal}
-use Rattle.plant.specs.Found.{found, andThen}
+use Rattle.plant.specs.Found.{found}
 use Rattle.plant.specs.Limits.{WithinLimits}
 use Rattle.plant.specs.Reading.{byteAt, byteThat, byteIn, readRows, rowsByte, readMachine, readMachines, readPlant}
 use Rattle.weighing.specs.Weighing.{firstAbove, checkedSizes, checkedWeights, judgedWeights}
 use Rattle.figures.proofs.FigureLaws.{most-limit, base-limit, per-progress-limit}
-use Rattle.weighing.proofs.WeighingLaws.{then-then, then-found, judged-weights}
+use Rattle.weighing.proofs.WeighingLaws.{then-found, judged-weights}
 use Rattle.quoting.specs.Classes.{edges, classOf}
-use Rattle.quoting.specs.Quoting.{content, checkedAmounts, checkedContents, checked, judged, ceilingFor, OpensWith, IsCeiling, largestCeiling}
+use Rattle.quoting.specs.Quoting.{content, checkedAmounts, checkedContents, judged, ceilingFor, OpensWith, IsCeiling, largestCeiling}
 use Rattle.quoting.specs.Inner.Checks.{AllAtMost}
 use Rattle.quoting.proofs.EdgeLaws.{edges-limit, class-is}
 use Rattle.quoting.proofs.AmountLaws.{none-above, contents-good, contents-limit}
@@ -42,13 +42,6 @@ bound-for P ws contents g bounded c events opens few =
       mul-le-mul-left (perProgress P ws) few,
     )
 
--- ---- checks after checks
-
--- Quoting judges the weights as weighing does, and then the contents and g.
-pub judged-after : (file ws contents : List ℕ) (g : ℕ) → andThen (judgedWeights file ws) (checkedContents contents g) ≡ judged file ws contents g
-unfolding checked
-judged-after file ws contents g = then-then (readPlant file) (checkedWeights ws) (checkedContents contents g)
-
 -- ---- the largest ceiling
 
 -- What the file, the weights, the contents and g are within.
@@ -61,7 +54,7 @@ pub record Within (ws contents : List ℕ) (g : ℕ) (P : Plant) : Type 0 where
 -- Input that is judged to be a plant is within the limits.
 pub judged-within : (file ws contents : List ℕ) (g : ℕ) (P : Plant) (end : ℕ) → judged file ws contents g ≡ found P end → Within ws contents g P
 judged-within file ws contents g P end e =
-    let x = then-found (judgedWeights file ws) (checkedContents contents g) P end (judged-after file ws contents g ∙ e) in
+    let x = then-found (judgedWeights file ws) (checkedContents contents g) P end e in
     let w = judged-weights file ws (x .0) (x .1) (x .2) in
     let a = contents-good contents g (x .0) P (x .1) end (x .3) in
     record {
@@ -116,7 +109,7 @@ pub record LargestAttained : Type 0 where
 
 -- All of this holds.
 pub largest-attained : LargestAttained
-unfolding bareMachines below sum greatest byteAt byteThat byteIn readRows rowsByte readMachine readMachines readPlant firstAbove checkedSizes checkedWeights checkedAmounts checkedContents checked edges classOf
+unfolding bareMachines below sum greatest byteAt byteThat byteIn readRows rowsByte readMachine readMachines readPlant firstAbove checkedSizes checkedWeights checkedAmounts checkedContents edges classOf
 largest-attained =
     record {
       good = refl;

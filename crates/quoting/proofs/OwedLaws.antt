@@ -2,7 +2,7 @@
 use mathlib.Core.Path.{_≡_, refl, sym, ap, _∙_, subst}
 use mathlib.Core.Logic.{_↔_, _⊎_, inl, inr}
 use mathlib.Core.Bool.{Bool, true, false, cond, false≢true}
-use mathlib.Core.List.{List}
+use mathlib.Core.List.{List, [], _∷_}
 use Prim.Native.Nat.{ℕ, _≤_, _<_}
 use lib.Dec.{eqb, ltb}
 use lib.ListN.{length, getD}
@@ -27,7 +27,7 @@ use Rattle.quoting.specs.declared.Check.the-variants as CheckVariants
 use Rattle.quoting.specs.declared.Quoted.{Quoted}
 use Rattle.quoting.specs.declared.Quoted.the-variants as QuotedVariants
 use Rattle.quoting.proofs.AmountLaws.{none-above, contents-good}
-use Rattle.quoting.proofs.CeilingLaws.{bound-for, judged-after, judged-within}
+use Rattle.quoting.proofs.CeilingLaws.{bound-for, judged-within}
 use Rattle.quoting.proofs.CeilingLaws.{largestFile, largestWeights, largestContents, largestPlant, largest-attained}
 
 -- ---- after the checks of the contents and g
@@ -59,19 +59,19 @@ module _ (passes : Bool) (f : Figures) (ws contents : List ℕ) (g : ℕ) where
       → Owed ws contents g a (checkedContents contents g P end)
   unfolding checkedContents checkedAmounts
   checked-owed a P end t given owed =
-      go (eqb (length contents) (P .types)) (ltb (firstAbove 1000000 (amounts contents g)) (length (amounts contents g))) (given P end t)
+      go (eqb (length contents) (P .types)) (ltb (firstAbove 1000000 (amounts contents (g ∷ []))) (length (amounts contents (g ∷ [])))) (given P end t)
     where
       go : (x y : Bool)
           → a ≡ quotedFor f ws contents g
-          (andThen (cond x (cond y (fault 21 (firstAbove 1000000 (amounts contents g))) (found P end)) (fault 20 0)) (λ Q e. cond passes (found Q e) (fault 22 0)))
-          → Owed ws contents g a (cond x (cond y (fault 21 (firstAbove 1000000 (amounts contents g))) (found P end)) (fault 20 0))
+          (andThen (cond x (cond y (fault 21 (firstAbove 1000000 (amounts contents (g ∷ [])))) (found P end)) (fault 20 0)) (λ Q e. cond passes (found Q e) (fault 22 0)))
+          → Owed ws contents g a (cond x (cond y (fault 21 (firstAbove 1000000 (amounts contents (g ∷ [])))) (found P end)) (fault 20 0))
       go true true e = for-fault e
       go true false e = owed e
       go false y e = for-fault e
 
 -- ---- the whole answer
 
--- Quoting finds what judging the weights finds, and then checks the contents and g (`judged-after`). So a fault of the verdict is the fault;
+-- Quoting finds what judging the weights finds, and then checks the contents and g. So a fault of the verdict is the fault;
 -- and where it says whether the weights pass, its own promise says in which plant, and the answer for that plant is what the private
 -- functions promise for every plant with so many types.
 
@@ -94,14 +94,14 @@ module _ (file ws : List ℕ) (P : Plant) (end : ℕ) (is : judgedWeights file w
   -- What is owed for the plant, its contents and g checked, is owed for the input.
   for-input : (contents : List ℕ) (g : ℕ) (b : Answer) → Owed ws contents g b (checkedContents contents g P end) → Owed ws contents g b (judged file ws contents g)
   for-input contents g b h =
-      subst (Owed ws contents g b) (ap (λ (y : Found Plant). andThen y (checkedContents contents g)) (sym is) ∙ judged-after file ws contents g) h
+      subst (Owed ws contents g b) (ap (λ (y : Found Plant). andThen y (checkedContents contents g)) (sym is)) h
 
 module _ (file ws contents : List ℕ) (g : ℕ) where
   -- A fault of the file or of the weights is the answer.
   pub quote-refused : (number place : ℕ) → OwedVerdict ws (weighed.refusing number place) (judgedWeights file ws) → Owed ws contents g (refused number place) (judged file ws contents g)
   quote-refused number place owed =
       subst (Owed ws contents g (refused number place))
-      (ap (λ (y : Found Plant). andThen y (checkedContents contents g)) (verdict-refused (judgedWeights file ws) owed) ∙ judged-after file ws contents g)
+      (ap (λ (y : Found Plant). andThen y (checkedContents contents g)) (verdict-refused (judgedWeights file ws) owed))
       (for-fault refl)
 
   -- Where the weights do not pass, they are within their limits,

@@ -10,8 +10,7 @@ use Rattle.livelock.specs.Runs.{Configuration, Event, quietRows, progressRows}
 use Rattle.livelock.specs.Weights.{Passes}
 use Rattle.livelock.specs.Figures.{figuresOf, contentsWeight, ceilingOf}
 use Rattle.plant.specs.Found.{Found, found, fault, andThen}
-use Rattle.plant.specs.Reading.{readPlant}
-use Rattle.weighing.specs.Weighing.{firstAbove, checkedWeights}
+use Rattle.weighing.specs.Weighing.{firstAbove, judgedWeights}
 use Rattle.quoting.specs.Answers.{Answer, quoted, refused}
 use Rattle.quoting.specs.Classes.{classOf}
 
@@ -19,26 +18,23 @@ use Rattle.quoting.specs.Classes.{classOf}
 abbrev pub content : List ℕ → ℕ → ℕ
 content contents t = getD contents t 0
 
--- "contents, g": the numbers given, g behind the contents, so that its index is the type count.
-abbrev pub amounts : List ℕ → ℕ → List ℕ
-amounts contents g = contents ++ (g ∷ [])
+-- "contents, g": the numbers given, the last of them behind the contents, so that the index of g is the type count.
+abbrev pub amounts : (contents last : List ℕ) → List ℕ
+amounts contents last = contents ++ last
 
 -- "contents, g | 21 | above 1,000,000 | index; for g the type count".
 unfoldable pub checkedAmounts : List ℕ → ℕ → Plant → ℕ → Found Plant
 checkedAmounts contents g P end =
-    cond (ltb (firstAbove 1000000 (amounts contents g)) (length (amounts contents g))) (fault 21 (firstAbove 1000000 (amounts contents g))) (found P end)
+    let given = amounts contents (g ∷ []) in
+    cond (ltb (firstAbove 1000000 given) (length given)) (fault 21 (firstAbove 1000000 given)) (found P end)
 
 -- "contents | 20 | not one for each type | 0", then 21.
 unfoldable pub checkedContents : List ℕ → ℕ → Plant → ℕ → Found Plant
 checkedContents contents g P end = cond (eqb (length contents) (P .types)) (checkedAmounts contents g P end) (fault 20 0)
 
--- "quoting 9, 10, 20, 21": a plant for which all numbers are good.
-unfoldable pub checked : List ℕ → List ℕ → ℕ → Plant → ℕ → Found Plant
-checked ws contents g P end = andThen (checkedWeights ws P end) (checkedContents contents g)
-
--- "File first, then downward as each call reads its parts": the plant to quote for, or the fault.
+-- "quoting 9, 10, 20, 21": the weights are judged as weighing judges them, and then the contents and g. The plant to quote for, or the fault.
 abbrev pub judged : List ℕ → List ℕ → List ℕ → ℕ → Found Plant
-judged file ws contents g = andThen (readPlant file) (checked ws contents g)
+judged file ws contents g = andThen (judgedWeights file ws) (checkedContents contents g)
 
 -- "the ceiling is F + n × W + G × g".
 abbrev pub ceilingFor : Plant → List ℕ → List ℕ → ℕ → ℕ

@@ -1,5 +1,6 @@
 // Quoting ceilings and price classes.
 ghost use mathlib.Core.Path.{_≡_};
+ghost use mathlib.Core.List.{[], _∷_};
 ghost use Prim.Native.Nat.{_≤_};
 ghost use lib.ListN.{length};
 ghost use Rattle.figures.specs.FigureSums.{figuresIn};
@@ -90,7 +91,7 @@ fn price_class(ceiling: u64) -> u32
 // The index of the first number above 1,000,000 among the contents and g, which stands behind them; without one, the index after g.
 fn first_above(contents: &[u32], g: u32) -> usize
     requires { ⌜ length (now contents) ≤ 64 ⌝ }
-    ensures { λ r. ⌜ r ≡ firstAbove 1000000 (amounts (now (contents .entry)) g) ⌝ }
+    ensures { λ r. ⌜ r ≡ firstAbove 1000000 (amounts (now (contents .entry)) (g ∷ [])) ⌝ }
 {
     let mut i = 0;
     while i < contents.len() {
@@ -149,7 +150,8 @@ fn price(figures: Figures, weight: u64, g: u32) -> Quoted
     requires { ⌜ FiguresFit (figuresIn figures) × (weight ≤ 64000000000) × (g ≤ 1000000) ⌝ }
     ensures { λ r. ⌜ Priced (figuresIn figures) weight g (answerOf r) ⌝ }
 {
-    let ceiling = figures.base + figures.most_states * weight + figures.per_progress * g as u64;
+    let n = figures.most_states;
+    let ceiling = figures.base + n * weight + figures.per_progress * g as u64;
     Quoted::Ceiling {
         ceiling,
         class: price_class(ceiling),

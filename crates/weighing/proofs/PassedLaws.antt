@@ -11,7 +11,7 @@ use Rattle.plant.specs.Found.{Found, found, fault}
 use Rattle.plant.specs.Reading.{readPlant}
 use Rattle.weighing.specs.Answers.{Answer, passed, HasFigures}
 use Rattle.weighing.specs.Weighing.{judged, OnPassing, Owed, for-fault, for-plant}
-use Rattle.weighing.proofs.WeighingLaws.{judged-plant, checked-good, judged-limits, passed-iff}
+use Rattle.weighing.proofs.WeighingLaws.{judged-read, passed-iff}
 
 -- Figures are not owed for a fault.
 pub no-figures : (ws before after : List ℕ) (a : Answer) (number place : ℕ) → Owed ws before after a (fault number place) → HasFigures a → ⊥
@@ -30,7 +30,7 @@ module _ (file ws before after : List ℕ) (a : Answer) (P : Plant) (end : ℕ) 
       go : (x : Found Plant) → judged file ws (length before) ≡ x → Passes P ws × OnPassing P ws before after a
       go (fault number place) e = absurd (no-figures ws before after a number place (subst (Owed ws before after a) e owed) figures)
       go (found Q k) e =
-          let same = checked-good ws (length before) P Q end k (judged-plant file ws (length before) P end reads ∙ e) .same in
+          let same = judged-read file ws (length before) P Q end k reads e in
           let passes = passed-iff file ws before after a Q k e owed .0 figures in
           subst (λ (x : Plant). Passes x ws × OnPassing x ws before after a) (sym same) (passes, on-passing (subst (Owed ws before after a) e owed) passes)
 

@@ -34,7 +34,7 @@ use Rattle.plant.proofs.OneToOne.{same-fault}
 use Rattle.decoding.proofs.TableLaws.{machines-counted, states-at}
 use Rattle.weighing.specs.Answers.{Answer, passed, cycle, refused, answerOf, HasFigures, Judgement, judgementOf}
 use Rattle.weighing.specs.Answers as Answers
-use Rattle.weighing.specs.Weighing.{firstAbove, checkedSizes, checkedWeights, judgedWeights, checkedRoom, checked, judged}
+use Rattle.weighing.specs.Weighing.{firstAbove, checkedSizes, checkedWeights, judgedWeights, checkedRoom, judged}
 use Rattle.weighing.specs.Weighing.{OnPassing, OnFailing, Owed, for-fault, for-plant, OnPassingVerdict, OwedVerdict, verdict-for-fault, verdict-for-plant}
 use Rattle.machines.specs.Machines.{Weighable, graphOf, FirstFailing}
 use Rattle.machines.proofs.TurnLaws.{machines-are, states-in, turn-edges}
@@ -177,10 +177,10 @@ unfolding checkedRoom
 accept-room room (found P end) l = rw (le-ltb room 64 l)
 accept-room room (fault number place) l = refl
 
--- With good weights and room, the plant is weighed.
-pub refuse-none : (ws : List ℕ) (room : ℕ) (P : Plant) (end : ℕ) → length ws ≡ P .types → length ws ≤ firstAbove 1000 ws → 64 ≤ room → found P end ≡ checked ws room P end
-unfolding checked
-refuse-none ws room P end one-each light l = rw (← accept-weights ws P end one-each light) (accept-room room (found P end) l)
+-- With good weights and room, the plant of a file is weighed.
+pub refuse-none : (file ws : List ℕ) (room : ℕ) (P : Plant) (end : ℕ) → readPlant file ≡ found P end → length ws ≡ P .types → length ws ≤ firstAbove 1000 ws
+    → 64 ≤ room → found P end ≡ judged file ws room
+refuse-none file ws room P end reads one-each light l = rw (reads, ← accept-weights ws P end one-each light) (accept-room room (found P end) l)
 
 -- ---- the whole answer
 
@@ -200,23 +200,9 @@ verdict-refusal ws number place x e = subst (OwedVerdict ws (Answers.refusing nu
 pub verdict-told : {ws : List ℕ} {v w : Verdict} {x : Found Plant} → v ≡ w → OwedVerdict ws (judgementOf v) x → OwedVerdict ws (judgementOf w) x
 verdict-told {ws} {x = x} e h = subst (λ (u : Verdict). OwedVerdict ws (judgementOf u) x) e h
 
--- What is read first, what follows it, and what follows that.
-pub then-then : (x : Found Plant) (k l : Plant → ℕ → Found Plant) → andThen (andThen x k) l ≡ andThen x (λ P end. andThen (k P end) l)
-then-then (found P end) k l = refl
-then-then (fault number place) k l = refl
-
--- The checks of the weights, then that of the lent list.
-judged-room : (file ws : List ℕ) (room : ℕ) → andThen (judgedWeights file ws) (checkedRoom room) ≡ judged file ws room
-unfolding checked
-judged-room file ws room = then-then (readPlant file) (checkedWeights ws) (checkedRoom room)
-
 -- A list of 64 is long enough.
 pub judged-64 : (file ws : List ℕ) → judged file ws 64 ≡ judgedWeights file ws
-judged-64 file ws = sym (accept-room 64 (judgedWeights file ws) (omega arith) ∙ judged-room file ws 64)
-
--- A file that reads as P has P checked.
-pub judged-plant : (file ws : List ℕ) (room : ℕ) (P : Plant) (end : ℕ) → readPlant file ≡ found P end → checked ws room P end ≡ judged file ws room
-judged-plant file ws room P end e = rw e
+judged-64 file ws = sym (accept-room 64 (judgedWeights file ws) (omega arith))
 
 -- A table that reading the file gave, where it ended, and where the checks of the weights and of the lent list ended: so it is judged.
 pub checks-judged : {t : Shape} {table : List ℕ} → Ready t table → (file ws : List ℕ) (read : End) → endFound read (plantOf t table) ≡ readPlant file
@@ -226,7 +212,6 @@ checks-judged {t} {table} ready file ws read reads weighed types weights types-a
     ap (λ (x : End). endFound x (plantOf t table)) (sym e)
     ∙ in-room (plantOf t table)
     ∙ ap (λ (x : Found Plant). andThen x (checkedRoom room)) (weights (plantOf t table) types-are ∙ ap (λ (x : Found Plant). andThen x (checkedWeights ws)) reads)
-    ∙ judged-room file ws room
 
 -- ---- what the answer says
 
@@ -299,13 +284,6 @@ room-good room Q P k end = go (ltb room 64) refl
     go true q e = no-plant _ _ P end e
     go false q e = (cc, ltb-false _ _ q)
 
--- So it is with all checks.
-pub checked-good : (ws : List ℕ) (room : ℕ) (Q P : Plant) (k end : ℕ) → checked ws room Q k ≡ found P end → Good ws Q P
-unfolding checked
-checked-good ws room Q P k end e =
-    let x = then-found (checkedWeights ws Q k) (checkedRoom room) P end e in
-    subst (Good ws Q) (room-good room (x .0) P (x .1) end (x .3) .0) (weights-good ws Q (x .0) k (x .1) (x .2))
-
 -- A plant for which the weights are good is one that a file reads as, so it is within the limits.
 pub judged-weights : (file ws : List ℕ) (P : Plant) (end : ℕ) → judgedWeights file ws ≡ found P end → WithinLimits P × Good ws P P
 judged-weights file ws P end e =
@@ -316,9 +294,17 @@ judged-weights file ws P end e =
 -- A plant that is weighed is such a plant, and there is room for a cycle.
 pub judged-good : (file ws : List ℕ) (room : ℕ) (P : Plant) (end : ℕ) → judged file ws room ≡ found P end → (WithinLimits P × Good ws P P) × (64 ≤ room)
 judged-good file ws room P end e =
-    let x = then-found (judgedWeights file ws) (checkedRoom room) P end (judged-room file ws room ∙ e) in
+    let x = then-found (judgedWeights file ws) (checkedRoom room) P end e in
     let y = room-good room (x .0) P (x .1) end (x .3) in
     (subst (λ (z : Plant). WithinLimits z × Good ws z z) (y .0) (judged-weights file ws (x .0) (x .1) (x .2)), y .1)
+
+-- It is the plant that the file reads as.
+pub judged-read : (file ws : List ℕ) (room : ℕ) (P Q : Plant) (end k : ℕ) → readPlant file ≡ found P end → judged file ws room ≡ found Q k → P ≡ Q
+judged-read file ws room P Q end k reads e =
+    let x = then-found (judgedWeights file ws) (checkedRoom room) Q k e in
+    let y = then-found (readPlant file) (checkedWeights ws) (x .0) (x .1) (x .2) in
+    let read : P ≡ y .0 = let same = sym reads ∙ y .2 in cc in
+    read ∙ weights-good ws (y .0) (x .0) (y .1) (x .1) (y .3) .same ∙ room-good room (x .0) Q (x .1) k (x .3) .0
 
 -- So the table that holds it can be weighed.
 pub judged-weighable : {s : Shape} {table : List ℕ} → Ready s table → (file ws : List ℕ) (room end : ℕ) → found (plantOf s table) end ≡ judged file ws room → Weighable s table ws

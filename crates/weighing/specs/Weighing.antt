@@ -33,13 +33,9 @@ judgedWeights file ws = andThen (readPlant file) (checkedWeights ws)
 unfoldable pub checkedRoom : ℕ → Plant → ℕ → Found Plant
 checkedRoom room P end = cond (ltb room 64) (fault 11 0) (found P end)
 
--- "weighing checks 9, 10, 11".
-unfoldable pub checked : List ℕ → ℕ → Plant → ℕ → Found Plant
-checked ws room P end = andThen (checkedWeights ws P end) (checkedRoom room)
-
--- "File first, then downward as each call reads its parts; weighing checks 9, 10, 11": the plant to weigh, or the fault.
+-- "weighing checks 9, 10, 11": the plant to weigh, or the fault.
 abbrev pub judged : List ℕ → List ℕ → ℕ → Found Plant
-judged file ws room = andThen (readPlant file) (checked ws room)
+judged file ws room = andThen (judgedWeights file ws) (checkedRoom room)
 
 -- "Passing hands back F, n and G as in the mission"; "On passing, the whole list does" keep its contents; and the bound holds.
 pub record OnPassing (P : Plant) (ws before after : List ℕ) (a : Answer) : Type 0 where

@@ -10,7 +10,7 @@ use Rattle.plant.specs.Found.{Found, found}
 use Rattle.plant.specs.Reading.{readPlant}
 use Rattle.weighing.specs.Answers.{Answer, passed}
 use Rattle.weighing.specs.Weighing.{firstAbove, judged, OnFailing, Owed, for-plant}
-use Rattle.weighing.proofs.WeighingLaws.{owed-same, refuse-none, judged-plant}
+use Rattle.weighing.proofs.WeighingLaws.{owed-same, refuse-none}
 use Rattle.quoting.specs.Answers as QuotingAnswers
 use Rattle.quoting.specs.Classes.{classOf}
 use Rattle.quoting.specs.Quoting as Quoting
@@ -29,14 +29,14 @@ pub figures-owed : (file ws before after : List ℕ) (a : Answer) (P : Plant) (e
     → length ws ≤ firstAbove 1000 ws → Passes P ws → 64 ≤ length before → Owed ws before after a (judged file ws (length before))
     → a ≡ passed (figuresOf P ws)
 figures-owed file ws before after a P end reads one-each light p room owed =
-    let is : found P end ≡ judged file ws (length before) = refuse-none ws (length before) P end one-each light room ∙ judged-plant file ws (length before) P end reads in
+    let is : found P end ≡ judged file ws (length before) = refuse-none file ws (length before) P end reads one-each light room in
     figures-of (owed-same ws before after a (judged file ws (length before)) (found P end) (sym is) owed) p
 
 pub failing-owed : (file ws before after : List ℕ) (a : Answer) (P : Plant) (end : ℕ) → readPlant file ≡ found P end → length ws ≡ P .types
     → length ws ≤ firstAbove 1000 ws → (Passes P ws → ⊥) → 64 ≤ length before → Owed ws before after a (judged file ws (length before))
     → OnFailing P ws before after a
 failing-owed file ws before after a P end reads one-each light f room owed =
-    let is : found P end ≡ judged file ws (length before) = refuse-none ws (length before) P end one-each light room ∙ judged-plant file ws (length before) P end reads in
+    let is : found P end ≡ judged file ws (length before) = refuse-none file ws (length before) P end reads one-each light room in
     failing-of (owed-same ws before after a (judged file ws (length before)) (found P end) (sym is) owed) f
 
 -- An answer of quoting that is owed for such a plant has the ceiling and its class.

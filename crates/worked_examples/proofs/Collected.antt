@@ -17,7 +17,7 @@ use Rattle.livelock.proofs.PassingExamples.{passes-2-1, shown-1-1, none-pass-in
 use Rattle.plant.specs.Found.{found}
 use Rattle.weighing.specs.Weighing.{firstAbove, checkedSizes, checkedWeights}
 use Rattle.quoting.specs.Classes.{edges, classOf}
-use Rattle.quoting.specs.Quoting.{checkedAmounts, checkedContents, checked, judged}
+use Rattle.quoting.specs.Quoting.{checkedAmounts, checkedContents, judged}
 use Rattle.cycle_paths.specs.Listings.{flattened}
 use Rattle.cycle_paths.specs.Cycles.{joined, selected, unleft, paths, cyclesThrough}
 use Rattle.listing.specs.Listing as Listing
@@ -40,7 +40,7 @@ fills-3 before e = let short : length before ≤ 3 = omega (arith, e) in rw (e, 
 
 -- The table holds. Each number of it is computed here from the definitions.
 pub examples : Examples
-unfolding panelAndProbe onePlant rowPlant below sum sumℤ greatest cycleWeight setEffect every isWalk isDistinct hasProgress firstAbove checkedSizes checkedWeights edges classOf checkedAmounts checkedContents checked numberIn rowsAt entryEnds entryAt entryBegins entriesAt lowestNegative
+unfolding panelAndProbe onePlant rowPlant below sum sumℤ greatest cycleWeight setEffect every isWalk isDistinct hasProgress firstAbove checkedSizes checkedWeights edges classOf checkedAmounts checkedContents numberIn rowsAt entryEnds entryAt entryBegins entriesAt lowestNegative
 examples =
     record {
       weights-2-1-cycle = record { plant = plantA; end = 20; reads = reads-A; simple = probe-cycle true; quiet = probe-quiet; weighs = refl };

@@ -1,6 +1,7 @@
 -- `check_numbers` meets its contract: each refusal is the first of the checks 20, 21 and 22 that fails.
 use borrow.Author.Needs.{needs}
 use mathlib.Core.Path.{sym, _∙_}
+use mathlib.Core.List.{[], _∷_}
 use Prim.Native.Nat.{_≤_, _<_}
 use native.Mathlib.Omega.{arith}
 use borrow.Author.Tests.{not-true, not-false}
@@ -29,15 +30,15 @@ returns-2 : tie.Need-returns-2
 returns-2 c =
     let a = c .before .before .before .before .before .args in
     let i = c .before .before .first-above in
-    let among : i .result < length (amounts (a .contents .now) (a .g)) = omega (arith, amounts-length (a .contents .now) (a .g), c .before .before .before .if1 .left) in
+    let among : i .result < length (amounts (a .contents .now) (a .g ∷ [])) = omega (arith, amounts-length (a .contents .now) (a .g ∷ []), c .before .before .before .if1 .left) in
     λ P end t. c .refused2 .ensures P end ∙ refuse-21 (a .contents .now) (a .g) (a .passes) P end (c .before .before .before .if1 .left ∙ sym t) (i .result) (i .ensures) among
 
 -- After check 21 no number is above 1,000,000.
 none-above : (c : tie.Else2) →
-    length (amounts (c .before .before .before .before .args .contents .now) (c .before .before .before .before .args .g)) ≤ firstAbove 1000000 (amounts (c .before .before .before .before .args .contents .now) (c .before .before .before .before .args .g))
+    length (amounts (c .before .before .before .before .args .contents .now) (c .before .before .before .before .args .g ∷ [])) ≤ firstAbove 1000000 (amounts (c .before .before .before .before .args .contents .now) (c .before .before .before .before .args .g ∷ []))
 none-above c =
     let a = c .before .before .before .before .args in
-    omega (arith, amounts-length (a .contents .now) (a .g), c .before .first-above .ensures, c .before .before .if1 .left)
+    omega (arith, amounts-length (a .contents .now) (a .g ∷ []), c .before .first-above .ensures, c .before .before .if1 .left)
 
 refused-requires-3 : tie.Need-refused-requires-3
 refused-requires-3 c κs = search needs

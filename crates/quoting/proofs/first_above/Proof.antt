@@ -1,6 +1,7 @@
 -- `first_above` meets its contract: the contents so far are not above 1,000,000, so the first one above is the first of those left, behind which g stands.
 use borrow.Author.Needs.{needs}
 use mathlib.Core.Path.{_≡_}
+use mathlib.Core.List.{[], _∷_}
 use Prim.Native.Nat.{_+_, _-_, _≤_}
 use native.Mathlib.Omega.{arith}
 use lib.ListN.{length, drop}
@@ -11,7 +12,7 @@ use Rattle.quoting.proofs.first_above.Statement.{statement}
 use Rattle.quoting.proofs.first_above.Tie as tie
 
 abbrev Inv-loop : tie.InvT-loop
-Inv-loop contents g i₀ i = (i ≤ length contents) × (i + firstAbove 1000000 (drop i (amounts contents g)) ≡ firstAbove 1000000 (amounts contents g))
+Inv-loop contents g i₀ i = (i ≤ length contents) × (i + firstAbove 1000000 (drop i (amounts contents (g ∷ []))) ≡ firstAbove 1000000 (amounts contents (g ∷ [])))
 
 abbrev μ-loop : tie.MeasureT-loop
 μ-loop contents g i₀ i = length contents - i
@@ -29,7 +30,7 @@ returns : tie.Need-returns Inv-loop μ-loop
 returns c =
     let l = c .before .before .before .loop in
     let a = c .before .before .before .before .args in
-    content-stops (a .contents .now) (a .g) (l .i) _ (l .inv .1) (c .before .before .loop-test .taken) (omega (arith, c .if1 .taken))
+    content-stops (a .contents .now) (a .g ∷ []) (l .i) _ (l .inv .1) (c .before .before .loop-test .taken) (omega (arith, c .if1 .taken))
 
 add-i : tie.Need-add-i Inv-loop μ-loop
 add-i c = search needs
@@ -41,7 +42,7 @@ loop-again : tie.Need-loop-again Inv-loop μ-loop
 loop-again c =
     let l = c .before .before .before .loop in
     let a = c .before .before .before .before .args in
-    (search needs, content-goes-on (a .contents .now) (a .g) (l .i) _ (l .inv .1) (c .before .before .loop-test .taken) (omega (arith, c .if1 .left)))
+    (search needs, content-goes-on (a .contents .now) (a .g ∷ []) (l .i) _ (l .inv .1) (c .before .before .loop-test .taken) (omega (arith, c .if1 .left)))
 
 returns-2 : tie.Need-returns-2 Inv-loop μ-loop
 returns-2 c =

@@ -19,19 +19,19 @@ progress-part : (c : tie.Start) → c .args .figures .«per_progress» * c .args
 progress-part c = mul-le-mul (c .pre .0 .per-progress-limit) (c .pre .2)
 
 mul-ceiling : tie.Need-mul-ceiling
-mul-ceiling c = record { fits = omega (arith, states-part (c .before)) }
+mul-ceiling c = record { fits = omega (arith, states-part c) }
 
 add-ceiling : tie.Need-add-ceiling
 add-ceiling c =
-    let start = c .before .before in
+    let start = c .before in
     record { fits = omega (arith, start .pre .0 .base-limit, states-part start) }
 
 mul-ceiling-2 : tie.Need-mul-ceiling-2
-mul-ceiling-2 c = record { fits = omega (arith, progress-part (c .before .before .before)) }
+mul-ceiling-2 c = record { fits = omega (arith, progress-part (c .before .before)) }
 
 add-ceiling-2 : tie.Need-add-ceiling-2
 add-ceiling-2 c =
-    let start = c .before .before .before in
+    let start = c .before .before in
     record { fits = omega (arith, start .pre .0 .base-limit, states-part start, progress-part start) }
 
 price-class-requires : tie.Need-price-class-requires
@@ -39,7 +39,7 @@ price-class-requires c κs = search needs
 
 returns : tie.Need-returns
 returns c =
-    let a = c .before .before .before .before .args in
+    let a = c .before .before .before .args in
     ap (quoted (ceilingOf (figuresIn (a .figures)) (a .weight) (a .g))) (c .price-class .ensures)
 
 pub price-spec : {M : Type 1} → statement M
