@@ -322,29 +322,29 @@ pub passed-iff : (file ws before after : List ℕ) (a : Answer) (P : Plant) (end
 passed-iff file ws before after a P end e owed =
     owed-iff ws before after a P end (judged-limits file ws (length before) P end e .formed) (owed-same ws before after a (judged file ws (length before)) (found P end) e owed)
 
--- The kinds of answers: figures, a count of rows, a refusal.
-abbrev pub kindOf : Answer → ℕ
-kindOf (passed f) = 0
-kindOf (cycle k) = 1
-kindOf (refused number place) = 2
+-- The sorts of answers: figures, a count of rows, a refusal.
+abbrev pub sortOf : Answer → ℕ
+sortOf (passed f) = 0
+sortOf (cycle k) = 1
+sortOf (refused number place) = 2
 
--- Two answers that are owed for one thing found are of one kind: for a plant it is the weights that decide.
-same-kind : {ws before after after′ : List ℕ} {a b : Answer} (x : Found Plant) → ((P : Plant) (end : ℕ) → x ≡ found P end → WellFormed P)
-    → Owed ws before after a x → Owed ws before after′ b x → kindOf a ≡ kindOf b
-same-kind (fault number place) formed (for-fault h) (for-fault i) = ap kindOf (h .refusal ∙ sym (i .refusal))
-same-kind {ws} {a = a} {b = b} (found P end) formed (for-plant h f) (for-plant i g) = go (decision P (formed P end refl) ws)
+-- Two answers that are owed for one thing found are of one sort: for a plant it is the weights that decide.
+same-sort : {ws before after after′ : List ℕ} {a b : Answer} (x : Found Plant) → ((P : Plant) (end : ℕ) → x ≡ found P end → WellFormed P)
+    → Owed ws before after a x → Owed ws before after′ b x → sortOf a ≡ sortOf b
+same-sort (fault number place) formed (for-fault h) (for-fault i) = ap sortOf (h .refusal ∙ sym (i .refusal))
+same-sort {ws} {a = a} {b = b} (found P end) formed (for-plant h f) (for-plant i g) = go (decision P (formed P end refl) ws)
   where
-    go : Passes P ws ⊎ ((c : List ℕ) × FailingCycle P ws c) → kindOf a ≡ kindOf b
-    go (inl p) = ap kindOf (h p .figures) ∙ sym (ap kindOf (i p .figures))
+    go : Passes P ws ⊎ ((c : List ℕ) × FailingCycle P ws c) → sortOf a ≡ sortOf b
+    go (inl p) = ap sortOf (h p .figures) ∙ sym (ap sortOf (i p .figures))
     go (inr x) =
         let fails : Passes P ws → ⊥ = λ p. not-both P ws (x .0) p (x .1) in
-        ap kindOf (f fails .count) ∙ sym (ap kindOf (g fails .count))
+        ap sortOf (f fails .count) ∙ sym (ap sortOf (g fails .count))
 
--- So for every input the kind of the answer is determined.
-pub kind-determined : (file ws before after after′ : List ℕ) (a b : Answer) → Owed ws before after a (judged file ws (length before))
-    → Owed ws before after′ b (judged file ws (length before)) → kindOf a ≡ kindOf b
-kind-determined file ws before after after′ a b =
-    same-kind (judged file ws (length before)) (λ P end e. judged-limits file ws (length before) P end e .formed)
+-- So for every input the sort of the answer is determined.
+pub sort-determined : (file ws before after after′ : List ℕ) (a b : Answer) → Owed ws before after a (judged file ws (length before))
+    → Owed ws before after′ b (judged file ws (length before)) → sortOf a ≡ sortOf b
+sort-determined file ws before after after′ a b =
+    same-sort (judged file ws (length before)) (λ P end e. judged-limits file ws (length before) P end e .formed)
 
 -- Different answers never mean the same.
 pub one-to-one : (a b : Weighed) → answerOf a ≡ answerOf b → a ≡ b
@@ -380,48 +380,48 @@ same-verdict {ws} {v} {w} (found P end) formed (verdict-for-plant h f) (verdict-
 pub verdict-determined : (file ws : List ℕ) (v w : Judgement) → OwedVerdict ws v (judgedWeights file ws) → OwedVerdict ws w (judgedWeights file ws) → v ≡ w
 verdict-determined file ws v w = same-verdict (judgedWeights file ws) (λ P end e. judged-weights file ws P end e .0 .formed)
 
--- The kinds of verdicts: figures, that the weights do not pass, a refusal.
-abbrev kindOfVerdict : Judgement → ℕ
-kindOfVerdict (Answers.passing f) = 0
-kindOfVerdict Answers.failing = 1
-kindOfVerdict (Answers.refusing number place) = 2
+-- The sorts of verdicts: figures, that the weights do not pass, a refusal.
+abbrev sortOfVerdict : Judgement → ℕ
+sortOfVerdict (Answers.passing f) = 0
+sortOfVerdict Answers.failing = 1
+sortOfVerdict (Answers.refusing number place) = 2
 
 -- Figures are another verdict than that the weights do not pass,
 pub passing-other : {A : Type 0} {f : Theory.Figures} → Answers.passing f ≡ Answers.failing → A
-passing-other e = absurd (omega (arith, ap kindOfVerdict e))
+passing-other e = absurd (omega (arith, ap sortOfVerdict e))
 
 -- and so is a refusal.
 pub refusing-other : {A : Type 0} {number place : ℕ} → Answers.refusing number place ≡ Answers.failing → A
-refusing-other e = absurd (omega (arith, ap kindOfVerdict e))
+refusing-other e = absurd (omega (arith, ap sortOfVerdict e))
 
 -- A refusal is owed for that fault alone,
 pub verdict-refused : {ws : List ℕ} {number place : ℕ} (x : Found Plant) → OwedVerdict ws (Answers.refusing number place) x → fault number place ≡ x
 verdict-refused (fault n q) (verdict-for-fault h) = cc
-verdict-refused (found P end) (verdict-for-plant passes fails) = absurd (omega (arith, ap kindOfVerdict (fails (λ p. absurd (omega (arith, ap kindOfVerdict (passes p .figures)))))))
+verdict-refused (found P end) (verdict-for-plant passes fails) = absurd (omega (arith, ap sortOfVerdict (fails (λ p. absurd (omega (arith, ap sortOfVerdict (passes p .figures)))))))
 
 -- that the weights do not pass is owed for a plant for which they do not,
 pub verdict-fails : {ws : List ℕ} (x : Found Plant) → OwedVerdict ws Answers.failing x → (P : Plant) × (end : ℕ) × (x ≡ found P end) × (Passes P ws → ⊥)
-verdict-fails (fault n q) (verdict-for-fault h) = absurd (omega (arith, ap kindOfVerdict h))
-verdict-fails (found P end) (verdict-for-plant passes fails) = (P, end, refl, λ p. absurd (omega (arith, ap kindOfVerdict (passes p .figures))))
+verdict-fails (fault n q) (verdict-for-fault h) = absurd (omega (arith, ap sortOfVerdict h))
+verdict-fails (found P end) (verdict-for-plant passes fails) = (P, end, refl, λ p. absurd (omega (arith, ap sortOfVerdict (passes p .figures))))
 
 -- and figures are owed for a plant for which they do.
 pub verdict-passes : {ws : List ℕ} {f : Theory.Figures} (x : Found Plant) → ((P : Plant) (end : ℕ) → x ≡ found P end → WellFormed P) → OwedVerdict ws (Answers.passing f) x
     → (P : Plant) × (end : ℕ) × (x ≡ found P end) × Passes P ws × OnPassingVerdict P ws (Answers.passing f)
-verdict-passes (fault n q) formed (verdict-for-fault h) = absurd (omega (arith, ap kindOfVerdict h))
+verdict-passes (fault n q) formed (verdict-for-fault h) = absurd (omega (arith, ap sortOfVerdict h))
 verdict-passes {ws} {f} (found P end) formed (verdict-for-plant passes fails) = go (decision P (formed P end refl) ws)
   where
     go : Passes P ws ⊎ ((c : List ℕ) × FailingCycle P ws c)
         → (Q : Plant) × (k : ℕ) × (found P end ≡ found Q k) × Passes Q ws × OnPassingVerdict Q ws (Answers.passing f)
     go (inl p) = (P, end, refl, p, passes p)
-    go (inr x) = absurd (omega (arith, ap kindOfVerdict (fails (λ p. not-both P ws (x .0) p (x .1)))))
+    go (inr x) = absurd (omega (arith, ap sortOfVerdict (fails (λ p. not-both P ws (x .0) p (x .1)))))
 
 -- So where figures are the verdict, weighing owes them too, with the list kept,
 pub verdict-owed : {ws : List ℕ} {f : Theory.Figures} (before : List ℕ) (x : Found Plant) → OwedVerdict ws (Answers.passing f) x → Owed ws before before (passed f) x
-verdict-owed before (fault n q) (verdict-for-fault h) = absurd (omega (arith, ap kindOfVerdict h))
+verdict-owed before (fault n q) (verdict-for-fault h) = absurd (omega (arith, ap sortOfVerdict h))
 verdict-owed before (found P end) (verdict-for-plant passes fails) =
     for-plant
     (λ p. let h = passes p in record { figures = passing-is (h .figures); whole-kept = refl; bounded = h .bounded })
-    (λ q. absurd (omega (arith, ap kindOfVerdict (fails q))))
+    (λ q. absurd (omega (arith, ap sortOfVerdict (fails q))))
   where
     passing-is : {f g : Theory.Figures} → Answers.passing f ≡ Answers.passing g → passed f ≡ passed g
     passing-is e = cc

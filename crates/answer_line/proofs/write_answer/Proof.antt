@@ -1,4 +1,4 @@
--- `write_answer` meets its contract: each kind of answer by its own line.
+-- `write_answer` meets its contract: each sort of answer by its own line.
 use borrow.Author.Needs.{needs}
 use native.Mathlib.Omega.{arith}
 use mathlib.Core.Path.{_≡_, sym, ap, _∙_}
