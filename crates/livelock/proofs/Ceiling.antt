@@ -117,7 +117,7 @@ module _ (P : Plant) (wf : WellFormed P) (ws : List ℕ) (ok : Passes P ws) wher
       omega (arith, removed-weight P ws (c .content) (some t) (p .0) (p .1)) in
       omega (arith, mul-le-mul-left (mostStates P) l)
 
-  -- One event, a row or a loss, whether it can happen or not: what it counts as quiet is covered by what the rank loses and what it counts as progress.
+  -- One event, of either kind, whether it can happen or not: what it counts as quiet is covered by what the rank loses and what it counts as progress.
   step : (c : Configuration) (e : Event)
       → cond (canHappen P c e) (cond (isQuietRow P e) 1 0) 0 + rank (after P c e)
       ≤ rank c + perProgress P ws * cond (canHappen P c e) (cond (isProgressRow P e) 1 0) 0
