@@ -23,7 +23,8 @@ refused-0 : (readStruct (Reading.refused 8 4) .kind ≡ 0) × (weighStruct (Weig
 refused-0 = (refl, refl, refl, refl, refl)
 
 -- HEMTALUQ_COUNTS 1, HEMTALUQ_PASSED 2, HEMTALUQ_CYCLE 3, HEMTALUQ_CEILING 4, HEMTALUQ_LISTED 5, HEMTALUQ_CONFIRMED 6, HEMTALUQ_NEGATIVE 7.
-kinds : (readStruct (Reading.counts 2 2 4) .kind ≡ 1) × (weighStruct (Weighing.passed (record { base = 10; «most_states» = 2; «per_progress» = 9 })) .kind ≡ 2) × (weighStruct (Weighing.cycle 2) .kind ≡ 3)
+kinds : (readStruct (Reading.counts 2 2 4) .kind ≡ 1)
+    × (weighStruct (Weighing.passed (record { base = 10; «most_states» = 2; «per_progress» = 9 })) .kind ≡ 2) × (weighStruct (Weighing.cycle 2) .kind ≡ 3)
     × (quoteStruct (Quoting.quoted 39 6) .kind ≡ 4) × (listStruct (Listing.entries 3) .kind ≡ 5)
     × (confirmStruct Confirming.confirmed .kind ≡ 6) × (confirmStruct (Confirming.negative 1 (negsuc 0)) .kind ≡ 7)
 kinds = (refl, refl, refl, refl, refl, refl, refl)
