@@ -18,13 +18,14 @@ use Rattle.livelock.proofs.Lengths.{lengthened, cycle-lengthened, cycle-of-leng
 use Rattle.livelock.proofs.Graphs.{Graph, IsEdge, Within, PositiveCycle, longest}
 use Rattle.livelock.proofs.Potentials.{Potential, no-positive-cycle}
 use Rattle.livelock.proofs.Rounds.{WalkLength, walk-without-edges, edge-in-front, longer-positive, pass-longest}
+use Rattle.edge_lists.specs.EdgeLists.{edgeIn}
 use Rattle.deciding.specs.Signs.{rise, fall}
 use Rattle.deciding.specs.Rounds.{edgeGraph, EdgesIn, AtMost, WalkLengths, Pass, AllBelowZero, SomeZeroOrMore}
 use Rattle.deciding.proofs.SignLaws.{rise-fall, rise-at-most, fall-at-most, difference-same, difference-length}
 
 -- Every edge of the list leads from one of the states to one of them.
-pub edges-within : (count states : ℕ) (from to : List ℕ) (weight : List ℤ) → EdgesIn states count from to weight → Within (edgeGraph count from to weight) states
-edges-within count states from to weight ok e u = (ok .from-in e (u .0), ok .to-in e (u .0))
+pub edges-within : (count states : ℕ) (edges : List ℤ) → EdgesIn states count edges → Within (edgeGraph count edges) states
+edges-within count states edges ok e u = (ok .from-in e (u .0), ok .to-in e (u .0))
 
 -- ---- the length of an edge
 
@@ -123,13 +124,13 @@ module _ (g : Graph) (i : ℕ) (before now : List ℕ) (last : ℕ) (so-far : Pa
         }
 
 -- The same for an edge list, with the length 1 + n × weight.
-module _ (n count states : ℕ) (from to : List ℕ) (weight : List ℤ) (ok : EdgesIn states count from to weight) (most : n ≤ 64) (i : ℕ) (there : i < count)
-    (before now : List ℕ) (last : ℕ) (so-far : Pass (lengthened n (edgeGraph count from to weight)) i before now last) where
+module _ (n count states : ℕ) (edges : List ℤ) (ok : EdgesIn states count edges) (most : n ≤ 64) (i : ℕ) (there : i < count)
+    (before now : List ℕ) (last : ℕ) (so-far : Pass (lengthened n (edgeGraph count edges)) i before now last) where
   abbrev g : Graph
-  g = lengthened n (edgeGraph count from to weight)
+  g = lengthened n (edgeGraph count edges)
 
   abbrev z : ℤ
-  z = getD weight i (pos 0)
+  z = edgeIn edges i .weight
 
   -- A pass over 256 edges raises no height by more than 2 ^ 30.
   pub pass-low : AtMost 68719476736 before → AtMost 2199023255552 now
@@ -137,22 +138,22 @@ module _ (n count states : ℕ) (from to : List ℕ) (weight : List ℤ) (ok : E
 
   -- The length along edge i and on from its end.
   abbrev along : ℕ
-  along = (rise (pos 1 +ℤ pos n *ℤ getD weight i (pos 0)) + getD now (getD to i 0) 0) - fall (pos 1 +ℤ pos n *ℤ getD weight i (pos 0))
+  along = (rise (pos 1 +ℤ pos n *ℤ edgeIn edges i .weight) + getD now (edgeIn edges i .to) 0) - fall (pos 1 +ℤ pos n *ℤ edgeIn edges i .weight)
 
   -- Where it is not above the height of the state that the edge leaves, nothing changes,
-  pub edge-keeps : ltb (getD now (getD from i 0) 0) along ≡ false → Pass (lengthened n (edgeGraph count from to weight)) (i + 1) before now last
-  edge-keeps l = pass-keeps g i before now last so-far (omega (arith, ltb-false (getD now (getD from i 0) 0) along l, length-same n z))
+  pub edge-keeps : ltb (getD now (edgeIn edges i .from) 0) along ≡ false → Pass (lengthened n (edgeGraph count edges)) (i + 1) before now last
+  edge-keeps l = pass-keeps g i before now last so-far (omega (arith, ltb-false (getD now (edgeIn edges i .from) 0) along l, length-same n z))
 
   -- and where it is, that height becomes the length.
-  pub edge-raises : length before ≡ 64 → ltb (getD now (getD from i 0) 0) along ≡ true → (v : ℕ) → v ≡ max (getD now (getD from i 0) 0) along
-      → Pass (lengthened n (edgeGraph count from to weight)) (i + 1) before (set now (getD from i 0) v) i
+  pub edge-raises : length before ≡ 64 → ltb (getD now (edgeIn edges i .from) 0) along ≡ true → (v : ℕ) → v ≡ max (getD now (edgeIn edges i .from) 0) along
+      → Pass (lengthened n (edgeGraph count edges)) (i + 1) before (set now (edgeIn edges i .from) v) i
   edge-raises room more v is =
       pass-raises g i before now last so-far (there, refl)
       (omega (arith, room, so-far .same-length, ok .from-in i there, ok .states-in))
       (omega (arith, mul-le-mul most (ok .rise-in i there)))
       v
-      (omega (arith, is, ltb-true (getD now (getD from i 0) 0) along more, length-same n z))
-      (omega (arith, is, ltb-true (getD now (getD from i 0) 0) along more))
+      (omega (arith, is, ltb-true (getD now (edgeIn edges i .from) 0) along more, length-same n z))
+      (omega (arith, is, ltb-true (getD now (edgeIn edges i .from) 0) along more))
 
 -- ---- pass after pass
 

@@ -4,33 +4,35 @@ use mathlib.Core.Bool.{Bool, true, false}
 use mathlib.Core.List.{List}
 use Prim.Native.Nat.{ℕ, _+_, _*_, _≤_, _<_}
 use lib.ListN.{length, getD}
-use lib.IntN.{ℤ, pos}
+use lib.IntN.{ℤ}
 use Rattle.livelock.specs.Lists.{sum}
 use Rattle.livelock.proofs.Graphs.{Graph, Cycle}
 use Rattle.livelock.proofs.Rounds.{WalkLength}
+use Rattle.edge_lists.specs.EdgeLists.{edgeIn, HasEdge}
 use Rattle.deciding.specs.Signs.{rise, fall}
 
--- The first `count` entries of the lists as a graph: edge e leads from `from` e to `to` e and is `length` e long.
-abbrev pub edgeGraph : ℕ → List ℕ → List ℕ → List ℤ → Graph
-edgeGraph count from to length =
+-- The first `count` edges of a list as a graph.
+abbrev pub edgeGraph : ℕ → List ℤ → Graph
+edgeGraph count edges =
     record {
       size = count;
       counts = λ e. true;
-      src = λ e. getD from e 0;
-      dst = λ e. getD to e 0;
-      plus = λ e. rise (getD length e (pos 0));
-      minus = λ e. fall (getD length e (pos 0));
+      src = λ e. edgeIn edges e .from;
+      dst = λ e. edgeIn edges e .to;
+      plus = λ e. rise (edgeIn edges e .weight);
+      minus = λ e. fall (edgeIn edges e .weight);
     }
 
 -- So many edges between so many states, none of which weighs more than 65,535 either way.
-pub record EdgesIn (states count : ℕ) (from to : List ℕ) (weight : List ℤ) : Type 0 where
+pub record EdgesIn (states count : ℕ) (edges : List ℤ) : Type 0 where
   pub some-state : 1 ≤ states
   pub states-in : states ≤ 64
   pub few : count ≤ 256
-  pub from-in : (e : ℕ) → e < count → getD from e 0 < states
-  pub to-in : (e : ℕ) → e < count → getD to e 0 < states
-  pub rise-in : (e : ℕ) → e < count → rise (getD weight e (pos 0)) ≤ 65535
-  pub fall-in : (e : ℕ) → e < count → fall (getD weight e (pos 0)) ≤ 65535
+  pub there : (e : ℕ) → e < count → HasEdge edges e
+  pub from-in : (e : ℕ) → e < count → edgeIn edges e .from < states
+  pub to-in : (e : ℕ) → e < count → edgeIn edges e .to < states
+  pub rise-in : (e : ℕ) → e < count → rise (edgeIn edges e .weight) ≤ 65535
+  pub fall-in : (e : ℕ) → e < count → fall (edgeIn edges e .weight) ≤ 65535
 
 -- No number of the table is above `most`.
 abbrev pub AtMost : ℕ → List ℕ → Type 0

@@ -22,25 +22,17 @@ fn row_length(n: u64, weight: i64) -> i64
 
 // One pass over the edges, in place; the last edge that raised a height, or the number of edges if none did. The height of a is read first: read just
 // before the test, the compiler would store it at every edge, raised or not, and the next edge would wait for the store.
-fn relax(
-    from: &[u8; 256],
-    to: &[u8; 256],
-    weight: &[i64; 256],
-    count: usize,
-    states: usize,
-    n: u64,
-    heights: &mut [u64; 64],
-) -> usize
-    requires { ⌜ EdgesIn states count (now from) (now to) (now weight) × (n ≤ 64) × (length (now heights) ≡ 64) × AtMost 68719476736 (now heights) ⌝ }
-    ensures { λ r. ⌜ Pass (lengthened n (edgeGraph count (now (from .entry)) (now (to .entry)) (now (weight .entry)))) count (now (heights .entry)) (now (heights .exit)) r ⌝ }
+fn relax(edges: &[i16], count: usize, states: usize, n: u64, heights: &mut [u64; 64]) -> usize
+    requires { ⌜ EdgesIn states count (now edges) × (n ≤ 64) × (length (now heights) ≡ 64) × AtMost 68719476736 (now heights) ⌝ }
+    ensures { λ r. ⌜ Pass (lengthened n (edgeGraph count (now (edges .entry)))) count (now (heights .entry)) (now (heights .exit)) r ⌝ }
 {
     let mut last = count;
     let mut i = 0;
     while i < count {
-        let a = casts::index_u8(from[i]);
+        let a = edge_lists::from_of(edges, i);
         let height = heights[a];
-        let b = casts::index_u8(to[i]);
-        let length = row_length(n, weight[i]);
+        let b = edge_lists::to_of(edges, i);
+        let length = row_length(n, edge_lists::weight_of(edges, i));
         let next = heights[b];
         if rises(height, next, length) {
             heights[a] = raised(height, next, length);
@@ -52,21 +44,14 @@ fn relax(
 }
 
 // Whether every simple cycle weighs below zero. A pass that raises no height says yes; if each of as many passes as there are states raises one, the answer is no.
-pub fn decide(
-    from: &[u8; 256],
-    to: &[u8; 256],
-    weight: &[i64; 256],
-    count: usize,
-    states: usize,
-    n: u64,
-) -> bool
-    requires { ⌜ EdgesIn states count (now from) (now to) (now weight) × (states ≤ n) × (n ≤ 64) ⌝ }
-    ensures { λ r. ⌜ Decided (edgeGraph count (now (from .entry)) (now (to .entry)) (now (weight .entry))) r ⌝ }
+pub fn decide(edges: &[i16], count: usize, states: usize, n: u64) -> bool
+    requires { ⌜ EdgesIn states count (now edges) × (states ≤ n) × (n ≤ 64) ⌝ }
+    ensures { λ r. ⌜ Decided (edgeGraph count (now (edges .entry))) r ⌝ }
 {
     let mut heights = [0; 64];
     let mut k = 0;
     while k < states {
-        let last = relax(from, to, weight, count, states, n, &mut heights);
+        let last = relax(edges, count, states, n, &mut heights);
         if last == count {
             return true;
         }

@@ -1,11 +1,11 @@
-// The quiet rows of one machine, copied into lent lists of edges, which deciding and searching are lent in turn. No entry point: `machines`
-// calls it.
+// The quiet rows of one machine, copied into a lent list of edges, which deciding and searching are lent in turn. No entry point: `machines` calls it.
 ghost use mathlib.Core.Path.{_≡_};
-ghost use Prim.Native.Nat.{_+_, _≤_};
+ghost use Prim.Native.Nat.{_-_, _≤_};
 ghost use Rattle.livelock.proofs.CycleWeights.{messageWeight};
 ghost use Rattle.plant.specs.Steps.{typeOf};
 ghost use Rattle.tables.specs.Tables.{rowOf, RoomFor};
-ghost use Rattle.edges.specs.Edges.{rowWeight, oneIfQuiet, Room, Listed};
+ghost use Rattle.edge_lists.specs.EdgeLists.{EdgeRoom};
+ghost use Rattle.edges.specs.Edges.{rowWeight, oneIfQuiet, Light, Listed};
 use tables::TableRow;
 
 // The weight of a message: 0 for none.
@@ -34,29 +34,18 @@ fn one_if_quiet(progress: bool) -> usize
     if progress { 0 } else { 1 }
 }
 
-// Lists the quiet rows from `low` up to, and not including, `high`, and hands back how many they are: edge i leads from state from[i] to state to[i],
-// weighs weight[i] and is row row[i]. Each row is stored; only a quiet one is counted, so that the next takes its place otherwise.
-pub fn edges_of(
-    table: &[u8],
-    low: usize,
-    high: usize,
-    weights: &[u16],
-    from: &mut [u8; 256],
-    to: &mut [u8; 256],
-    weight: &mut [i64; 256],
-    row: &mut [u16; 256],
-) -> usize
-    requires { ⌜ RoomFor high (now table) × (high ≤ 1024) × (low ≤ high) × (high ≤ low + 255) × Room (now from) (now to) (now weight) (now row) ⌝ }
-    ensures { λ r. ⌜ Listed (now (table .entry)) (now (weights .entry)) low high (record { count = r; from = now (from .exit); to = now (to .exit); weight = now (weight .exit); row = now (row .exit) }) ⌝ }
+// Lists the quiet rows from `low` up to, and not including, `high`, and hands back how many they are. Each row is stored; only a quiet one is counted, so
+// that the next takes its place otherwise.
+pub fn edges_of(table: &[u8], low: usize, high: usize, weights: &[u16], edges: &mut [i16]) -> usize
+    requires { ⌜ RoomFor high (now table) × (high ≤ 1024) × (low ≤ high) × EdgeRoom (high - low) (now edges) × Light (now weights) ⌝ }
+    ensures { λ r. ⌜ Listed (now (table .entry)) (now (weights .entry)) low high r (now (edges .exit)) ⌝ }
 {
     let mut count = 0;
     let mut k = low;
     while k < high {
         let r = tables::row_in(table, k);
-        from[count] = r.left;
-        to[count] = r.entered;
-        weight[count] = row_weight(r, weights);
-        row[count] = k as u16;
+        let weight = row_weight(r, weights);
+        edge_lists::store_edge(edges, count, r.left, r.entered, weight, k);
         count += one_if_quiet(r.progress);
         k += 1;
     }

@@ -8,7 +8,7 @@ use native.Mathlib.Omega.{arith}
 use lib.ListN.{length, getD, length-map}
 use lib.IntN.{ℤ, pos, _-ℤ_}
 use lib.Signed.{_<ℤ_, _≤ℤ_, clashℤ}
-use Rattle.livelock.specs.Lists.{sum, count, All, Distinct}
+use Rattle.livelock.specs.Lists.{sum, All, Distinct}
 use Rattle.livelock.specs.Plants.{Row, Plant, rowAt, rowCount, stateCount, hasProgress, WellFormed}
 use Rattle.livelock.specs.Cycles.{Walk, leaves, enters, RowOf, firstLeft, SimpleCycle, Quiet}
 use Rattle.livelock.specs.Weights.{cycleWeight}
@@ -25,97 +25,97 @@ use Rattle.decoding.specs.declared.Shape.{Shape}
 use Rattle.decoding.proofs.TableLaws.{plant-row-is, rows-counted}
 use Rattle.decoding.proofs.FirstRowLaws.{row-of-machine, machine-rows}
 use Rattle.deciding.specs.Signs.{rise, fall}
-use Rattle.edges.specs.Edges.{Edges, Has, Listed, RowsBetween}
-use Rattle.deciding.specs.Rounds.{AllBelowZero, Decided}
-use Rattle.machines.specs.Machines.{graphOf}
+use Rattle.edge_lists.specs.EdgeLists.{Edge, edgeIn}
+use Rattle.edges.specs.Edges.{Has, Listed, RowsBetween}
+use Rattle.deciding.specs.Rounds.{edgeGraph, AllBelowZero, Decided}
 use Rattle.deciding.proofs.SignLaws.{rise-fall, difference-same}
 
 -- ---- edges and rows
 
--- An edge from a to b of weight w is quiet row j of machine m.
-pub record RowEdge (P : Plant) (ws : List ℕ) (m j a b : ℕ) (w : ℤ) : Type 0 where
-  pub row : QuietRowOf P m j
-  pub left : a ≡ leaves P j
-  pub entered : b ≡ enters P j
-  pub weighs : w ≡ pos (sentWeight P ws j) -ℤ pos (takenWeight P ws j)
+-- An edge is the row that it names, a quiet one of machine m.
+pub record RowEdge (P : Plant) (ws : List ℕ) (m : ℕ) (e : Edge) : Type 0 where
+  pub row : QuietRowOf P m (e .row)
+  pub left : e .from ≡ leaves P (e .row)
+  pub entered : e .to ≡ enters P (e .row)
+  pub weighs : e .weight ≡ pos (sentWeight P ws (e .row)) -ℤ pos (takenWeight P ws (e .row))
 
--- Each of the edges e is a quiet row of machine m.
-module _ (P : Plant) (formed : WellFormed P) (ws : List ℕ) (m : ℕ) (e : Edges)
-    (each : (i : ℕ) → i < e .count → RowEdge P ws m (getD (e .row) i 0) (getD (e .from) i 0) (getD (e .to) i 0) (getD (e .weight) i (pos 0))) where
+-- Each of the first `count` edges is a quiet row of machine m.
+module _ (P : Plant) (formed : WellFormed P) (ws : List ℕ) (m count : ℕ) (list : List ℤ)
+    (each : (i : ℕ) → i < count → RowEdge P ws m (edgeIn list i)) where
   -- The row of edge i.
   abbrev rowOfEdge : ℕ → ℕ
-  rowOfEdge i = getD (e .row) i 0
+  rowOfEdge i = edgeIn list i .row
 
   -- A list of edges.
   abbrev AllEdges : List ℕ → Type 0
-  AllEdges es = All (λ i. i < e .count) es
+  AllEdges es = All (λ i. i < count) es
 
   -- ---- lists of edges and lists of rows
 
   -- What the row sends and the edge's fall are together what the row takes and the edge's rise.
-  same-weight : (i : ℕ) → i < e .count → rise (getD (e .weight) i (pos 0)) + takenWeight P ws (rowOfEdge i) ≡ sentWeight P ws (rowOfEdge i) + fall (getD (e .weight) i (pos 0))
+  same-weight : (i : ℕ) → i < count → rise (edgeIn list i .weight) + takenWeight P ws (rowOfEdge i) ≡ sentWeight P ws (rowOfEdge i) + fall (edgeIn list i .weight)
   same-weight i l =
       let a = sentWeight P ws (rowOfEdge i) in
       let b = takenWeight P ws (rowOfEdge i) in
-      let w = getD (e .weight) i (pos 0) in
+      let w = edgeIn list i .weight in
       difference-same w (rise w) (fall w) a b (rise-fall w) (subst (λ (z : ℤ). Difference z a b) (sym (each i l .weighs)) (difference-minus a b))
 
   -- So it is for lists.
-  same-weights : (es : List ℕ) → AllEdges es → sum (graphOf e .plus) es + sum (takenWeight P ws) (map rowOfEdge es) ≡ sum (sentWeight P ws) (map rowOfEdge es) + sum (graphOf e .minus) es
+  same-weights : (es : List ℕ) → AllEdges es → sum (edgeGraph count list .plus) es + sum (takenWeight P ws) (map rowOfEdge es) ≡ sum (sentWeight P ws) (map rowOfEdge es) + sum (edgeGraph count list .minus) es
   unfolding All sum
   same-weights [] u = refl
   same-weights (i ∷ es) u = omega (arith, same-weight i (u .0), same-weights es (u .1))
 
   -- The rows leave the states that the edges leave.
-  same-left : (es : List ℕ) → AllEdges es → map (graphOf e .src) es ≡ map (leaves P) (map rowOfEdge es)
+  same-left : (es : List ℕ) → AllEdges es → map (edgeGraph count list .src) es ≡ map (leaves P) (map rowOfEdge es)
   unfolding All
   same-left [] u = refl
   same-left (i ∷ es) u = rw (each i (u .0) .left, same-left es (u .1))
 
   -- A walk over the edges is one over their rows,
-  rows-walk : (s t : ℕ) (es : List ℕ) → AllEdges es → Walk (graphOf e .src) (graphOf e .dst) s es t → Walk (leaves P) (enters P) s (map rowOfEdge es) t
+  rows-walk : (s t : ℕ) (es : List ℕ) → AllEdges es → Walk (edgeGraph count list .src) (edgeGraph count list .dst) s es t → Walk (leaves P) (enters P) s (map rowOfEdge es) t
   unfolding All Walk
   rows-walk s t [] u w = w
   rows-walk s t (i ∷ es) u w = (
     sym (each i (u .0) .left) ∙ w .0,
-    subst (λ (x : ℕ). Walk (leaves P) (enters P) x (map rowOfEdge es) t) (each i (u .0) .entered) (rows-walk (getD (e .to) i 0) t es (u .1) (w .1)),
+    subst (λ (x : ℕ). Walk (leaves P) (enters P) x (map rowOfEdge es) t) (each i (u .0) .entered) (rows-walk (edgeIn list i .to) t es (u .1) (w .1)),
   )
 
   -- and the other way.
-  edges-walk : (s t : ℕ) (es : List ℕ) → AllEdges es → Walk (leaves P) (enters P) s (map rowOfEdge es) t → Walk (graphOf e .src) (graphOf e .dst) s es t
+  edges-walk : (s t : ℕ) (es : List ℕ) → AllEdges es → Walk (leaves P) (enters P) s (map rowOfEdge es) t → Walk (edgeGraph count list .src) (edgeGraph count list .dst) s es t
   unfolding All Walk
   edges-walk s t [] u w = w
   edges-walk s t (i ∷ es) u w = (
     each i (u .0) .left ∙ w .0,
-    edges-walk (getD (e .to) i 0) t es (u .1) (subst (λ (x : ℕ). Walk (leaves P) (enters P) x (map rowOfEdge es) t) (sym (each i (u .0) .entered)) (w .1)),
+    edges-walk (edgeIn list i .to) t es (u .1) (subst (λ (x : ℕ). Walk (leaves P) (enters P) x (map rowOfEdge es) t) (sym (each i (u .0) .entered)) (w .1)),
   )
 
   -- What holds of the row of each edge holds of each row of a list of edges.
-  all-rows : (F : ℕ → Type 0) → ((i : ℕ) → i < e .count → F (rowOfEdge i)) → (es : List ℕ) → AllEdges es → All F (map rowOfEdge es)
-  all-rows F f es u = all-of-map F rowOfEdge es (all-weaken (λ i. i < e .count) (λ i. F (rowOfEdge i)) f es u)
+  all-rows : (F : ℕ → Type 0) → ((i : ℕ) → i < count → F (rowOfEdge i)) → (es : List ℕ) → AllEdges es → All F (map rowOfEdge es)
+  all-rows F f es u = all-of-map F rowOfEdge es (all-weaken (λ i. i < count) (λ i. F (rowOfEdge i)) f es u)
 
   -- ---- cycles
 
   -- Edges whose rows are a simple cycle are one.
-  edges-cycle : (es : List ℕ) → AllEdges es → SimpleCycle P m (map rowOfEdge es) → Cycle (graphOf e) es
+  edges-cycle : (es : List ℕ) → AllEdges es → SimpleCycle P m (map rowOfEdge es) → Cycle (edgeGraph count list) es
   edges-cycle es u s =
       record {
         non-empty = subst (λ (n : ℕ). 0 < n) (length-map es rowOfEdge) (s .non-empty);
-        edges = all-weaken (λ i. i < e .count) _ (λ i l. (l, refl)) es u;
+        edges = all-weaken (λ i. i < count) _ (λ i l. (l, refl)) es u;
         at = firstLeft P (map rowOfEdge es);
         closed = edges-walk (firstLeft P (map rowOfEdge es)) (firstLeft P (map rowOfEdge es)) es u (s .closed);
         once = subst Distinct (sym (same-left es u)) (s .once);
       }
 
   -- Where every cycle of the edges is below zero, a simple cycle that is the rows of edges weighs below zero.
-  edges-pass : AllBelowZero (graphOf e) → (es : List ℕ) → AllEdges es → SimpleCycle P m (map rowOfEdge es) → cycleWeight P ws (map rowOfEdge es) <ℤ pos 0
+  edges-pass : AllBelowZero (edgeGraph count list) → (es : List ℕ) → AllEdges es → SimpleCycle P m (map rowOfEdge es) → cycleWeight P ws (map rowOfEdge es) <ℤ pos 0
   edges-pass h es u s = below-zero-iff P formed ws (map rowOfEdge es) .1 (omega (arith, h es (edges-cycle es u s), same-weights es u))
 
   -- The rows of a cycle of edges are a quiet simple cycle, which weighs zero or more if that does.
-  cycle-fails : (es : List ℕ) → Cycle (graphOf e) es → sum (graphOf e .minus) es ≤ sum (graphOf e .plus) es
+  cycle-fails : (es : List ℕ) → Cycle (edgeGraph count list) es → sum (edgeGraph count list .minus) es ≤ sum (edgeGraph count list .plus) es
       → SimpleCycle P m (map rowOfEdge es) × Quiet P (map rowOfEdge es) × (pos 0 ≤ℤ cycleWeight P ws (map rowOfEdge es))
   cycle-fails es c h =
-      let u : AllEdges es = all-weaken _ (λ i. i < e .count) (λ i x. x .0) es (c .edges) in
+      let u : AllEdges es = all-weaken _ (λ i. i < count) (λ i x. x .0) es (c .edges) in
       let some : 0 < length (map rowOfEdge es) = subst (λ (n : ℕ). 0 < n) (sym (length-map es rowOfEdge)) (c .non-empty) in (
         record {
           non-empty = some;
@@ -128,7 +128,7 @@ module _ (P : Plant) (formed : WellFormed P) (ws : List ℕ) (m : ℕ) (e : Edge
       )
 
   -- And each such row is one of the edges.
-  module _ (every : (j : ℕ) → QuietRowOf P m j → Has e j) where
+  module _ (every : (j : ℕ) → QuietRowOf P m j → Has count list j) where
     -- Edges whose rows the list c has.
     record EdgesFor (c : List ℕ) : Type 0 where
       edges : List ℕ
@@ -145,7 +145,7 @@ module _ (P : Plant) (formed : WellFormed P) (ws : List ℕ) (m : ℕ) (e : Edge
         record { edges = first .place ∷ rest .edges; within = (first .within, rest .within); are = rw (first .is, rest .are) }
 
     -- Where every cycle of the edges is below zero, every quiet simple cycle is.
-    cycles-pass : AllBelowZero (graphOf e) → (c : List ℕ) → SimpleCycle P m c → Quiet P c → cycleWeight P ws c <ℤ pos 0
+    cycles-pass : AllBelowZero (edgeGraph count list) → (c : List ℕ) → SimpleCycle P m c → Quiet P c → cycleWeight P ws c <ℤ pos 0
     cycles-pass h c s q =
         let f = edges-for c (all-both (RowOf P m) _ c (s .of-machine) q) in
         subst (λ (x : List ℕ). SimpleCycle P m x → cycleWeight P ws x <ℤ pos 0) (f .are) (edges-pass h (f .edges) (f .within)) s
@@ -185,12 +185,12 @@ module _ (shape : Shape) (table : List ℕ) (ready : Ready shape table) (limits 
           entered-in = λ j a b. let r = row-between j a b in subst (λ (x : Row). x .entered < stateCount (plantOf shape table) m) (row-stored j r) (row-within (plantOf shape table) (limits .formed) m j r .1);
         }
 
-  module _ (ws : List ℕ) (m : ℕ) (within : m < shape .machines) (e : Edges) (listed : Listed table ws (getD (shape .first) m 0) (getD (shape .first) (m + 1) 0) e) where
+  module _ (ws : List ℕ) (m : ℕ) (within : m < shape .machines) (count : ℕ) (list : List ℤ) (listed : Listed table ws (getD (shape .first) m 0) (getD (shape .first) (m + 1) 0) count list) where
     -- Each edge is a quiet row of the machine,
-    pub edge-row : (i : ℕ) → i < e .count → RowEdge (plantOf shape table) ws m (getD (e .row) i 0) (getD (e .from) i 0) (getD (e .to) i 0) (getD (e .weight) i (pos 0))
+    pub edge-row : (i : ℕ) → i < count → RowEdge (plantOf shape table) ws m (edgeIn list i)
     edge-row i l =
         let x = listed .each i l in
-        let j = getD (e .row) i 0 in
+        let j = edgeIn list i .row in
         let r = row-between m within j (x .from-low) (x .below-high) in
         let is = row-stored m within j r in
         record {
@@ -201,26 +201,26 @@ module _ (shape : Shape) (table : List ℕ) (ready : Ready shape table) (limits 
         }
 
     -- and each of these is an edge.
-    pub row-edge : (j : ℕ) → QuietRowOf (plantOf shape table) m j → Has e j
+    pub row-edge : (j : ℕ) → QuietRowOf (plantOf shape table) m j → Has count list j
     row-edge j r =
         let between = row-of-machine (plantOf shape table) limits m j (r .0 .0) .0 (r .0 .1) in
         let is = row-stored m within j (r .0) in
         listed .every j (omega (arith, between .0, low-is m within)) (omega (arith, between .1, high-is m within)) (sym (ap hasProgress is) ∙ r .1)
 
     -- Where every cycle of the edges is below zero, every quiet simple cycle of the machine is.
-    pub machine-passes : AllBelowZero (graphOf e) → (c : List ℕ) → SimpleCycle (plantOf shape table) m c → Quiet (plantOf shape table) c → cycleWeight (plantOf shape table) ws c <ℤ pos 0
-    machine-passes = cycles-pass (plantOf shape table) (limits .formed) ws m e edge-row row-edge
+    pub machine-passes : AllBelowZero (edgeGraph count list) → (c : List ℕ) → SimpleCycle (plantOf shape table) m c → Quiet (plantOf shape table) c → cycleWeight (plantOf shape table) ws c <ℤ pos 0
+    machine-passes = cycles-pass (plantOf shape table) (limits .formed) ws m count list edge-row row-edge
 
     -- The rows of a cycle of edges that is zero or more are a quiet simple cycle of the machine that weighs zero or more.
-    pub machine-fails : (es : List ℕ) → Cycle (graphOf e) es
-        → sum (graphOf e .minus) es ≤ sum (graphOf e .plus) es
-        → SimpleCycle (plantOf shape table) m (map (λ i. getD (e .row) i 0) es) × Quiet (plantOf shape table) (map (λ i. getD (e .row) i 0) es) × (pos 0 ≤ℤ cycleWeight (plantOf shape table) ws (map (λ i. getD (e .row) i 0) es))
-    machine-fails = cycle-fails (plantOf shape table) (limits .formed) ws m e edge-row
+    pub machine-fails : (es : List ℕ) → Cycle (edgeGraph count list) es
+        → sum (edgeGraph count list .minus) es ≤ sum (edgeGraph count list .plus) es
+        → SimpleCycle (plantOf shape table) m (map (λ i. edgeIn list i .row) es) × Quiet (plantOf shape table) (map (λ i. edgeIn list i .row) es) × (pos 0 ≤ℤ cycleWeight (plantOf shape table) ws (map (λ i. edgeIn list i .row) es))
+    machine-fails = cycle-fails (plantOf shape table) (limits .formed) ws m count list edge-row
 
     -- What `decide` says of the edges, it says of the machine: true exactly when every quiet simple cycle weighs below zero.
-    pub machine-decided : (b : Bool) → Decided (graphOf e) b
+    pub machine-decided : (b : Bool) → Decided (edgeGraph count list) b
         → (b ≡ true) ↔ ((c : List ℕ) → SimpleCycle (plantOf shape table) m c → Quiet (plantOf shape table) c → cycleWeight (plantOf shape table) ws c <ℤ pos 0)
     machine-decided true d = (λ q. machine-passes d, λ p. refl)
     machine-decided false d =
         let x = machine-fails (d .0) (d .1) (d .2) in
-        (λ q. absurd (false≢true q), λ p. absurd (clashℤ (p (map (λ i. getD (e .row) i 0) (d .0)) (x .0) (x .1)) (x .2)))
+        (λ q. absurd (false≢true q), λ p. absurd (clashℤ (p (map (λ i. edgeIn list i .row) (d .0)) (x .0) (x .1)) (x .2)))

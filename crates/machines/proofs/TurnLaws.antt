@@ -2,23 +2,25 @@
 use mathlib.Core.Path.{_≡_, sym, subst, _∙_}
 use mathlib.Core.Bool.{Bool, true, false, false≢true}
 use mathlib.Core.List.{List}
-use Prim.Native.Nat.{ℕ, _+_, _≤_, _<_}
+use Prim.Native.Nat.{ℕ, _+_, _-_, _≤_, _<_}
 use native.Mathlib.Decide.{decLt}
 use native.Mathlib.Omega.{arith}
 use lib.ListN.{getD}
+use lib.IntN.{ℤ}
 use Rattle.livelock.specs.Plants.{machineCount, stateCount}
 use Rattle.livelock.specs.Figures.{mostStates}
 use Rattle.livelock.proofs.SumLaws.{greatest-below}
 use Rattle.livelock.proofs.Graphs.{Graph}
 use Rattle.tables.specs.Tables.{RoomFor}
+use Rattle.edge_lists.specs.EdgeLists.{EdgeRoom}
 use Rattle.decoding.specs.Tables.{plantOf}
 use Rattle.decoding.specs.declared.Shape.{Shape}
 use Rattle.decoding.proofs.TableLaws.{machines-counted, states-at}
-use Rattle.deciding.specs.Rounds.{EdgesIn, AllBelowZero, SomeZeroOrMore, Decided}
-use Rattle.edges.specs.Edges.{Edges, Listed}
+use Rattle.deciding.specs.Rounds.{edgeGraph, EdgesIn, AllBelowZero, SomeZeroOrMore, Decided}
+use Rattle.edges.specs.Edges.{Listed}
 use Rattle.edges.proofs.ListedLaws.{edges-in}
 use Rattle.figures.proofs.FigureLaws.{states-limit, most-limit}
-use Rattle.machines.specs.Machines.{Weighable, graphOf, PassingRows, FailingRows}
+use Rattle.machines.specs.Machines.{Weighable, EdgesBeside, PassingRows, FailingRows}
 use Rattle.machines.proofs.MachineLaws.{rows-between}
 
 -- ---- deciding
@@ -63,26 +65,26 @@ module _ (s : Shape) (table ws : List ℕ) (ok : Weighable s table ws) where
 
     module _ (low high : ℕ) (low-is : low ≡ getD (s .first) m 0) (high-is : high ≡ getD (s .first) (m + 1) 0) where
       -- The rows are few enough for an edge list.
-      pub turn-rows : RoomFor high table × (high ≤ 1024) × (low ≤ high) × (high ≤ low + 255)
-      turn-rows =
+      pub turn-rows : (edges : List ℤ) → EdgesBeside table edges → RoomFor high table × (high ≤ 1024) × (low ≤ high) × EdgeRoom (high - low) edges
+      turn-rows edges room =
           let x = rows-between s table (ok .ready) (ok .limits) m within in
-          (omega (arith, high-is, x .room), omega (arith, high-is, x .in-table), omega (arith, low-is, high-is, x .ordered), omega (arith, low-is, high-is, x .few))
+          (omega (arith, high-is, x .room), omega (arith, high-is, x .in-table), omega (arith, low-is, high-is, x .ordered), omega (arith, low-is, high-is, x .few, x .room, room))
 
-      module _ (e : Edges) (listed : Listed table ws low high e) where
+      module _ (count : ℕ) (edges : List ℤ) (listed : Listed table ws low high count edges) where
         -- The edges are the machine's.
-        turn-listed : Listed table ws (getD (s .first) m 0) (getD (s .first) (m + 1) 0) e
-        turn-listed = subst (λ (x : ℕ). Listed table ws x (getD (s .first) (m + 1) 0) e) low-is (subst (λ (y : ℕ). Listed table ws low y e) high-is listed)
+        turn-listed : Listed table ws (getD (s .first) m 0) (getD (s .first) (m + 1) 0) count edges
+        turn-listed = subst (λ (x : ℕ). Listed table ws x (getD (s .first) (m + 1) 0) count edges) low-is (subst (λ (y : ℕ). Listed table ws low y count edges) high-is listed)
 
         -- They are within the limits.
-        pub turn-edges : ((i : ℕ) → getD ws i 0 ≤ 65535) → (n : ℕ) → n ≡ getD (s .states) m 0 → EdgesIn n (e .count) (e .from) (e .to) (e .weight)
-        turn-edges light n n-is =
-            subst (λ (k : ℕ). EdgesIn k (e .count) (e .from) (e .to) (e .weight)) (sym (n-is ∙ states-at s table m within))
-            (edges-in table ws light (getD (s .first) m 0) (getD (s .first) (m + 1) 0) e turn-listed (stateCount (plantOf s table) m) (states-in .0) (states-in .1) (rows-between s table (ok .ready) (ok .limits) m within))
+        pub turn-edges : (n : ℕ) → n ≡ getD (s .states) m 0 → EdgesIn n count edges
+        turn-edges n n-is =
+            subst (λ (k : ℕ). EdgesIn k count edges) (sym (n-is ∙ states-at s table m within))
+            (edges-in table ws (ok .light) (getD (s .first) m 0) (getD (s .first) (m + 1) 0) count edges turn-listed (stateCount (plantOf s table) m) (states-in .0) (states-in .1) (rows-between s table (ok .ready) (ok .limits) m within))
 
         -- The machine passes if every cycle is below zero,
-        pub turn-passes : AllBelowZero (graphOf e) → PassingRows table ws (getD (s .first) m 0) (getD (s .first) (m + 1) 0)
-        turn-passes below-zero = record { edges = e; listed = turn-listed; below-zero = below-zero }
+        pub turn-passes : AllBelowZero (edgeGraph count edges) → PassingRows table ws (getD (s .first) m 0) (getD (s .first) (m + 1) 0)
+        turn-passes below-zero = record { count = count; edges = edges; listed = turn-listed; below-zero = below-zero }
 
         -- and fails if one is not.
-        pub turn-fails : SomeZeroOrMore (graphOf e) → FailingRows table ws (getD (s .first) m 0) (getD (s .first) (m + 1) 0) e
+        pub turn-fails : SomeZeroOrMore (edgeGraph count edges) → FailingRows table ws (getD (s .first) m 0) (getD (s .first) (m + 1) 0) count edges
         turn-fails zero-or-more = record { listed = turn-listed; zero-or-more = zero-or-more }

@@ -2,8 +2,7 @@
 ghost use mathlib.Core.Path.{_≡_};
 ghost use Rattle.livelock.specs.Figures.{mostStates};
 ghost use Rattle.decoding.specs.Tables.{plantOf};
-ghost use Rattle.edges.specs.Edges.{Room};
-ghost use Rattle.machines.specs.Machines.{Weighable, FirstFailing};
+ghost use Rattle.machines.specs.Machines.{Weighable, EdgesBeside, FirstFailing};
 use decoding::Shape;
 
 // The first machine with a cycle that weighs zero or more, or the count of machines if there is none, and how many edges that machine has.
@@ -12,26 +11,23 @@ pub struct Failing {
     pub count: usize,
 }
 
-// Lists the quiet rows of one machine after the other, up to the first machine with a cycle that weighs zero or more; its edges stay in the lists.
+// Lists the quiet rows of one machine after the other, up to the first machine with a cycle that weighs zero or more; its edges stay in the list.
 pub fn first_failing(
     table: &[u8],
     shape: Shape,
     weights: &[u16],
     n: u64,
-    from: &mut [u8; 256],
-    to: &mut [u8; 256],
-    weight: &mut [i64; 256],
-    row: &mut [u16; 256],
+    edges: &mut [i16],
 ) -> Failing
-    requires { ⌜ Weighable shape (now table) (now weights) × (n ≡ mostStates (plantOf shape (now table))) × Room (now from) (now to) (now weight) (now row) ⌝ }
-    ensures { λ r. ⌜ FirstFailing shape (now (table .entry)) (now (weights .entry)) (r .machine) (record { count = r .count; from = now (from .exit); to = now (to .exit); weight = now (weight .exit); row = now (row .exit) }) ⌝ }
+    requires { ⌜ Weighable shape (now table) (now weights) × (n ≡ mostStates (plantOf shape (now table))) × EdgesBeside (now table) (now edges) ⌝ }
+    ensures { λ r. ⌜ FirstFailing shape (now (table .entry)) (now (weights .entry)) (r .machine) (r .count) (now (edges .exit)) ⌝ }
 {
     let mut m = 0;
     while m < shape.machines {
         let low = casts::index_u16(shape.first[m]);
         let high = casts::index_u16(shape.first[m + 1]);
-        let count = edges::edges_of(table, low, high, weights, from, to, weight, row);
-        if !deciding::decide(from, to, weight, count, casts::index_u8(shape.states[m]), n) {
+        let count = edges::edges_of(table, low, high, weights, edges);
+        if !deciding::decide(edges, count, casts::index_u8(shape.states[m]), n) {
             return Failing { machine: m, count };
         }
         m += 1;

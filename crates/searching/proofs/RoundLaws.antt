@@ -10,15 +10,16 @@ use native.Mathlib.Omega.{arith}
 use lib.Dec.{ltb}
 use lib.ListN.{length, length-set, getD, set}
 use lib.Seq.{getD-set-same, getD-set-other}
-use lib.IntN.{ℤ, pos}
+use lib.IntN.{ℤ}
 use borrow.Author.Tests.{ne-eqb, ltb-true, ltb-false}
 use Rattle.livelock.specs.Lists.{below, greatest}
 use Rattle.livelock.proofs.ListLaws.{all-below}
 use Rattle.livelock.proofs.SumLaws.{greatest-next, greatest-bound}
 use Rattle.livelock.proofs.Graphs.{Graph, Within, via, via-edge, via-bound}
+use Rattle.edge_lists.specs.EdgeLists.{edgeIn}
 use Rattle.deciding.specs.Signs.{rise, fall}
 use Rattle.deciding.specs.Rounds.{edgeGraph, EdgesIn}
-use Rattle.searching.specs.Searches.{Halves, entry, Low, Zeros, Cleared, Round}
+use Rattle.searching.specs.Searches.{Halves, entry, Low, Zeros, Cleared, NotedRoom, Round}
 
 -- ---- the two tables
 
@@ -67,13 +68,13 @@ cleared-other {states} {old} {new} (inr e) h s l = h .kept-above (old + s) (omeg
 
 -- ---- one round
 
-module _ (count states : ℕ) (from to : List ℕ) (weight : List ℤ) (ok : EdgesIn states count from to weight)
+module _ (count states : ℕ) (list : List ℤ) (ok : EdgesIn states count list)
     {old new : ℕ} (halves : Halves old new) (k : ℕ) (before edges-before : List ℕ) where
   abbrev g : Graph
-  g = edgeGraph count from to weight
+  g = edgeGraph count list
 
   -- With no edge gone along yet.
-  pub round-starts : Zeros states new before → Round (edgeGraph count from to weight) 0 states old new k before before edges-before edges-before
+  pub round-starts : Zeros states new before → Round (edgeGraph count list) 0 states old new k before before edges-before edges-before
   unfolding greatest below
   round-starts zeros =
       record {
@@ -86,25 +87,25 @@ module _ (count states : ℕ) (from to : List ℕ) (weight : List ℤ) (ok : Edg
         edges-kept = λ j l. refl;
       }
 
-  module _ {i : ℕ} {after edges : List ℕ} (r : Round (edgeGraph count from to weight) i states old new k before after edges-before edges) (there : i < count) where
+  module _ {i : ℕ} {after edges : List ℕ} (r : Round (edgeGraph count list) i states old new k before after edges-before edges) (there : i < count) where
     -- The state that edge i leaves, and the weight along it and on.
     abbrev a : ℕ
-    a = getD from i 0
+    a = edgeIn list i .from
 
     abbrev along : ℕ
-    along = (rise (getD weight i (pos 0)) + entry after old (getD to i 0)) - fall (getD weight i (pos 0))
+    along = (rise (edgeIn list i .weight) + entry after old (edgeIn list i .to)) - fall (edgeIn list i .weight)
 
     -- No number is above 2 ^ 42, since none of the old table is above 2 ^ 41.
     pub round-low : Low states old before → (s : ℕ) → s < states → entry after new s ≤ 4398046511104
     round-low low s l =
         rw (r .relaxed s l)
-        (greatest-bound (via g (entry before old) s) 4398046511104 (below i) (all-below _ i (λ e x. via-bound g (entry before old) s e 4398046511104 (λ c. let here : e < count = omega (arith, x) in omega (arith, ok .rise-in e here, low (getD to e 0) (ok .to-in e here))))))
+        (greatest-bound (via g (entry before old) s) 4398046511104 (below i) (all-below _ i (λ e x. via-bound g (entry before old) s e 4398046511104 (λ c. let here : e < count = omega (arith, x) in omega (arith, ok .rise-in e here, low (edgeIn list e .to) (ok .to-in e here))))))
 
     -- Edge i from the state that it leaves,
     via-here : via g (entry before old) a i ≡ along
     via-here =
         via-edge g (entry before old) a i refl refl
-        ∙ ap (λ (x : ℕ). (rise (getD weight i (pos 0)) + x) - fall (getD weight i (pos 0))) (sym (r .old-kept (getD to i 0) (ok .to-in i there)))
+        ∙ ap (λ (x : ℕ). (rise (edgeIn list i .weight) + x) - fall (edgeIn list i .weight)) (sym (r .old-kept (edgeIn list i .to) (ok .to-in i there)))
 
     -- and from another.
     via-elsewhere : (s : ℕ) → s ≢ a → via g (entry before old) s i ≡ 0
@@ -116,8 +117,8 @@ module _ (count states : ℕ) (from to : List ℕ) (weight : List ℤ) (ok : Edg
     more s = rw (add-one i) (greatest-next (via g (entry before old) s) i)
 
     -- The edge does not lead to more,
-    pub edge-keeps : ltb (entry after new (getD from i 0)) ((rise (getD weight i (pos 0)) + entry after old (getD to i 0)) - fall (getD weight i (pos 0))) ≡ false
-        → Round (edgeGraph count from to weight) (i + 1) states old new k before after edges-before edges
+    pub edge-keeps : ltb (entry after new (edgeIn list i .from)) ((rise (edgeIn list i .weight) + entry after old (edgeIn list i .to)) - fall (edgeIn list i .weight)) ≡ false
+        → Round (edgeGraph count list) (i + 1) states old new k before after edges-before edges
     edge-keeps test =
         record {
           same-length = r .same-length;
@@ -136,9 +137,9 @@ module _ (count states : ℕ) (from to : List ℕ) (weight : List ℤ) (ok : Edg
     -- or it does: then v is stored for the state a that it leaves, and the edge is noted there. Nothing else changes: the old table has no place in
     -- common with the new one, another state keeps its number and its note, and from there this edge leads nowhere. At a the number of this edge is now
     -- the greatest, for it is above that of the edges before.
-    module _ (v : ℕ) (is-raised : v ≡ max (entry after new (getD from i 0)) ((rise (getD weight i (pos 0)) + entry after old (getD to i 0)) - fall (getD weight i (pos 0))))
-        (test : ltb (entry after new (getD from i 0)) ((rise (getD weight i (pos 0)) + entry after old (getD to i 0)) - fall (getD weight i (pos 0))) ≡ true)
-        (room : length before ≡ 128) (edge-room : length edges-before ≡ 4096) (few : k < 64) where
+    module _ (v : ℕ) (is-raised : v ≡ max (entry after new (edgeIn list i .from)) ((rise (edgeIn list i .weight) + entry after old (edgeIn list i .to)) - fall (edgeIn list i .weight)))
+        (test : ltb (entry after new (edgeIn list i .from)) ((rise (edgeIn list i .weight) + entry after old (edgeIn list i .to)) - fall (edgeIn list i .weight)) ≡ true)
+        (room : length before ≡ 128) (edge-room : NotedRoom states edges-before) (few : k < states) where
       abbrev walks : List ℕ
       walks = set after (new + a) v
 
@@ -155,7 +156,7 @@ module _ (count states : ℕ) (from to : List ℕ) (weight : List ℤ) (ok : Edg
 
       -- and the edge is noted.
       edge-at-a : entry noted (k * 64) a ≡ i
-      edge-at-a = getD-set-same edges (k * 64 + a) i 0 (omega (arith, r .same-edges, a-in, ok .states-in))
+      edge-at-a = getD-set-same edges (k * 64 + a) i 0 (omega (arith, edge-room, few, r .same-edges, a-in, ok .states-in))
 
       -- Another state keeps its number
       elsewhere : (s : ℕ) → s ≢ a → entry walks new s ≡ entry after new s
@@ -166,7 +167,7 @@ module _ (count states : ℕ) (from to : List ℕ) (weight : List ℤ) (ok : Edg
       edge-elsewhere s e = getD-set-other edges (k * 64 + a) (k * 64 + s) i 0 (λ q. e (omega arith))
 
       -- So the first i + 1 edges were gone along.
-      pub edge-raises : Round (edgeGraph count from to weight) (i + 1) states old new k before (set after (new + getD from i 0) v) edges-before (set edges (k * 64 + getD from i 0) i)
+      pub edge-raises : Round (edgeGraph count list) (i + 1) states old new k before (set after (new + edgeIn list i .from) v) edges-before (set edges (k * 64 + edgeIn list i .from) i)
       edge-raises =
           record {
             same-length = length-set after (new + a) v ∙ r .same-length;

@@ -27,7 +27,7 @@ use Rattle.livelock.proofs.Walks.{visited, walk-append, HasCycle, distinct-or-c
 use Rattle.livelock.proofs.Graphs.{Graph, IsEdge, Within, Cycle, via, via-edge, Leads, via-leads, via-bound}
 use Rattle.livelock.proofs.Rounds.{via-equal}
 use Rattle.deciding.specs.Rounds.{edgeGraph, EdgesIn, SomeZeroOrMore}
-use Rattle.searching.specs.Searches.{origin, heaviest, Closes, Halves, entry, Low, Cleared, Round, Exactly, FirstEdge, FirstEdges, LeastFrom, Noted, Least, Written}
+use Rattle.searching.specs.Searches.{origin, heaviest, Closes, Halves, entry, Low, Cleared, Round, Exactly, FirstEdge, FirstEdges, LeastFrom, NotedRoom, Noted, Least, Written}
 use Rattle.deciding.proofs.DecisionLaws.{edges-within}
 use Rattle.searching.proofs.RoundLaws.{halves-swap, cleared-other}
 
@@ -38,10 +38,10 @@ pub record Searchable (g : Graph) (states : ℕ) : Type 0 where
   pub light : (e : ℕ) → IsEdge g e → g .plus e ≤ 65535
 
 -- An edge list makes such a graph.
-pub edges-searchable : {count states : ℕ} {from to : List ℕ} {weight : List ℤ} → EdgesIn states count from to weight
-    → Searchable (edgeGraph count from to weight) states
-edges-searchable {count} {states} {from} {to} {weight} ok =
-    record { within = edges-within count states from to weight ok; states-in = ok .states-in; light = λ e u. ok .rise-in e (u .0) }
+pub edges-searchable : {count states : ℕ} {edges : List ℤ} → EdgesIn states count edges
+    → Searchable (edgeGraph count edges) states
+edges-searchable {count} {states} {edges} ok =
+    record { within = edges-within count states edges ok; states-in = ok .states-in; light = λ e u. ok .rise-in e (u .0) }
 
 -- A closed walk of edges, from the state a back to it, that weighs zero or more.
 pub record ClosedWalk (g : Graph) (a : ℕ) (es : List ℕ) : Type 0 where
@@ -315,12 +315,12 @@ module _ {g : Graph} {states k old new : ℕ} {before after edges-before edges :
 pub record Searched (g : Graph) (states start k old : ℕ) (walks noted : List ℕ) : Type 0 where
   pub halves : Halves old (64 - old)
   pub room : length walks ≡ 128
-  pub edge-room : length noted ≡ 4096
+  pub edge-room : NotedRoom states noted
   pub exact : Exactly g states start k old walks
   pub first-edges : FirstEdges g states start k noted
 
 -- Before the first round.
-pub searched-first : (g : Graph) (states start : ℕ) (noted : List ℕ) → states ≤ 64 → start < states → length noted ≡ 4096
+pub searched-first : (g : Graph) (states start : ℕ) (noted : List ℕ) → states ≤ 64 → start < states → NotedRoom states noted
     → Searched g states start 0 0 (set (replicate 128 0) start origin) noted
 searched-first g states start noted few h room =
     record {
@@ -348,7 +348,7 @@ module _ {g : Graph} {states start k old : ℕ} {walks noted cleared : List ℕ}
         record {
           halves = halves-swap old (h .halves);
           room = r .same-length ∙ c .same-length ∙ h .room;
-          edge-room = r .same-edges ∙ h .edge-room;
+          edge-room = omega (arith, r .same-edges, h .edge-room);
           exact = exactly-next ok start exact-kept r;
           first-edges = first-edges-next ok start exact-kept r (h .first-edges);
         }
@@ -497,14 +497,14 @@ least-again {g} {states} {start} {k} {r} h f = go (decLt k r)
 
 -- The first i edges of a walk from the start are written. They lead to s, and with a heaviest walk of the k − i edges from s back to the start
 -- they weigh zero or more.
-pub record Walking (g : Graph) (row : List ℕ) (start k : ℕ) (before : List ℕ) (s i : ℕ) (after : List ℕ) : Type 0 where
+pub record Walking (g : Graph) (row : ℕ → ℕ) (start k : ℕ) (before : List ℕ) (s i : ℕ) (after : List ℕ) : Type 0 where
   pub within : i ≤ k
   pub walk : List ℕ
   pub long : length walk ≡ i
   pub edges : All (IsEdge g) walk
   pub joined : Walk (g .src) (g .dst) start walk s
   pub weighs : origin + sum (g .minus) walk ≤ heaviest g start (k - i) s + sum (g .plus) walk
-  pub written : after ≡ map (λ e. getD row e 0) walk ++ drop i before
+  pub written : after ≡ map row walk ++ drop i before
   pub kept : length after ≡ length before
 
 -- The edges of a walk together weigh no more than 65,535 each.
@@ -522,7 +522,7 @@ walk-end-in ok a t (e ∷ es) l u w = walk-end-in ok _ t es (ok .within e (u .0)
 
 module _ {g : Graph} {states start k : ℕ} (ok : Searchable g states) (least : Least g states start k) where
   -- Nothing is written yet.
-  pub walk-begins : (row before : List ℕ) → Walking g row start k before start 0 before
+  pub walk-begins : (row : ℕ → ℕ) (before : List ℕ) → Walking g row start k before start 0 before
   unfolding All Walk sum
   walk-begins row before =
       let z : k - 0 ≡ k = omega arith in
@@ -537,7 +537,7 @@ module _ {g : Graph} {states start k : ℕ} (ok : Searchable g states) (least : 
         kept = refl;
       }
 
-  module _ {row before : List ℕ} {s i : ℕ} {after : List ℕ} (w : Walking g row start k before s i after) where
+  module _ {row : ℕ → ℕ} {before : List ℕ} {s i : ℕ} {after : List ℕ} (w : Walking g row start k before s i after) where
     -- There is a walk on from s,
     walk-alive : 0 < heaviest g start (k - i) s
     walk-alive = omega (arith, w .weighs, sum-light ok (w .walk) (w .edges), w .long, w .within, least .few, ok .states-in)
@@ -555,25 +555,25 @@ module _ {g : Graph} {states start k : ℕ} (ok : Searchable g states) (least : 
 
     module _ (l : i < k) (room : 64 ≤ length before) (e : ℕ) (h : FirstEdge g start (k - i - 1) s e) where
       abbrev shown : List ℕ → List ℕ
-      shown es = map (λ x. getD row x 0) es
+      shown es = map row es
 
-      written-next : set after i (getD row e 0) ≡ shown (w .walk ++ (e ∷ [])) ++ drop (i + 1) before
+      written-next : set after i (row e) ≡ shown (w .walk ++ (e ∷ [])) ++ drop (i + 1) before
       written-next =
           ap
-          (λ (x : List ℕ). set x i (getD row e 0))
+          (λ (x : List ℕ). set x i (row e))
           (w .written ∙ ap (λ (x : List ℕ). shown (w .walk) ++ x) (drop-cons before i 0 (omega (arith, least .few, ok .states-in))))
           ∙ set-at
           (shown (w .walk))
           (getD before i 0)
           (drop (suc i) before)
-          (getD row e 0)
+          (row e)
           i
-          (length-map (w .walk) (λ x. getD row x 0) ∙ w .long)
-          ∙ sym (append-assoc (shown (w .walk)) (getD row e 0 ∷ []) (drop (suc i) before))
-          ∙ rw (add-one i, map-append (λ x. getD row x 0) (w .walk) (e ∷ []))
+          (length-map (w .walk) row ∙ w .long)
+          ∙ sym (append-assoc (shown (w .walk)) (row e ∷ []) (drop (suc i) before))
+          ∙ rw (add-one i, map-append row (w .walk) (e ∷ []))
 
       -- One edge more.
-      pub walk-goes-on : Walking g row start k before (g .dst e) (i + 1) (set after i (getD row e 0))
+      pub walk-goes-on : Walking g row start k before (g .dst e) (i + 1) (set after i (row e))
       unfolding All Walk sum
       walk-goes-on =
           let z : k - (i + 1) ≡ k - i - 1 = omega arith in

@@ -3,11 +3,14 @@ use mathlib.Core.Path.{_≡_}
 use mathlib.Core.Logic.{_⊎_}
 use mathlib.Core.Bool.{cond}
 use mathlib.Core.List.{List, _++_, map}
-use Prim.Native.Nat.{ℕ, zero, suc, _+_, _*_, _≤_, _<_}
+use Prim.Native.Nat.{ℕ, zero, suc, _+_, _-_, _*_, _≤_, _<_}
 use lib.ListN.{length, getD, drop}
 use lib.Dec.{eqb}
+use lib.IntN.{ℤ}
 use Rattle.livelock.specs.Lists.{below, sum, greatest}
 use Rattle.livelock.proofs.Graphs.{Graph, IsEdge, Cycle, via}
+use Rattle.edge_lists.specs.EdgeLists.{edgeIn}
+use Rattle.deciding.specs.Rounds.{edgeGraph}
 
 -- Weights of walks are kept with 2 ^ 40 added, and 0 stands for no walk: no walk of at most 64 edges weighs 2 ^ 40 either way.
 abbrev pub origin : ℕ
@@ -45,6 +48,19 @@ pub record Cleared (states at : ℕ) (before after : List ℕ) : Type 0 where
   pub kept-below : (j : ℕ) → j < at → getD after j 0 ≡ getD before j 0
   pub kept-above : (j : ℕ) → at + 64 ≤ j → getD after j 0 ≡ getD before j 0
 
+-- The list of first edges has 64 for each state: there is a place for each walk of at most as many edges, and each state.
+abbrev pub NotedRoom : ℕ → List ℕ → Type 0
+NotedRoom states noted = 64 * states ≤ length noted
+
+-- What a round asks: walks of at most as many edges as there are states, in the table at `old`, and zeros in the other.
+pub record RoundReady (states old k : ℕ) (walks noted : List ℕ) : Type 0 where
+  pub halves : Halves old (64 - old)
+  pub low : Low states old walks
+  pub zeros : Zeros states (64 - old) walks
+  pub few : k < states
+  pub room : length walks ≡ 128
+  pub edge-room : NotedRoom states noted
+
 -- From each state, going along one of the first i edges and on as far as the table at `old` said: the table at `new` has the greatest weight, and where
 -- it is not 0, an edge that attains it is noted. The first edges of shorter walks were kept.
 pub record Round (g : Graph) (i states old new k : ℕ) (before after edges-before edges-after : List ℕ) : Type 0 where
@@ -79,7 +95,6 @@ pub record LeastFrom (g : Graph) (start limit k : ℕ) : Type 0 where
 
 -- Where it was found, the first edges of the heaviest walks of up to k edges are noted.
 pub record Noted (g : Graph) (states start limit k : ℕ) (edges : List ℕ) : Type 0 where
-  pub same-edges : length edges ≡ 4096
   pub first-edges : k ≤ limit → FirstEdges g states start k edges
 
 -- k is the least number of edges of a closed walk that weighs zero or more, from whatever state, and one goes from `start`.
@@ -91,15 +106,15 @@ pub record Least (g : Graph) (states start k : ℕ) : Type 0 where
   pub least : (s j : ℕ) → s < states → 1 ≤ j → j < k → Closes g s j → ⊥
 
 -- The front of the list has the rows of a simple cycle of k edges that weighs zero or more; the rest is kept.
-pub record Written (g : Graph) (row : List ℕ) (k : ℕ) (before after : List ℕ) : Type 0 where
+pub record Written (g : Graph) (row : ℕ → ℕ) (k : ℕ) (before after : List ℕ) : Type 0 where
   pub cycle : List ℕ
   pub long : length cycle ≡ k
   pub simple : Cycle g cycle
   pub weighs : sum (g .minus) cycle ≤ sum (g .plus) cycle
-  pub shown : after ≡ map (λ e. getD row e 0) cycle ++ drop k before
+  pub shown : after ≡ map row cycle ++ drop k before
 
--- A cycle of k edges was written; k is at least 1, and no more than the machine has states.
-pub record ShownRows (g : Graph) (states : ℕ) (row : List ℕ) (k : ℕ) (before after : List ℕ) : Type 0 where
+-- A cycle of k edges of the list was written; k is at least 1, and no more than the machine has states.
+pub record ShownRows (count : ℕ) (edges : List ℤ) (states k : ℕ) (before after : List ℕ) : Type 0 where
   pub some-row : 1 ≤ k
   pub few : k ≤ states
-  pub written : Written g row k before after
+  pub written : Written (edgeGraph count edges) (λ e. edgeIn edges e .row) k before after

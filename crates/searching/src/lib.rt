@@ -4,12 +4,12 @@
 // `walks` has two tables, from 0 and from 64 on: for each state, the greatest weight of a walk of exactly k edges to the start, and of k + 1 edges.
 // `noted` has, from 64 × k on, the first edge of a heaviest walk of k + 1 edges from each state, so that the walk found can be written without a search.
 ghost use mathlib.Core.Path.{_≡_};
-ghost use Prim.Native.Nat.{_≤_, _<_};
+ghost use Prim.Native.Nat.{_-_, _≤_, _<_};
 ghost use lib.ListN.{length};
 ghost use lib.IntN.{pos, _-ℤ_};
 ghost use lib.Signed.{leZ};
 ghost use Rattle.deciding.specs.Rounds.{edgeGraph, EdgesIn, SomeZeroOrMore};
-ghost use Rattle.searching.specs.Searches.{origin, Halves, Low, Zeros, Cleared, Round, Noted, LeastFrom, Least, ShownRows};
+ghost use Rattle.searching.specs.Searches.{origin, Cleared, NotedRoom, RoundReady, Round, Noted, LeastFrom, Least, ShownRows};
 use deciding::relaxing::raised;
 use deciding::relaxing::rises;
 
@@ -43,31 +43,29 @@ fn clear(walks: &mut [u64; 128], at: usize, states: usize)
     }
 }
 
-// One edge, and on as far as the table at `old` says, from each state, into the table at `new`; the edge is noted in the first edges from 64 × k on.
+// One edge, and on as far as the table at `old` says, from each state, into the other table; the edge is noted in the first edges from 64 × k on.
 // The number of a is read first: read just before the test, the compiler would store it at every edge, raised or not.
 fn round(
-    from: &[u8; 256],
-    to: &[u8; 256],
-    weight: &[i64; 256],
+    edges: &[i16],
     count: usize,
     states: usize,
     walks: &mut [u64; 128],
     old: usize,
-    new: usize,
-    noted: &mut [u8; 4096],
+    noted: &mut [u8],
     k: usize,
 )
-    requires { ⌜ EdgesIn states count (now from) (now to) (now weight) × Halves old new × Low states old (now walks) × Zeros states new (now walks) × (k < 64) × (length (now walks) ≡ 128) × (length (now noted) ≡ 4096) ⌝ }
-    ensures { λ r. ⌜ Round (edgeGraph count (now (from .entry)) (now (to .entry)) (now (weight .entry))) count states old new k (now (walks .entry)) (now (walks .exit)) (now (noted .entry)) (now (noted .exit)) ⌝ }
+    requires { ⌜ EdgesIn states count (now edges) × RoundReady states old k (now walks) (now noted) ⌝ }
+    ensures { λ r. ⌜ Round (edgeGraph count (now (edges .entry))) count states old (64 - old) k (now (walks .entry)) (now (walks .exit)) (now (noted .entry)) (now (noted .exit)) ⌝ }
 {
+    let new = 64 - old;
     let mut i = 0;
     while i < count {
-        let a = casts::index_u8(from[i]);
+        let a = edge_lists::from_of(edges, i);
         let at = new + a;
         let here = walks[at];
-        let b = casts::index_u8(to[i]);
+        let b = edge_lists::to_of(edges, i);
         let next = walks[old + b];
-        let w = weight[i];
+        let w = edge_lists::weight_of(edges, i);
         if rises(here, next, w) {
             walks[at] = raised(here, next, w);
             noted[k * 64 + a] = i as u8;
@@ -78,18 +76,16 @@ fn round(
 
 // The least number of edges up to `limit` with which a closed walk from the start weighs zero or more, or one more than the limit.
 fn least_from(
-    from: &[u8; 256],
-    to: &[u8; 256],
-    weight: &[i64; 256],
+    edges: &[i16],
     count: usize,
     states: usize,
     start: usize,
     limit: usize,
-    noted: &mut [u8; 4096],
+    noted: &mut [u8],
 ) -> usize
-    requires { ⌜ EdgesIn states count (now from) (now to) (now weight) × (start < states) × (limit ≤ 64) × (length (now noted) ≡ 4096) ⌝ }
-    ensures { λ r. ⌜ LeastFrom (edgeGraph count (now (from .entry)) (now (to .entry)) (now (weight .entry))) start limit r ⌝ }
-    ensures { λ r. ⌜ Noted (edgeGraph count (now (from .entry)) (now (to .entry)) (now (weight .entry))) states start limit r (now (noted .exit)) ⌝ }
+    requires { ⌜ EdgesIn states count (now edges) × (start < states) × (limit ≤ states) × NotedRoom states (now noted) ⌝ }
+    ensures { λ r. ⌜ LeastFrom (edgeGraph count (now (edges .entry))) start limit r ⌝ }
+    ensures { λ r. ⌜ Noted (edgeGraph count (now (edges .entry))) states start limit r (now (noted .exit)) ⌝ }
 {
     let mut walks = [0; 128];
     walks[start] = ORIGIN;
@@ -98,18 +94,7 @@ fn least_from(
     while k < limit {
         let new = 64 - old;
         clear(&mut walks, new, states);
-        round(
-            from,
-            to,
-            weight,
-            count,
-            states,
-            &mut walks,
-            old,
-            new,
-            noted,
-            k,
-        );
+        round(edges, count, states, &mut walks, old, noted, k);
         old = new;
         k += 1;
         let closed = walk_weight(walks[old + start]);
@@ -127,23 +112,15 @@ struct Start {
 }
 
 // Where such a walk with the fewest edges begins, and how many it has.
-fn least(
-    from: &[u8; 256],
-    to: &[u8; 256],
-    weight: &[i64; 256],
-    count: usize,
-    states: usize,
-    noted: &mut [u8; 4096],
-) -> Start
-    requires { ⌜ EdgesIn states count (now from) (now to) (now weight) × SomeZeroOrMore (edgeGraph count (now from) (now to) (now weight)) × (length (now noted) ≡ 4096) ⌝ }
-    ensures { λ r. ⌜ Least (edgeGraph count (now (from .entry)) (now (to .entry)) (now (weight .entry))) states (r .start) (r .length) ⌝ }
-    ensures { λ r. ⌜ length (now (noted .exit)) ≡ 4096 ⌝ }
+fn least(edges: &[i16], count: usize, states: usize, noted: &mut [u8]) -> Start
+    requires { ⌜ EdgesIn states count (now edges) × SomeZeroOrMore (edgeGraph count (now edges)) × NotedRoom states (now noted) ⌝ }
+    ensures { λ r. ⌜ Least (edgeGraph count (now (edges .entry))) states (r .start) (r .length) ⌝ }
 {
     let mut start = 0;
     let mut length = states + 1;
     let mut s = 0;
     while s < states {
-        let k = least_from(from, to, weight, count, states, s, length - 1, noted);
+        let k = least_from(edges, count, states, s, length - 1, noted);
         if k < length {
             start = s;
         }
@@ -155,38 +132,39 @@ fn least(
 
 // Finds a cycle with the fewest edges and writes its rows to the front of the list, in running order; hands back how many they are.
 // The rounds from its start are made once more, for later starts have overwritten the first edges.
-pub fn show(
-    from: &[u8; 256],
-    to: &[u8; 256],
-    weight: &[i64; 256],
-    row: &[u16; 256],
+fn show_noted(
+    edges: &[i16],
     count: usize,
     states: usize,
+    noted: &mut [u8],
     cycle: &mut [u16],
 ) -> usize
-    requires { ⌜ EdgesIn states count (now from) (now to) (now weight) × SomeZeroOrMore (edgeGraph count (now from) (now to) (now weight)) × (64 ≤ length (now cycle)) ⌝ }
-    ensures { λ r. ⌜ ShownRows (edgeGraph count (now (from .entry)) (now (to .entry)) (now (weight .entry))) states (now (row .entry)) r (now (cycle .entry)) (now (cycle .exit)) ⌝ }
+    requires { ⌜ EdgesIn states count (now edges) × SomeZeroOrMore (edgeGraph count (now edges)) × NotedRoom states (now noted) × (64 ≤ length (now cycle)) ⌝ }
+    ensures { λ r. ⌜ ShownRows count (now (edges .entry)) states r (now (cycle .entry)) (now (cycle .exit)) ⌝ }
 {
-    let mut noted = [0; 4096];
-    let found = least(from, to, weight, count, states, &mut noted);
+    let found = least(edges, count, states, noted);
     let start = found.start;
-    let k = least_from(
-        from,
-        to,
-        weight,
-        count,
-        states,
-        start,
-        found.length,
-        &mut noted,
-    );
+    let k = least_from(edges, count, states, start, found.length, noted);
     let mut s = start;
     let mut i = 0;
     while i < k {
         let e = casts::index_u8(noted[(k - i - 1) * 64 + s]);
-        cycle[i] = row[e];
-        s = casts::index_u8(to[e]);
+        cycle[i] = edge_lists::row_of(edges, e);
+        s = edge_lists::to_of(edges, e);
         i += 1;
     }
     k
+}
+
+// The same with a list of first edges of its own: a machine of few states needs a short one, and clearing 4,096 bytes would be a sixth of its time.
+pub fn show(edges: &[i16], count: usize, states: usize, cycle: &mut [u16]) -> usize
+    requires { ⌜ EdgesIn states count (now edges) × SomeZeroOrMore (edgeGraph count (now edges)) × (64 ≤ length (now cycle)) ⌝ }
+    ensures { λ r. ⌜ ShownRows count (now (edges .entry)) states r (now (cycle .entry)) (now (cycle .exit)) ⌝ }
+{
+    if states <= 8 {
+        let mut noted = [0; 512];
+        return show_noted(edges, count, states, &mut noted, cycle);
+    }
+    let mut noted = [0; 4096];
+    show_noted(edges, count, states, &mut noted, cycle)
 }

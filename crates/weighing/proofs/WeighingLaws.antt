@@ -2,12 +2,13 @@
 use mathlib.Core.Path.{_≡_, refl, sym, ap, _∙_, subst}
 use mathlib.Core.Logic.{_≢_, _↔_, _⊎_, inl, inr}
 use mathlib.Core.Bool.{Bool, true, false, cond, false≢true}
-use mathlib.Core.List.{List, _++_, map}
-use Prim.Native.Nat.{ℕ, _+_, _≤_, _<_}
+use mathlib.Core.List.{List, [], _∷_, _++_, map}
+use Prim.Native.Nat.{ℕ, zero, suc, _+_, _≤_, _<_}
 use native.Mathlib.Decide.{decLt}
 use native.Mathlib.Numerals.{add-one}
 use native.Mathlib.Omega.{arith}
 use lib.ListN.{length, getD, take, drop, drop-of-length-le, length-map}
+use lib.IntN.{ℤ}
 use lib.Seq.{drop-cons}
 use lib.Dec.{eqb, ltb}
 use borrow.Author.Tests.{eq-eqb, ne-eqb, lt-ltb, le-ltb, eqb-true, ltb-false}
@@ -36,12 +37,13 @@ use Rattle.weighing.specs.Answers.{Answer, passed, cycle, refused, answe
 use Rattle.weighing.specs.Answers as Answers
 use Rattle.weighing.specs.Weighing.{firstAbove, checkedSizes, checkedWeights, judgedWeights, checkedRoom, judged}
 use Rattle.weighing.specs.Weighing.{OnPassing, OnFailing, Owed, for-fault, for-plant, OnPassingVerdict, OwedVerdict, verdict-for-fault, verdict-for-plant}
-use Rattle.machines.specs.Machines.{Weighable, graphOf, FirstFailing}
+use Rattle.machines.specs.Machines.{Weighable, FirstFailing}
 use Rattle.machines.proofs.TurnLaws.{machines-are, states-in, turn-edges}
 use Rattle.weighing.specs.Inner.Checks.{WeightsChecked, RoomChecked, Shows}
-use Rattle.edges.specs.Edges.{Edges, Listed}
+use Rattle.edge_lists.specs.EdgeLists.{edgeIn}
+use Rattle.edges.specs.Edges.{Light}
 use Rattle.figures.specs.FigureSums.{figuresIn, FiguresOf}
-use Rattle.deciding.specs.Rounds.{EdgesIn, AllBelowZero, SomeZeroOrMore, Decided}
+use Rattle.deciding.specs.Rounds.{edgeGraph}
 use Rattle.searching.specs.Searches.{ShownRows}
 use Rattle.figures.specs.declared.Figures.{Figures}
 use Rattle.weighing.specs.declared.Weighed.{Weighed}
@@ -70,6 +72,18 @@ module _ (limit : ℕ) (ws : List ℕ) (i x : ℕ) (rest : i + firstAbove limit 
   unfolding firstAbove
   above-ends b = omega (arith, rw (drop-of-length-le ws b) at rest)
 
+-- Where the first above the limit is past the end, no number is above it.
+none-above : (limit : ℕ) (ws : List ℕ) → length ws ≤ firstAbove limit ws → (i : ℕ) → getD ws i 0 ≤ limit
+unfolding firstAbove
+none-above limit [] h i = omega arith
+none-above limit (x ∷ xs) h i = go (ltb limit x) refl h i (none-above limit xs)
+  where
+    go : (b : Bool) → ltb limit x ≡ b → suc (length xs) ≤ cond b 0 (suc (firstAbove limit xs)) → (i : ℕ)
+        → (length xs ≤ firstAbove limit xs → (j : ℕ) → getD xs j 0 ≤ limit) → getD (x ∷ xs) i 0 ≤ limit
+    go true e l i rest = absurd (omega arith)
+    go false e l zero rest = ltb-false limit x e
+    go false e l (suc i) rest = rest (omega arith) i
+
 -- ---- the machines of a table
 
 module _ (s : Shape) (table ws : List ℕ) (ok : Weighable s table ws) where
@@ -90,20 +104,20 @@ module _ (s : Shape) (table ws : List ℕ) (ok : Weighable s table ws) where
         (λ q. record { figures = ap Answers.passing figures-are; bounded = ceiling (plantOf s table) (ok .limits .formed) ws p })
         (λ q. absurd (q p))
 
-  -- Machine m is the first that fails, and e are its edges.
-  module _ (m : ℕ) (e : Edges) (failing : FirstFailing s table ws m e) where
+  -- Machine m is the first that fails, and the first `size` edges are its.
+  module _ (m size : ℕ) (edges : List ℤ) (failing : FirstFailing s table ws m size edges) where
     -- Where there is none, the weights pass.
     pub none-fails : s .machines ≤ m → Passes (plantOf s table) ws
     none-fails h k rows c q =
         let within : k < s .machines = omega (arith, cycle-machine (plantOf s table) (ok .limits .formed) k rows c, machines-are s table ws ok) in
         let p = failing .before k (omega arith) in
-        machine-passes s table (ok .ready) (ok .limits) ws k within (p .edges) (p .listed) (p .below-zero) rows c q
+        machine-passes s table (ok .ready) (ok .limits) ws k within (p .count) (p .edges) (p .listed) (p .below-zero) rows c q
 
     module _ (within : m < s .machines) where
       -- Else the rows of a cycle of the edges that is zero or more are a failing cycle,
-      failing-rows : (es : List ℕ) → Cycle (graphOf e) es → sum (graphOf e .minus) es ≤ sum (graphOf e .plus) es → FailingCycle (plantOf s table) ws (map (λ i. getD (e .row) i 0) es)
+      failing-rows : (es : List ℕ) → Cycle (edgeGraph size edges) es → sum (edgeGraph size edges .minus) es ≤ sum (edgeGraph size edges .plus) es → FailingCycle (plantOf s table) ws (map (λ i. edgeIn edges i .row) es)
       failing-rows es simple weighs =
-          let f = machine-fails s table (ok .ready) (ok .limits) ws m within e (failing .fails within .listed) es simple weighs in
+          let f = machine-fails s table (ok .ready) (ok .limits) ws m within size edges (failing .fails within .listed) es simple weighs in
           record { machine = m; simple = f .0; quiet = f .1; weighs = f .2 }
 
       -- so the weights do not pass,
@@ -115,12 +129,12 @@ module _ (s : Shape) (table ws : List ℕ) (ok : Weighable s table ws) where
       failing-verdict end = verdict-for-plant (λ p. absurd (one-fails p)) (λ q. refl)
 
       -- and the cycle that is shown is owed.
-      failing-owed : (n : ℕ) → n ≡ getD (s .states) m 0 → (k : ℕ) (before after : List ℕ) → ShownRows (graphOf e) n (e .row) k before after
+      failing-owed : (n : ℕ) → n ≡ getD (s .states) m 0 → (k : ℕ) (before after : List ℕ) → ShownRows size edges n k before after
           → (end : ℕ) → Owed ws before after (cycle k) (found (plantOf s table) end)
       failing-owed n n-is k before after x end =
           let w = x .written in
-          let rows : List ℕ = map (λ i. getD (e .row) i 0) (w .cycle) in
-          let long : length rows ≡ k = length-map (w .cycle) (λ i. getD (e .row) i 0) ∙ w .long in
+          let rows : List ℕ = map (λ i. edgeIn edges i .row) (w .cycle) in
+          let long : length rows ≡ k = length-map (w .cycle) (λ i. edgeIn edges i .row) ∙ w .long in
           for-plant
           (λ p. absurd (one-fails p))
           (λ q.
@@ -133,12 +147,11 @@ module _ (s : Shape) (table ws : List ℕ) (ok : Weighable s table ws) where
           })
 
       -- So the search can begin with the edges.
-      pub failing-shows : ((i : ℕ) → getD ws i 0 ≤ 65535) → (n : ℕ) → n ≡ getD (s .states) m 0
-          → (end : ℕ) → Shows ws (e .from) (e .to) (e .weight) (e .row) (e .count) n (found (plantOf s table) end)
-      failing-shows light n n-is end =
+      pub failing-shows : (n : ℕ) → n ≡ getD (s .states) m 0 → (end : ℕ) → Shows ws edges size n (found (plantOf s table) end)
+      failing-shows n n-is end =
           let x = failing .fails within in
           record {
-            edges-in = turn-edges s table ws ok m within _ _ refl refl e (x .listed) light n n-is;
+            edges-in = turn-edges s table ws ok m within _ _ refl refl size edges (x .listed) n n-is;
             zero-or-more = x .zero-or-more;
             owed = λ k before after y. failing-owed n n-is k before after y end;
           }
@@ -310,7 +323,7 @@ judged-read file ws room P Q end k reads e =
 pub judged-weighable : {s : Shape} {table : List ℕ} → Ready s table → (file ws : List ℕ) (room end : ℕ) → found (plantOf s table) end ≡ judged file ws room → Weighable s table ws
 judged-weighable ready file ws room end e =
     let good = judged-good file ws room _ end (sym e) .0 in
-    record { ready = ready; limits = good .0; one-each = good .1 .one-each }
+    record { ready = ready; limits = good .0; one-each = good .1 .one-each; light = none-above 1000 ws (good .1 .light) }
 
 -- The limits alone.
 pub judged-limits : (file ws : List ℕ) (room : ℕ) (P : Plant) (end : ℕ) → judged file ws room ≡ found P end → WithinLimits P

@@ -7,13 +7,25 @@ ghost use Rattle.weighing.specs.Weighing.{firstAbove, judgedWeights, jud
 ghost use Rattle.livelock.specs.Figures.{mostStates};
 ghost use Rattle.tables.specs.Tables.{RoomFor};
 ghost use Rattle.decoding.specs.Tables.{plantOf};
-ghost use Rattle.edges.specs.Edges.{Room};
-ghost use Rattle.machines.specs.Machines.{Weighable};
+ghost use Rattle.machines.specs.Machines.{Weighable, EdgesBeside};
 ghost use Rattle.weighing.specs.Inner.Checks.{WeightsChecked, RoomChecked, OwedJudged, JudgedFor};
 use decoding::Shape;
 use figures::Figures;
 use plant::End;
 use plant::Fault;
+
+// A file of at most so many bytes gets a short table and a short list of edges: each row takes a byte at least, and clearing long ones would be half of the time.
+const SHORT: usize = 64;
+
+// 8 bytes for each of 64 rows, and 4 numbers for each of 64 edges.
+const SHORT_TABLE: usize = 512;
+
+const SHORT_EDGES: usize = 256;
+
+// The same for the 1,024 rows of a plant and the at most 255 edges of a machine.
+const TABLE: usize = 8192;
+
+const EDGES: usize = 1024;
 
 // The answer of weighing: F, n and G, or how many rows are shown, or a fault.
 pub enum Weighed {
@@ -102,31 +114,14 @@ fn check_room(end: End, room: usize) -> End
     }
 }
 
-// Decides whether the weights pass the machines of a table. Where they do not, the edges of the first machine that fails stay in the lists.
-fn judge_table(
-    table: &[u8],
-    shape: Shape,
-    weights: &[u16],
-    from: &mut [u8; 256],
-    to: &mut [u8; 256],
-    weight: &mut [i64; 256],
-    row: &mut [u16; 256],
-) -> Judged
-    requires { ⌜ Weighable shape (now table) (now weights) × Room (now from) (now to) (now weight) (now row) ⌝ }
-    ensures { λ r. ⌜ JudgedFor shape (now (table .entry)) (now (weights .entry)) (now (from .exit)) (now (to .exit)) (now (weight .exit)) (now (row .exit)) r ⌝ }
+// Decides whether the weights pass the machines of a table. Where they do not, the edges of the first machine that fails stay in the list.
+fn judge_table(table: &[u8], shape: Shape, weights: &[u16], edges: &mut [i16]) -> Judged
+    requires { ⌜ Weighable shape (now table) (now weights) × EdgesBeside (now table) (now edges) ⌝ }
+    ensures { λ r. ⌜ JudgedFor shape (now (table .entry)) (now (weights .entry)) (now (edges .exit)) r ⌝ }
 {
     let states = shape.states;
     let figures = figures::figures_of(&states[..shape.machines], weights);
-    let failing = machines::first_failing(
-        table,
-        shape,
-        weights,
-        figures.most_states,
-        from,
-        to,
-        weight,
-        row,
-    );
+    let failing = machines::first_failing(table, shape, weights, figures.most_states, edges);
     let m = failing.machine;
     if m < shape.machines {
         return Judged {
@@ -144,13 +139,10 @@ fn judge_in(
     weights: &[u16],
     room: usize,
     table: &mut [u8],
-    from: &mut [u8; 256],
-    to: &mut [u8; 256],
-    weight: &mut [i64; 256],
-    row: &mut [u16; 256],
+    edges: &mut [i16],
 ) -> Judged
-    requires { ⌜ RoomFor (min 1024 (length (now file))) (now table) × Room (now from) (now to) (now weight) (now row) ⌝ }
-    ensures { λ r. ⌜ OwedJudged (now (weights .entry)) (now (from .exit)) (now (to .exit)) (now (weight .exit)) (now (row .exit)) r (judged (now (file .entry)) (now (weights .entry)) room) ⌝ }
+    requires { ⌜ RoomFor (min 1024 (length (now file))) (now table) × EdgesBeside (now table) (now edges) ⌝ }
+    ensures { λ r. ⌜ OwedJudged (now (weights .entry)) (now (edges .exit)) r (judged (now (file .entry)) (now (weights .entry)) room) ⌝ }
 {
     let decoded = decoding::decode(file, table);
     let read = decoded.end;
@@ -158,69 +150,68 @@ fn judge_in(
     let end = check_room(check_weights(read, shape.types as usize, weights), room);
     match end {
         End::Fault(fault) => without_edges(Verdict::Refused(fault)),
-        End::At(_) => judge_table(table, shape, weights, from, to, weight, row),
+        End::At(_) => judge_table(table, shape, weights, edges),
     }
 }
 
-// The same with a table of its own: a short file needs a short one, and clearing 8,192 bytes would be half of its time.
-fn judge_file(
+// Weighs the plant of a file with a lent table and a lent list of edges.
+fn weigh_in(
     file: &[u8],
     weights: &[u16],
-    room: usize,
-    from: &mut [u8; 256],
-    to: &mut [u8; 256],
-    weight: &mut [i64; 256],
-    row: &mut [u16; 256],
-) -> Judged
-    requires { ⌜ Room (now from) (now to) (now weight) (now row) ⌝ }
-    ensures { λ r. ⌜ OwedJudged (now (weights .entry)) (now (from .exit)) (now (to .exit)) (now (weight .exit)) (now (row .exit)) r (judged (now (file .entry)) (now (weights .entry)) room) ⌝ }
-{
-    if file.len() <= 64 {
-        let mut table = [0; 512];
-        return judge_in(file, weights, room, &mut table, from, to, weight, row);
-    }
-    let mut table = [0; 8192];
-    judge_in(file, weights, room, &mut table, from, to, weight, row)
-}
-
-// Weighs the plant of a file: demands 2 and 3.
-pub fn weigh(file: &[u8], weights: &[u16], cycle: &mut [u16]) -> Weighed
+    cycle: &mut [u16],
+    table: &mut [u8],
+    edges: &mut [i16],
+) -> Weighed
+    requires { ⌜ RoomFor (min 1024 (length (now file))) (now table) × EdgesBeside (now table) (now edges) ⌝ }
     ensures { λ r. ⌜ Owed (now (weights .entry)) (now (cycle .entry)) (now (cycle .exit)) (answerOf r) (judged (now (file .entry)) (now (weights .entry)) (length (now (cycle .entry)))) ⌝ }
 {
-    let mut from = [0; 256];
-    let mut to = [0; 256];
-    let mut weight = [0; 256];
-    let mut row = [0; 256];
-    let judged = judge_file(
-        file,
-        weights,
-        cycle.len(),
-        &mut from,
-        &mut to,
-        &mut weight,
-        &mut row,
-    );
+    let judged = judge_in(file, weights, cycle.len(), table, edges);
     let verdict = judged.verdict;
     match verdict {
         Verdict::Passes(figures) => Weighed::Passed(figures),
         Verdict::Fails => {
             let count = judged.count;
             let own = judged.states;
-            let rows = searching::show(&from, &to, &weight, &row, count, own, cycle);
+            let rows = searching::show(edges, count, own, cycle);
             Weighed::Cycle { rows }
         }
         Verdict::Refused(fault) => Weighed::Refused(fault),
     }
 }
 
-// The same without a cycle to show: where the weights do not pass, deciding is a small part of the work. There is no lent list, so that check 11 finds nothing.
+// Weighs the plant of a file: demands 2 and 3.
+pub fn weigh(file: &[u8], weights: &[u16], cycle: &mut [u16]) -> Weighed
+    ensures { λ r. ⌜ Owed (now (weights .entry)) (now (cycle .entry)) (now (cycle .exit)) (answerOf r) (judged (now (file .entry)) (now (weights .entry)) (length (now (cycle .entry)))) ⌝ }
+{
+    if file.len() <= SHORT {
+        let mut table = [0; SHORT_TABLE];
+        let mut edges = [0; SHORT_EDGES];
+        return weigh_in(file, weights, cycle, &mut table, &mut edges);
+    }
+    let mut table = [0; TABLE];
+    let mut edges = [0; EDGES];
+    weigh_in(file, weights, cycle, &mut table, &mut edges)
+}
+
+// The verdict alone, with a lent table and a lent list of edges. There is no lent list for a cycle, so that check 11 finds nothing.
+fn verdict_in(file: &[u8], weights: &[u16], table: &mut [u8], edges: &mut [i16]) -> Verdict
+    requires { ⌜ RoomFor (min 1024 (length (now file))) (now table) × EdgesBeside (now table) (now edges) ⌝ }
+    ensures { λ r. ⌜ OwedVerdict (now (weights .entry)) (judgementOf r) (judgedWeights (now (file .entry)) (now (weights .entry))) ⌝ }
+{
+    let judged = judge_in(file, weights, 64, table, edges);
+    judged.verdict
+}
+
+// Weighs without a cycle to show: where the weights do not pass, deciding is a small part of the work.
 pub fn judge(file: &[u8], weights: &[u16]) -> Verdict
     ensures { λ r. ⌜ OwedVerdict (now (weights .entry)) (judgementOf r) (judgedWeights (now (file .entry)) (now (weights .entry))) ⌝ }
 {
-    let mut from = [0; 256];
-    let mut to = [0; 256];
-    let mut weight = [0; 256];
-    let mut row = [0; 256];
-    let judged = judge_file(file, weights, 64, &mut from, &mut to, &mut weight, &mut row);
-    judged.verdict
+    if file.len() <= SHORT {
+        let mut table = [0; SHORT_TABLE];
+        let mut edges = [0; SHORT_EDGES];
+        return verdict_in(file, weights, &mut table, &mut edges);
+    }
+    let mut table = [0; TABLE];
+    let mut edges = [0; EDGES];
+    verdict_in(file, weights, &mut table, &mut edges)
 }

@@ -11,10 +11,10 @@ use Rattle.deciding.proofs.decide.Statement.{statement}
 use Rattle.deciding.proofs.decide.Tie as tie
 
 abbrev Inv-loop : tie.InvT-loop
-Inv-loop from to weight count states n heights₀ k₀ heights k = (k ≤ states) × Heights (lengthened n (edgeGraph count from to weight)) k heights
+Inv-loop edges count states n heights₀ k₀ heights k = (k ≤ states) × Heights (lengthened n (edgeGraph count edges)) k heights
 
 abbrev μ-loop : tie.MeasureT-loop
-μ-loop from to weight count states n heights₀ k₀ heights k = states - k
+μ-loop edges count states n heights₀ k₀ heights k = states - k
 
 loop-holds : tie.Need-loop-holds Inv-loop μ-loop
 loop-holds c = (search needs, heights-first _)
@@ -29,8 +29,8 @@ returns : tie.Need-returns Inv-loop μ-loop
 returns c =
     let a = c .before .before .before .before .before .args in
     let p = c .before .before .before .before .before .pre in
-    let g = edgeGraph (a .count) (a .from .now) (a .to .now) (a .weight .now) in
-    let inside = edges-within (a .count) (a .states) (a .from .now) (a .to .now) (a .weight .now) (p .0) in
+    let g = edgeGraph (a .count) (a .edges .now) in
+    let inside = edges-within (a .count) (a .states) (a .edges .now) (p .0) in
     let l = c .before .before .before .before .loop in
     all-below (a .n) g (a .states) inside (p .1) (λ s. getD (l .heights) s 0) (heights-settled (lengthened (a .n) g) (l .k) (l .heights) (l .inv .1) _ _ (c .if1 .taken) (c .before .relax .ensures))
 
@@ -50,7 +50,7 @@ returns-2 c =
     let a = c .before .before .args in
     let p = c .before .before .pre in
     let l = c .before .loop in
-    let inside = edges-within (a .count) (a .states) (a .from .now) (a .to .now) (a .weight .now) (p .0) in
+    let inside = edges-within (a .count) (a .states) (a .edges .now) (p .0) in
     some-cycle (a .n) _ (a .states) inside (p .1) (heights-positive _ (l .k) (l .heights) (l .inv .1) (a .states) inside (p .0 .some-state) (omega (arith, l .inv .0, c .loop-test .left)))
 
 pub decide-spec : {M : Type 1} → statement M

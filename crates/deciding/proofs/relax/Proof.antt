@@ -3,11 +3,10 @@ use mathlib.Core.Path.{_≡_, sym, _∙_, subst}
 use mathlib.Core.Logic.{⊎-elim}
 use Prim.Native.Nat.{ℕ, _-_, _≤_, _<_}
 use native.Mathlib.Omega.{arith}
-use lib.ListN.{getD}
-use lib.IntN.{pos}
 use mir.Syntax.{w64}
 use mir.Facts.{toZ-ofZ}
 use Rattle.livelock.proofs.Lengths.{lengthened}
+use Rattle.edge_lists.specs.EdgeLists.{edgeIn}
 use Rattle.deciding.specs.Rounds.{edgeGraph, Pass}
 use Rattle.deciding.proofs.DecisionLaws.{length-low, pass-starts, pass-low, edge-keeps, edge-raises}
 use borrow.Author.Needs.{needs}
@@ -15,26 +14,23 @@ use Rattle.deciding.proofs.relax.Statement.{statement}
 use Rattle.deciding.proofs.relax.Tie as tie
 
 abbrev Inv-loop : tie.InvT-loop
-Inv-loop from to weight count states n heights₀ last₀ i₀ heights last i = (i ≤ count) × Pass (lengthened n (edgeGraph count from to weight)) i heights₀ heights last
+Inv-loop edges count states n heights₀ last₀ i₀ heights last i = (i ≤ count) × Pass (lengthened n (edgeGraph count edges)) i heights₀ heights last
 
 abbrev μ-loop : tie.MeasureT-loop
-μ-loop from to weight count states n heights₀ last₀ i₀ heights last i = count - i
+μ-loop edges count states n heights₀ last₀ i₀ heights last i = count - i
 
 -- Both states of an edge have a height.
-left-low : (c : tie.After-index-u8 Inv-loop μ-loop) → c .index-u8 .result < 64
-left-low c = let ok = c .before .before .before .before .pre .0 in omega (arith, c .index-u8 .ensures, ok .from-in (c .before .before .before .loop .i) (c .before .before .loop-test .taken), ok .states-in)
+left-low : (c : tie.After-from-of Inv-loop μ-loop) → c .from-of .result < 64
+left-low c = let ok = c .before .before .before .pre .0 in omega (arith, c .from-of .ensures, ok .from-in (c .before .before .loop .i) (c .before .loop-test .taken), ok .states-in)
 
-entered-low : (c : tie.After-index-u82 Inv-loop μ-loop) → c .index-u82 .result < 64
-entered-low c = let ok = c .before .before .before .before .before .before .before .pre .0 in omega (arith, c .index-u82 .ensures, ok .to-in (c .before .before .before .before .before .before .loop .i) (c .before .before .before .before .before .loop-test .taken), ok .states-in)
+entered-low : (c : tie.After-to-of Inv-loop μ-loop) → c .to-of .result < 64
+entered-low c = let ok = c .before .before .before .before .before .pre .0 in omega (arith, c .to-of .ensures, ok .to-in (c .before .before .before .before .loop .i) (c .before .before .before .loop-test .taken), ok .states-in)
 
 loop-holds : tie.Need-loop-holds Inv-loop μ-loop
 loop-holds c = (search needs, pass-starts _ (c .args .heights .now))
 
-element-copy-out-index-u8 : tie.Need-element-copy-out-index-u8 Inv-loop μ-loop
-element-copy-out-index-u8 c = search needs
-
-index-u8-requires : tie.Need-index-u8-requires Inv-loop μ-loop
-index-u8-requires c κs = search needs
+from-of-requires : tie.Need-from-of-requires Inv-loop μ-loop
+from-of-requires c κs = c .before .before .pre .0 .there (c .before .loop .i) (c .loop-test .taken)
 
 mul-height : tie.Need-mul-height Inv-loop μ-loop
 mul-height c = record { fits = omega (arith, left-low c) }
@@ -42,25 +38,19 @@ mul-height c = record { fits = omega (arith, left-low c) }
 element-copy-out-height : tie.Need-element-copy-out-height Inv-loop μ-loop
 element-copy-out-height c = left-low c
 
-element-copy-out-index-u8-2 : tie.Need-element-copy-out-index-u8-2 Inv-loop μ-loop
-element-copy-out-index-u8-2 c = search needs
+to-of-requires : tie.Need-to-of-requires Inv-loop μ-loop
+to-of-requires c κs = c .before .before .before .before .pre .0 .there (c .before .before .before .loop .i) (c .before .before .loop-test .taken)
 
-index-u8-requires-2 : tie.Need-index-u8-requires-2 Inv-loop μ-loop
-index-u8-requires-2 c κs = search needs
-
-mul-row-length : tie.Need-mul-row-length Inv-loop μ-loop
-mul-row-length c = search needs
-
-element-copy-out-row-length : tie.Need-element-copy-out-row-length Inv-loop μ-loop
-element-copy-out-row-length c = search needs
+weight-of-requires : tie.Need-weight-of-requires Inv-loop μ-loop
+weight-of-requires c κs = c .before .before .before .before .before .pre .0 .there (c .before .before .before .before .loop .i) (c .before .before .before .loop-test .taken)
 
 row-length-requires : tie.Need-row-length-requires Inv-loop μ-loop
 row-length-requires c κs =
-    let start = c .before .before .before .before .before .before .before .before in
-    let i = c .before .before .before .before .before .before .before .loop .i in
-    let there = c .before .before .before .before .before .before .loop-test .taken in
-    let fit = toZ-ofZ {w = w64} {z = getD (start .args .weight .now) i (pos 0)} (record { sfits = c .row-length-arg .given }) in
-    (start .pre .1, rw fit (start .pre .0 .rise-in i there), rw fit (start .pre .0 .fall-in i there))
+    let start = c .before .before .before .before .before .before in
+    let i = c .before .before .before .before .before .loop .i in
+    let there = c .before .before .before .before .loop-test .taken in
+    let fit = toZ-ofZ {w = w64} {z = c .weight-of .result} (record { sfits = c .weight-of .ok }) in
+    (start .pre .1, rw (fit, c .weight-of .ensures) (start .pre .0 .rise-in i there), rw (fit, c .weight-of .ensures) (start .pre .0 .fall-in i there))
 
 mul-next : tie.Need-mul-next Inv-loop μ-loop
 mul-next c = record { fits = omega (arith, entered-low (c .before .before)) }
@@ -70,26 +60,27 @@ element-copy-out-next c = entered-low (c .before .before)
 
 rises-requires : tie.Need-rises-requires Inv-loop μ-loop
 rises-requires c κs =
-    let start = c .before .before .before .before .before .before .before .before .before .before in
+    let start = c .before .before .before .before .before .before .before .before in
     let a = start .args in
     let ok = start .pre .0 in
-    let l = c .before .before .before .before .before .before .before .before .before .loop in
-    let there = c .before .before .before .before .before .before .before .before .loop-test .taken in
-    let fit = toZ-ofZ {w = w64} {z = getD (a .weight .now) (l .i) (pos 0)} (record { sfits = c .before .before .row-length-arg .given }) in
+    let l = c .before .before .before .before .before .before .before .loop in
+    let there = c .before .before .before .before .before .before .loop-test .taken in
+    let weight = c .before .before .weight-of in
+    let fit = toZ-ofZ {w = w64} {z = weight .result} (record { sfits = weight .ok }) in
     let made = toZ-ofZ {w = w64} {z = c .before .row-length .result} (record { sfits = c .before .row-length .ok }) in
-    let long = rw fit at (c .before .row-length .ensures) in
-    let short = length-low (a .n) (getD (a .weight .now) (l .i) (pos 0)) (start .pre .1) (ok .rise-in (l .i) there) (ok .fall-in (l .i) there) in
-    let low = pass-low (a .n) (a .count) (a .states) (a .from .now) (a .to .now) (a .weight .now) ok (start .pre .1) (l .i) there (a .heights .now) (l .heights) (l .last) (l .inv .1) (start .pre .3) in
-    (omega (arith, low (c .before .before .before .before .before .before .index-u8 .result)), low (c .before .before .before .index-u82 .result), rw (made, long) (short .0), rw (made, long) (short .1))
+    let long = rw (fit, weight .ensures) at (c .before .row-length .ensures) in
+    let short = length-low (a .n) (edgeIn (a .edges .now) (l .i) .weight) (start .pre .1) (ok .rise-in (l .i) there) (ok .fall-in (l .i) there) in
+    let low = pass-low (a .n) (a .count) (a .states) (a .edges .now) ok (start .pre .1) (l .i) there (a .heights .now) (l .heights) (l .last) (l .inv .1) (start .pre .3) in
+    (omega (arith, low (c .before .before .before .before .before .from-of .result)), low (c .before .before .before .to-of .result), rw (made, long) (short .0), rw (made, long) (short .1))
 
 raised-requires : tie.Need-raised-requires Inv-loop μ-loop
 raised-requires c κs = rises-requires (c .before .before) κs
 
 mul-heights : tie.Need-mul-heights Inv-loop μ-loop
-mul-heights c = record { fits = omega (arith, left-low (c .before .before .before .before .before .before .before .before .before)) }
+mul-heights c = record { fits = omega (arith, left-low (c .before .before .before .before .before .before .before .before)) }
 
 element-write-heights : tie.Need-element-write-heights Inv-loop μ-loop
-element-write-heights c = left-low (c .before .before .before .before .before .before .before .before .before)
+element-write-heights c = left-low (c .before .before .before .before .before .before .before .before)
 
 add-i : tie.Need-add-i Inv-loop μ-loop
 add-i c = search needs
@@ -99,20 +90,21 @@ loop-less c = search needs
 
 loop-again : tie.Need-loop-again Inv-loop μ-loop
 loop-again c =
-    let start = c .before .before .before .before .before .before .before .before .before .before .before .before in
+    let start = c .before .before .before .before .before .before .before .before .before .before in
     let a = start .args in
-    let l = c .before .before .before .before .before .before .before .before .before .before .before .loop in
-    let there = c .before .before .before .before .before .before .before .before .before .before .loop-test .taken in
-    let left = c .before .before .before .before .before .before .before .before .index-u8 .ensures in
-    let entered = c .before .before .before .before .before .index-u82 .ensures in
-    let fit = toZ-ofZ {w = w64} {z = getD (a .weight .now) (l .i) (pos 0)} (record { sfits = c .before .before .before .before .row-length-arg .given }) in
+    let l = c .before .before .before .before .before .before .before .before .before .loop in
+    let there = c .before .before .before .before .before .before .before .before .loop-test .taken in
+    let left = c .before .before .before .before .before .before .before .from-of .ensures in
+    let entered = c .before .before .before .before .before .to-of .ensures in
+    let weight = c .before .before .before .before .weight-of in
+    let fit = toZ-ofZ {w = w64} {z = weight .result} (record { sfits = weight .ok }) in
     let made = toZ-ofZ {w = w64} {z = c .before .before .before .row-length .result} (record { sfits = c .before .before .before .row-length .ok }) in
-    let long = rw fit at (c .before .before .before .row-length .ensures) in
+    let long = rw (fit, weight .ensures) at (c .before .before .before .row-length .ensures) in
     let test = rw (left, entered, made, long) at (c .before .rises .ensures) in (
       omega (arith, there),
       ⊎-elim
-          (λ w. rw (w .2, w .3, left) (edge-raises (a .n) (a .count) (a .states) (a .from .now) (a .to .now) (a .weight .now) (start .pre .0) (start .pre .1) (l .i) there (a .heights .now) (l .heights) (l .last) (l .inv .1) (start .pre .2) (sym test ∙ w .0 .taken) _ (rw (left, entered, made, long) at (w .1 .ensures))))
-          (λ w. rw (w .1, w .2) (edge-keeps (a .n) (a .count) (a .states) (a .from .now) (a .to .now) (a .weight .now) (start .pre .0) (start .pre .1) (l .i) there (a .heights .now) (l .heights) (l .last) (l .inv .1) (sym test ∙ w .0 .left)))
+          (λ w. rw (w .2, w .3, left) (edge-raises (a .n) (a .count) (a .states) (a .edges .now) (start .pre .0) (start .pre .1) (l .i) there (a .heights .now) (l .heights) (l .last) (l .inv .1) (start .pre .2) (sym test ∙ w .0 .taken) _ (rw (left, entered, made, long) at (w .1 .ensures))))
+          (λ w. rw (w .1, w .2) (edge-keeps (a .n) (a .count) (a .states) (a .edges .now) (start .pre .0) (start .pre .1) (l .i) there (a .heights .now) (l .heights) (l .last) (l .inv .1) (sym test ∙ w .0 .left)))
           (c .if1 .came),
     )
 
@@ -120,7 +112,7 @@ returns : tie.Need-returns Inv-loop μ-loop
 returns c =
     let a = c .before .before .args in
     let done : c .before .loop .i ≡ a .count = omega (arith, c .before .loop .inv .0, c .loop-test .left) in
-    subst (λ (x : ℕ). Pass (lengthened (a .n) (edgeGraph (a .count) (a .from .now) (a .to .now) (a .weight .now))) x (a .heights .now) (c .before .loop .heights) (c .before .loop .last)) done (c .before .loop .inv .1)
+    subst (λ (x : ℕ). Pass (lengthened (a .n) (edgeGraph (a .count) (a .edges .now))) x (a .heights .now) (c .before .loop .heights) (c .before .loop .last)) done (c .before .loop .inv .1)
 
 pub relax-spec : {M : Type 1} → statement M
 relax-spec =
@@ -129,14 +121,11 @@ relax-spec =
     Inv-loop
     μ-loop
     loop-holds
-    element-copy-out-index-u8
-    index-u8-requires
+    from-of-requires
     mul-height
     element-copy-out-height
-    element-copy-out-index-u8-2
-    index-u8-requires-2
-    mul-row-length
-    element-copy-out-row-length
+    to-of-requires
+    weight-of-requires
     row-length-requires
     mul-next
     element-copy-out-next

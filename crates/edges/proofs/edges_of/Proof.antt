@@ -1,89 +1,76 @@
 -- `edges_of` meets its contract: before the turn of row k the edges are the quiet rows from `low` up to, and not including, k.
+use mathlib.Core.Path.{_≡_, refl, _∙_}
 use Prim.Native.Nat.{_-_, _≤_}
 use native.Mathlib.Nat.{le-refl}
 use native.Mathlib.Omega.{arith}
+use lib.ListN.{length}
 use mir.Syntax.{w64}
 use mir.Facts.{toZ-ofZ}
+use Rattle.tables.specs.Tables.{rowOf}
 use Rattle.edges.specs.Edges.{Listed}
-use Rattle.edges.proofs.ListedLaws.{none-listed, one-at-most, row-listed, all-listed}
+use Rattle.edges.proofs.ListedLaws.{none-listed, one-at-most, row-listed, all-listed, row-light}
 use borrow.Author.Needs.{needs}
 use Rattle.edges.proofs.edges_of.Statement.{statement}
 use Rattle.edges.proofs.edges_of.Tie as tie
 
 abbrev Inv-loop : tie.InvT-loop
-Inv-loop table low high weights from₀ to₀ weight₀ row₀ count₀ k₀ from to weight row count k =
-    (low ≤ k) × (k ≤ high) × Listed table weights low k (record { count = count; from = from; to = to; weight = weight; row = row })
+Inv-loop table low high weights edges₀ count₀ k₀ edges count k = (low ≤ k) × (k ≤ high) × Listed table weights low k count edges × (length edges ≡ length edges₀)
 
 abbrev μ-loop : tie.MeasureT-loop
-μ-loop table low high weights from₀ to₀ weight₀ row₀ count₀ k₀ from to weight row count k = high - k
+μ-loop table low high weights edges₀ count₀ k₀ edges count k = high - k
 
 loop-holds : tie.Need-loop-holds Inv-loop μ-loop
-loop-holds c = let p = c .before .before .pre in (le-refl _, p .2, none-listed _ _ _ _ _ _ _ (p .4))
+loop-holds c = (le-refl _, c .before .before .pre .2, none-listed _ _ _ _, refl)
 
 row-in-requires : tie.Need-row-in-requires Inv-loop μ-loop
 row-in-requires c κs = omega (arith, c .loop-test .taken, c .before .before .before .before .pre .0)
 
-element-write-from : tie.Need-element-write-from Inv-loop μ-loop
-element-write-from c =
-    let h = c .before .before .loop .inv .2 in
-    omega (arith, c .before .loop-test .taken, h .few, c .before .before .before .before .before .pre .3, h .room .from-room)
-
-element-write-to : tie.Need-element-write-to Inv-loop μ-loop
-element-write-to c =
-    let h = c .before .before .loop .inv .2 in
-    omega (arith, c .before .loop-test .taken, h .few, c .before .before .before .before .before .pre .3, h .room .to-room)
-
 row-weight-requires : tie.Need-row-weight-requires Inv-loop μ-loop
 row-weight-requires c κs = tt
 
-mul-t18 : tie.Need-mul-t18 Inv-loop μ-loop
-mul-t18 c = record { fits = omega (arith, c .before .before .loop-test .taken, c .before .before .before .loop .inv .2 .few, c .before .before .before .before .before .before .pre .3) }
-
-element-set-from-weight : tie.Need-element-set-from-weight Inv-loop μ-loop
-element-set-from-weight c =
-    let h = c .before .before .before .loop .inv .2 in
-    omega (arith, c .before .before .loop-test .taken, h .few, c .before .before .before .before .before .before .pre .3, h .room .weight-room)
-
-cast-row : tie.Need-cast-row Inv-loop μ-loop
-cast-row c = search needs
-
-mul-row : tie.Need-mul-row Inv-loop μ-loop
-mul-row c = record { fits = omega (arith, c .before .before .loop-test .taken, c .before .before .before .loop .inv .2 .few, c .before .before .before .before .before .before .pre .3) }
-
-element-write-row : tie.Need-element-write-row Inv-loop μ-loop
-element-write-row c =
-    let h = c .before .before .before .loop .inv .2 in
-    omega (arith, c .before .before .loop-test .taken, h .few, c .before .before .before .before .before .before .pre .3, h .room .row-room)
+store-edge-requires : tie.Need-store-edge-requires Inv-loop μ-loop
+store-edge-requires c κs =
+    let p = c .before .before .before .before .before .before .before .pre in
+    let l = c .before .before .before .before .loop in
+    let there = c .before .before .before .loop-test .taken in
+    let weight = c .before .row-weight in (
+      omega (arith, there, l .inv .2 .few, l .inv .3, p .3),
+      rw (toZ-ofZ {w = w64} {z = weight .result} (record { sfits = weight .ok }), weight .ensures) (row-light _ (p .4) (rowOf (c .before .before .row-in .result))),
+      omega (arith, there, p .1),
+    )
 
 one-if-quiet-requires : tie.Need-one-if-quiet-requires Inv-loop μ-loop
 one-if-quiet-requires c κs = tt
 
 add-count : tie.Need-add-count Inv-loop μ-loop
 add-count c =
-    let one = one-at-most _ (c .before .before .row-in .result .progress) (c .one-if-quiet .ensures) in
-    record { fits = omega (arith, one, c .before .before .before .loop-test .taken, c .before .before .before .before .loop .inv .2 .few, c .before .before .before .before .before .before .before .pre .3) }
+    let one = one-at-most _ (c .before .before .before .before .before .row-in .result .progress) (c .one-if-quiet .ensures) in
+    record { fits = omega (arith, one, c .before .before .before .before .before .before .loop-test .taken, c .before .before .before .before .before .before .before .loop .inv .2 .few, c .before .before .before .before .before .before .before .before .before .before .pre .1) }
 
 add-k : tie.Need-add-k Inv-loop μ-loop
-add-k c = search needs
+add-k c = record { fits = omega (arith, c .before .before .before .before .before .before .loop-test .taken, c .before .before .before .before .before .before .before .before .before .before .pre .1) }
 
 loop-less : tie.Need-loop-less Inv-loop μ-loop
-loop-less c = search needs
+loop-less c = omega (arith, c .before .before .before .before .before .before .loop-test .taken)
 
 loop-again : tie.Need-loop-again Inv-loop μ-loop
 loop-again c =
-    let a = c .before .before .before .before .before .before .before in
-    let x = c .before .before .before .before .loop in
-    let l = c .before .before .before .loop-test .taken in
-    let r = c .before .before .row-in in
-    let weight = c .before .row-weight in (
+    let a = c .before .before .before .before .before .before .before .before .before .before .args in
+    let x = c .before .before .before .before .before .before .before .loop in
+    let r = c .before .before .before .before .before .row-in in
+    let weight = c .before .before .before .before .row-weight in
+    let stored = rw (toZ-ofZ {w = w64} {z = weight .result} (record { sfits = weight .ok })) at (c .before .before .store-edge .ensures) in (
       omega (arith, x .inv .0),
-      omega (arith, l),
-      rw (toZ-ofZ {w = w64} {z = weight .result} (record { sfits = weight .ok }))
-          (row-listed (a .args .table .now) (a .args .weights .now) (a .args .low) (x .k) (record { count = x .count; from = x .from; to = x .to; weight = x .weight; row = x .row }) (x .inv .2) (x .inv .0) (omega (arith, l, a .pre .3)) (r .result) (r .ensures) (weight .result) (weight .ensures) (c .one-if-quiet .result) (c .one-if-quiet .ensures)),
+      omega (arith, c .before .before .before .before .before .before .loop-test .taken),
+      row-listed (a .table .now) (a .weights .now) (a .low) (x .k) (x .count) (x .edges) _ (x .inv .2) (x .inv .0) (r .result) (r .ensures) (weight .result) stored (weight .ensures) (c .one-if-quiet .result) (c .one-if-quiet .ensures),
+      stored .long ∙ x .inv .3,
     )
 
+same-length : tie.Need-same-length Inv-loop μ-loop
+same-length c = c .before .loop .inv .3
+
 returns : tie.Need-returns Inv-loop μ-loop
-returns c = let l = c .before .loop in all-listed _ _ _ (l .k) _ _ (omega (arith, l .inv .1)) (l .inv .2)
+returns c = let l = c .before .loop in all-listed _ _ _ (l .k) _ _ _ (omega (arith, l .inv .1)) (l .inv .2)
 
 pub edges-of-spec : {M : Type 1} → statement M
 edges-of-spec =
@@ -93,17 +80,12 @@ edges-of-spec =
     μ-loop
     loop-holds
     row-in-requires
-    element-write-from
-    element-write-to
     row-weight-requires
-    mul-t18
-    element-set-from-weight
-    cast-row
-    mul-row
-    element-write-row
+    store-edge-requires
     one-if-quiet-requires
     add-count
     add-k
     loop-less
     loop-again
+    same-length
     returns)

@@ -1,24 +1,24 @@
 -- `first_failing` meets its contract: the machines so far pass; the first for which deciding says no ends the loop.
 use borrow.Author.Needs.{needs}
+use mathlib.Core.Path.{_≡_, refl, _∙_}
 use Prim.Native.Nat.{ℕ, _+_, _-_, _≤_, _<_}
 use native.Mathlib.Omega.{arith}
 use lib.ListN.{length, getD}
 use borrow.Author.Tests.{not-true, not-false}
-use Rattle.edges.specs.Edges.{Room}
 use Rattle.machines.specs.Machines.{PassingRows}
 use Rattle.machines.proofs.TurnLaws.{when-true, when-false, below-next, turn-rows, turn-edges, turn-states, turn-passes, turn-fails}
 use Rattle.machines.proofs.first_failing.Statement.{statement}
 use Rattle.machines.proofs.first_failing.Tie as tie
 
 abbrev Inv-loop : tie.InvT-loop
-Inv-loop table weights n from₀ to₀ weight₀ row₀ shape m₀ from to weight row m =
-    (m ≤ shape .machines) × ((j : ℕ) → j < m → PassingRows table weights (getD (shape .first) j 0) (getD (shape .first) (j + 1) 0)) × Room from to weight row
+Inv-loop table weights n edges₀ shape m₀ edges m =
+    (m ≤ shape .machines) × ((j : ℕ) → j < m → PassingRows table weights (getD (shape .first) j 0) (getD (shape .first) (j + 1) 0)) × (length edges ≡ length edges₀)
 
 abbrev μ-loop : tie.MeasureT-loop
-μ-loop table weights n from₀ to₀ weight₀ row₀ shape m₀ from to weight row m = shape .machines - m
+μ-loop table weights n edges₀ shape m₀ edges m = shape .machines - m
 
 loop-holds : tie.Need-loop-holds Inv-loop μ-loop
-loop-holds c = (search needs, λ j l. absurd (omega arith), c .before .before .pre .2)
+loop-holds c = (search needs, λ j l. absurd (omega arith), refl)
 
 mul-index-u16 : tie.Need-mul-index-u16 Inv-loop μ-loop
 mul-index-u16 c = record { fits = omega (arith, c .loop-test .taken, c .before .before .before .before .pre .0 .ready .sound .few-machines) }
@@ -43,48 +43,54 @@ index-u16-requires-2 c κs = search needs
 
 edges-of-requires : tie.Need-edges-of-requires Inv-loop μ-loop
 edges-of-requires c κs =
-    let l = c .before .before .before .before .before .before .before .before .before .loop in
-    let rows = turn-rows _ _ _ (c .before .before .before .before .before .before .before .before .before .before .before .before .pre .0) (l .m) (c .before .before .before .before .before .before .before .before .loop-test .taken) _ _ (c .before .before .before .before .before .before .index-u16 .ensures) (c .before .before .before .before .index-u162 .ensures) in
-    (rows .0, rows .1, rows .2, rows .3, l .inv .2)
+    let p = c .before .before .before .before .before .before .before .before .before .pre in
+    let l = c .before .before .before .before .before .before .loop in
+    let rows = turn-rows _ _ _ (p .0) (l .m) (c .before .before .before .before .before .loop-test .taken) _ _ (c .before .before .before .index-u16 .ensures) (c .before .index-u162 .ensures) (l .edges) (omega (arith, l .inv .2, p .2)) in
+    (rows .0, rows .1, rows .2, rows .3, p .0 .light)
 
 element-copy-out-index-u8 : tie.Need-element-copy-out-index-u8 Inv-loop μ-loop
-element-copy-out-index-u8 c = let few = c .before .before .before .before .before .before .before .before .before .before .before .before .before .before .before .before .pre .0 .ready .sound .few-machines in search needs
+element-copy-out-index-u8 c = let few = c .before .before .before .before .before .before .before .before .before .before .before .before .pre .0 .ready .sound .few-machines in search needs
 
 index-u8-requires : tie.Need-index-u8-requires Inv-loop μ-loop
 index-u8-requires c κs = search needs
 
 decide-requires : tie.Need-decide-requires Inv-loop μ-loop
 decide-requires c κs =
-    let p = c .before .before .before .before .before .before .before .before .before .before .before .before .before .before .before .before .before .before .pre in
-    let l = c .before .before .before .before .before .before .before .before .before .before .before .before .before .before .before .loop in
-    let words = c .before .before .before .before .before .before .before .before .before .before .before .before .before .before .before .before .shared-slice-known2 .given in
-    let more = c .before .before .before .before .before .before .before .before .before .before .before .before .before .before .loop-test .taken in
-    let few = turn-states _ _ _ (p .0) (l .m) more _ _ (c .index-u8 .ensures) (p .1) in
-    (turn-edges _ _ _ (p .0) (l .m) more _ _ (c .before .before .before .before .before .before .before .before .before .before .before .before .index-u16 .ensures) (c .before .before .before .before .before .before .before .before .before .before .index-u162 .ensures) _ (c .before .before .before .before .before .edges-of .ensures) (λ i. omega (arith, words i .fits)) _ (c .index-u8 .ensures), few .0, few .1)
+    let p = c .before .before .before .before .before .before .before .before .before .before .before .before .before .before .pre in
+    let m = c .before .before .before .before .before .before .before .before .before .before .before .loop .m in
+    let more = c .before .before .before .before .before .before .before .before .before .before .loop-test .taken in
+    let few = turn-states _ _ _ (p .0) m more _ _ (c .index-u8 .ensures) (p .1) in
+    (turn-edges _ _ _ (p .0) m more _ _ (c .before .before .before .before .before .before .before .before .index-u16 .ensures) (c .before .before .before .before .before .before .index-u162 .ensures) _ _ (c .before .before .before .before .edges-of .ensures) _ (c .index-u8 .ensures), few .0, few .1)
+
+same-length : tie.Need-same-length Inv-loop μ-loop
+same-length c = c .before .before .before .before .before .edges .given ∙ c .before .before .before .before .before .before .before .before .before .before .before .before .before .loop .inv .2
 
 returns : tie.Need-returns Inv-loop μ-loop
 returns c =
-    let l = c .before .before .before .before .before .before .before .before .before .before .before .before .before .before .before .before .before .loop in
+    let l = c .before .before .before .before .before .before .before .before .before .before .before .before .before .loop in
     let no = when-false _ (c .before .decide .result) (not-true _ (c .if1 .taken)) (c .before .decide .ensures) in
     record {
       within = l .inv .0;
       before = l .inv .1;
-      fails = λ h. turn-fails _ _ _ (c .before .before .before .before .before .before .before .before .before .before .before .before .before .before .before .before .before .before .before .before .pre .0) (l .m) (c .before .before .before .before .before .before .before .before .before .before .before .before .before .before .before .before .loop-test .taken) _ _ (c .before .before .before .before .before .before .before .before .before .before .before .before .before .before .index-u16 .ensures) (c .before .before .before .before .before .before .before .before .before .before .before .before .index-u162 .ensures) _ (c .before .before .before .before .before .before .before .edges-of .ensures) no;
+      fails = λ h. turn-fails _ _ _ (c .before .before .before .before .before .before .before .before .before .before .before .before .before .before .before .before .pre .0) (l .m) (c .before .before .before .before .before .before .before .before .before .before .before .before .loop-test .taken) _ _ (c .before .before .before .before .before .before .before .before .before .before .index-u16 .ensures) (c .before .before .before .before .before .before .before .before .index-u162 .ensures) _ _ (c .before .before .before .before .before .before .edges-of .ensures) no;
     }
 
 add-m : tie.Need-add-m Inv-loop μ-loop
-add-m c = record { fits = omega (arith, c .before .before .before .before .before .before .before .before .before .before .before .before .before .before .before .before .loop-test .taken, c .before .before .before .before .before .before .before .before .before .before .before .before .before .before .before .before .before .before .before .before .pre .0 .ready .sound .few-machines) }
+add-m c = record { fits = omega (arith, c .before .before .before .before .before .before .before .before .before .before .before .before .loop-test .taken, c .before .before .before .before .before .before .before .before .before .before .before .before .before .before .before .before .pre .0 .ready .sound .few-machines) }
 
 loop-less : tie.Need-loop-less Inv-loop μ-loop
-loop-less c = omega (arith, c .before .before .before .before .before .before .before .before .before .before .before .before .before .before .before .before .loop-test .taken)
+loop-less c = omega (arith, c .before .before .before .before .before .before .before .before .before .before .before .before .loop-test .taken)
 
 loop-again : tie.Need-loop-again Inv-loop μ-loop
 loop-again c =
-    let l = c .before .before .before .before .before .before .before .before .before .before .before .before .before .before .before .before .before .loop in
-    let more = c .before .before .before .before .before .before .before .before .before .before .before .before .before .before .before .before .loop-test .taken in
+    let l = c .before .before .before .before .before .before .before .before .before .before .before .before .before .loop in
+    let more = c .before .before .before .before .before .before .before .before .before .before .before .before .loop-test .taken in
     let yes = when-true _ (c .before .decide .result) (not-false _ (c .if1 .left)) (c .before .decide .ensures) in
-    let passes = turn-passes _ _ _ (c .before .before .before .before .before .before .before .before .before .before .before .before .before .before .before .before .before .before .before .before .pre .0) (l .m) more _ _ (c .before .before .before .before .before .before .before .before .before .before .before .before .before .before .index-u16 .ensures) (c .before .before .before .before .before .before .before .before .before .before .before .before .index-u162 .ensures) _ (c .before .before .before .before .before .before .before .edges-of .ensures) yes in
-    (omega (arith, more), below-next _ (l .m) (l .inv .1) passes, c .before .before .before .before .before .before .before .edges-of .ensures .room)
+    let passes = turn-passes _ _ _ (c .before .before .before .before .before .before .before .before .before .before .before .before .before .before .before .before .pre .0) (l .m) more _ _ (c .before .before .before .before .before .before .before .before .before .before .index-u16 .ensures) (c .before .before .before .before .before .before .before .before .index-u162 .ensures) _ _ (c .before .before .before .before .before .before .edges-of .ensures) yes in
+    (omega (arith, more), below-next _ (l .m) (l .inv .1) passes, c .before .before .before .before .before .edges .given ∙ l .inv .2)
+
+same-length-2 : tie.Need-same-length-2 Inv-loop μ-loop
+same-length-2 c = c .before .loop .inv .2
 
 returns-2 : tie.Need-returns-2 Inv-loop μ-loop
 returns-2 c =
@@ -109,8 +115,10 @@ first-failing-spec =
     element-copy-out-index-u8
     index-u8-requires
     decide-requires
+    same-length
     returns
     add-m
     loop-less
     loop-again
+    same-length-2
     returns-2)

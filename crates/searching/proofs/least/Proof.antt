@@ -1,6 +1,6 @@
 -- `least` meets its contract: after s turns the number is the least from the first s states.
 use borrow.Author.Needs.{needs}
-use mathlib.Core.Path.{_≡_}
+use mathlib.Core.Path.{_≡_, refl, _∙_}
 use mathlib.Core.Logic.{⊎-elim}
 use Prim.Native.Nat.{_-_}
 use native.Mathlib.Omega.{arith}
@@ -11,26 +11,26 @@ use Rattle.searching.proofs.least.Statement.{statement}
 use Rattle.searching.proofs.least.Tie as tie
 
 abbrev Inv-loop : tie.InvT-loop
-Inv-loop from to weight count states noted₀ start₀ length₀ s₀ noted start length s =
-    Sought (edgeGraph count from to weight) states start length s × (List.length noted ≡ 4096)
+Inv-loop edges count states noted₀ start₀ length₀ s₀ noted start length s =
+    Sought (edgeGraph count edges) states start length s × (List.length noted ≡ List.length noted₀)
 
 abbrev μ-loop : tie.MeasureT-loop
-μ-loop from to weight count states noted₀ start₀ length₀ s₀ noted start length s = states - s
+μ-loop edges count states noted₀ start₀ length₀ s₀ noted start length s = states - s
 
 add-length : tie.Need-add-length Inv-loop μ-loop
-add-length c = record { fits = omega (arith, c .pre .0 .states-in) }
+add-length c = record { fits = omega (arith, c .before .pre .0 .states-in) }
 
 loop-holds : tie.Need-loop-holds Inv-loop μ-loop
-loop-holds c = (sought-none _ _, c .pre .2)
+loop-holds c = (sought-none _ _, refl)
 
 sub-least-from : tie.Need-sub-least-from Inv-loop μ-loop
 sub-least-from c = c .before .loop .inv .0 .some-edge
 
 least-from-requires : tie.Need-least-from-requires Inv-loop μ-loop
 least-from-requires c κs =
-    let ok = c .before .before .before .pre .0 in
+    let p = c .before .before .before .before .pre in
     let l = c .before .before .loop in
-    (ok, omega (arith, c .before .loop-test .taken), omega (arith, l .inv .0 .few, ok .states-in), l .inv .1)
+    (p .0, omega (arith, c .before .loop-test .taken), omega (arith, l .inv .0 .few), omega (arith, l .inv .1, p .2))
 
 add-s : tie.Need-add-s Inv-loop μ-loop
 add-s c = search needs
@@ -40,13 +40,18 @@ loop-less c = search needs
 
 loop-again : tie.Need-loop-again Inv-loop μ-loop
 loop-again c =
-    let h = c .before .before .before .before .loop .inv .0 in
-    let here = c .before .before .before .loop-test .taken in
-    let from-s = c .before .least-from .ensures .0 in
-    (⊎-elim (λ w. rw (w .1) (sought-fewer h here from-s (w .0 .taken))) (λ w. rw (w .1) (sought-same h here from-s (w .0 .left))) (c .if1 .came), c .before .least-from .ensures .1 .same-edges)
+    let l = c .before .before .before .before .before .before .loop in
+    let here = c .before .before .before .before .before .loop-test .taken in
+    let from-s = c .before .before .before .least-from .ensures .0 in (
+      ⊎-elim (λ w. rw (w .1) (sought-fewer (l .inv .0) here from-s (w .0 .taken))) (λ w. rw (w .1) (sought-same (l .inv .0) here from-s (w .0 .left))) (c .if1 .came),
+      c .before .before .noted .given ∙ l .inv .1,
+    )
+
+same-length : tie.Need-same-length Inv-loop μ-loop
+same-length c = c .before .loop .inv .1
 
 returns : tie.Need-returns Inv-loop μ-loop
-returns c = let p = c .before .before .pre in (sought-all (edges-searchable (p .0)) (p .1) (c .loop-test .left) (c .before .loop .inv .0), c .before .loop .inv .1)
+returns c = let p = c .before .before .before .pre in sought-all (edges-searchable (p .0)) (p .1) (c .loop-test .left) (c .before .loop .inv .0)
 
 pub least-spec : {M : Type 1} → statement M
 least-spec =
@@ -61,4 +66,5 @@ least-spec =
     add-s
     loop-less
     loop-again
+    same-length
     returns)

@@ -30,9 +30,9 @@ enum-told c = search needs
 
 judge-table-requires : tie.Need-judge-table-requires
 judge-table-requires c κs =
-    let a = c .before .before .before .before .before .before .before .before .before .before .before .before .before .before .before .before .before .before .args in
-    let same = checks-judged (c .before .before .before .before .before .before .before .before .before .before .before .before .before .decode .ensures .1) (a .file .now) (a .weights .now) (c .before .before .before .before .before .before .before .before .before .before .before .before .before .decode .result .end) (c .before .before .before .before .before .before .before .before .before .before .before .before .before .decode .ensures .0) (c .before .before .before .before .before .before .before .before .check-weights .result) _ (c .before .before .before .before .before .before .before .before .check-weights .ensures) (omega arith) (a .room) (c .before .before .before .before .before .before .before .check-room .result) (c .before .before .before .before .before .before .before .check-room .ensures) _ (c .before .before .before .before .before .enum-told .given .1) in
-    (judged-weighable (c .before .before .before .before .before .before .before .before .before .before .before .before .before .decode .ensures .1) (a .file .now) (a .weights .now) (a .room) _ same, c .before .before .before .before .before .before .before .before .before .before .before .before .before .before .before .before .before .before .pre .1)
+    let a = c .before .before .before .before .before .before .before .before .before .before .before .before .before .before .before .args in
+    let same = checks-judged (c .before .before .before .before .before .before .before .before .before .before .decode .ensures .1) (a .file .now) (a .weights .now) (c .before .before .before .before .before .before .before .before .before .before .decode .result .end) (c .before .before .before .before .before .before .before .before .before .before .decode .ensures .0) (c .before .before .before .before .before .check-weights .result) _ (c .before .before .before .before .before .check-weights .ensures) (omega arith) (a .room) (c .before .before .before .before .check-room .result) (c .before .before .before .before .check-room .ensures) _ (c .before .before .enum-told .given .1) in
+    (judged-weighable (c .before .before .before .before .before .before .before .before .before .before .decode .ensures .1) (a .file .now) (a .weights .now) (a .room) _ same, omega (arith, c .before .before .before .before .before .before .before .before .before .table .given, c .before .before .before .before .before .before .before .before .before .before .before .before .before .before .before .pre .1))
 
 same-length : tie.Need-same-length
 same-length c = search needs
@@ -48,11 +48,14 @@ returns c =
 same-length-2 : tie.Need-same-length-2
 same-length-2 c = search needs
 
+same-length-3 : tie.Need-same-length-3
+same-length-3 c = search needs
+
 returns-2 : tie.Need-returns-2
 returns-2 c =
-    let a = c .before .before .before .before .before .before .before .before .before .before .before .before .before .before .before .before .before .before .before .args in
-    let same = checks-judged (c .before .before .before .before .before .before .before .before .before .before .before .before .before .before .decode .ensures .1) (a .file .now) (a .weights .now) (c .before .before .before .before .before .before .before .before .before .before .before .before .before .before .decode .result .end) (c .before .before .before .before .before .before .before .before .before .before .before .before .before .before .decode .ensures .0) (c .before .before .before .before .before .before .before .before .before .check-weights .result) _ (c .before .before .before .before .before .before .before .before .before .check-weights .ensures) (omega arith) (a .room) (c .before .before .before .before .before .before .before .before .check-room .result) (c .before .before .before .before .before .before .before .before .check-room .ensures) _ (c .before .before .before .before .before .before .enum-told .given .1) in
-    subst (OwedJudged (a .weights .now) _ _ _ _ (c .judge-table .result)) same (c .judge-table .ensures _)
+    let a = c .before .before .before .before .before .before .before .before .before .before .before .before .before .before .before .before .before .args in
+    let same = checks-judged (c .before .before .before .before .before .before .before .before .before .before .before .before .decode .ensures .1) (a .file .now) (a .weights .now) (c .before .before .before .before .before .before .before .before .before .before .before .before .decode .result .end) (c .before .before .before .before .before .before .before .before .before .before .before .before .decode .ensures .0) (c .before .before .before .before .before .before .before .check-weights .result) _ (c .before .before .before .before .before .before .before .check-weights .ensures) (omega arith) (a .room) (c .before .before .before .before .before .before .check-room .result) (c .before .before .before .before .before .before .check-room .ensures) _ (c .before .before .before .before .enum-told .given .1) in
+    subst (OwedJudged (a .weights .now) _ (c .before .judge-table .result)) same (c .before .judge-table .ensures _)
 
 pub judge-in-spec : {M : Type 1} → statement M
 judge-in-spec =
@@ -69,4 +72,5 @@ judge-in-spec =
     same-length
     returns
     same-length-2
+    same-length-3
     returns-2)

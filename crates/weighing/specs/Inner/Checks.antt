@@ -24,16 +24,16 @@ abbrev pub RoomChecked : ℕ → End → End → Type 0
 RoomChecked room end r = (P : Plant) → endFound r P ≡ andThen (endFound end P) (checkedRoom room)
 
 -- The edges of a machine with a cycle that weighs zero or more: the search can begin, and whatever rows it shows are owed.
-pub record Shows (ws from to : List ℕ) (weight : List ℤ) (row : List ℕ) (count states : ℕ) (x : Found Plant) : Type 0 where
-  pub edges-in : EdgesIn states count from to weight
-  pub zero-or-more : SomeZeroOrMore (edgeGraph count from to weight)
-  pub owed : (k : ℕ) (before after : List ℕ) → ShownRows (edgeGraph count from to weight) states row k before after → Owed ws before after (cycle k) x
+pub record Shows (ws : List ℕ) (edges : List ℤ) (count states : ℕ) (x : Found Plant) : Type 0 where
+  pub edges-in : EdgesIn states count edges
+  pub zero-or-more : SomeZeroOrMore (edgeGraph count edges)
+  pub owed : (k : ℕ) (before after : List ℕ) → ShownRows count edges states k before after → Owed ws before after (cycle k) x
 
 -- The verdict is owed; if it is that the weights do not pass, the edges that were left are those of such a machine.
-pub record OwedJudged (ws from to : List ℕ) (weight : List ℤ) (row : List ℕ) (r : Judged) (x : Found Plant) : Type 0 where
+pub record OwedJudged (ws : List ℕ) (edges : List ℤ) (r : Judged) (x : Found Plant) : Type 0 where
   pub verdict : OwedVerdict ws (judgementOf (r .verdict)) x
-  pub shows : judgementOf (r .verdict) ≡ failing → Shows ws from to weight row (r .count) (r .states) x
+  pub shows : judgementOf (r .verdict) ≡ failing → Shows ws edges (r .count) (r .states) x
 
 -- So it is for the plant of a shape and a table, wherever its file ended.
-abbrev pub JudgedFor : Shape → (table ws from to : List ℕ) → List ℤ → List ℕ → Judged → Type 0
-JudgedFor s table ws from to weight row r = (end : ℕ) → OwedJudged ws from to weight row r (found (plantOf s table) end)
+abbrev pub JudgedFor : Shape → (table ws : List ℕ) → List ℤ → Judged → Type 0
+JudgedFor s table ws edges r = (end : ℕ) → OwedJudged ws edges r (found (plantOf s table) end)

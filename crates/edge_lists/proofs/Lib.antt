@@ -1,0 +1,3 @@
+-- Laws of an edge list.
+pub mod StoreLaws
+pub mod WordLaws

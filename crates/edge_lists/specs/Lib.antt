@@ -1,0 +1,2 @@
+-- A list of edges in one list of numbers.
+pub mod EdgeLists
