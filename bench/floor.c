@@ -1,5 +1,5 @@
-/* Weighing in C with the arrays of the proved call, where every array has contents from the start: each is cleared where it is
- * cleared there, sums have 64 bits, and nothing is copied. Against the peer it shows what these arrays alone cost. */
+/* Weighing in C with the arrays of the proved call, where every array has contents from the start: each is as long and cleared where
+ * it is there, sums have 64 bits, and nothing is copied. Against the peer it shows what these arrays alone cost. */
 #include "floor.h"
 
 struct fault {
@@ -15,12 +15,15 @@ static inline void needed(const void *array) {
 #define FAULT(n, p) return (struct fault){(n), (p)}
 #define FIELD(value, end, number) do { if (at >= length) FAULT(1, length); value = file[at]; if (value >= (end)) FAULT(number, at); at++; } while (0)
 
-struct counts {
+/* The counts, each machine's states and first row. */
+struct shape {
     unsigned machines, types;
+    uint8_t states[16];
+    uint16_t first[17];
 };
 
-static struct fault columns(const uint8_t *file, size_t length, struct counts *c, uint8_t *states, uint16_t *first, uint8_t *machine,
-                            uint8_t *left, uint8_t *entered, uint8_t *sent, uint8_t *taken, uint8_t *progress) {
+/* Row k stands in the eight bytes of the table from 8 * k on. */
+static struct fault decode(const uint8_t *file, size_t length, struct shape *c, uint8_t *table) {
     size_t at = 0, rows = 0;
     unsigned value, map;
     FIELD(value, 17, 2);
@@ -31,65 +34,68 @@ static struct fault columns(const uint8_t *file, size_t length, struct counts *c
     for (unsigned m = 0; m < c->machines; m++) {
         FIELD(value, 65, 3);
         if (value == 0) FAULT(3, at - 1);
-        states[m] = (uint8_t)value;
+        c->states[m] = (uint8_t)value;
         FIELD(value, 1025 - rows, 7);
-        first[m] = (uint16_t)rows;
+        c->first[m] = (uint16_t)rows;
         unsigned from = 0;
         for (size_t end = rows + value; rows < end; rows++) {
             unsigned to, up = 64, down = 64;
+            uint8_t *row = table + 8 * rows;
             FIELD(map, 32, 4);
             if ((map & 12) == 12) FAULT(4, at - 1);
-            if (map & 1) FIELD(from, states[m], 5);
+            if (map & 1) FIELD(from, c->states[m], 5);
             to = from;
-            if (map & 2) FIELD(to, states[m], 5);
+            if (map & 2) FIELD(to, c->states[m], 5);
             if (map & 4) FIELD(up, c->types, 6);
             if (map & 8) FIELD(down, c->types, 6);
-            machine[rows] = (uint8_t)m;
-            left[rows] = (uint8_t)from;
-            entered[rows] = (uint8_t)to;
-            sent[rows] = (uint8_t)up;
-            taken[rows] = (uint8_t)down;
-            progress[rows] = map >> 4;
+            row[0] = (uint8_t)m;
+            row[1] = (uint8_t)from;
+            row[2] = (uint8_t)to;
+            row[3] = (uint8_t)up;
+            row[4] = (uint8_t)down;
+            row[5] = map >> 4;
         }
     }
-    first[c->machines] = (uint16_t)rows;
+    c->first[c->machines] = (uint16_t)rows;
     if (at < length) FAULT(8, at);
     FAULT(0, 0);
 }
 
-/* One pass in place; the last edge that raised a height, or the count. */
-static size_t relax(const uint8_t *from, const uint8_t *to, const int64_t *weight, size_t count, int64_t n, int64_t *heights) {
+/* Edge i stands in the four numbers from 4 * i on: the states left and entered, the weight and the row. One pass in place; the
+ * last edge that raised a height, or the count. */
+static size_t relax(const int16_t *edges, size_t count, int64_t n, int64_t *heights) {
     size_t last = count;
     for (size_t i = 0; i < count; i++) {
-        int64_t along = heights[to[i]] + 1 + n * weight[i];
-        if (along > heights[from[i]]) {
-            heights[from[i]] = along;
+        const int16_t *e = edges + 4 * i;
+        int64_t along = heights[e[1]] + 1 + n * e[2];
+        if (along > heights[e[0]]) {
+            heights[e[0]] = along;
             last = i;
         }
     }
     return last;
 }
 
-static int decide(const uint8_t *from, const uint8_t *to, const int64_t *weight, size_t count, unsigned states, int64_t n) {
+static int decide(const int16_t *edges, size_t count, unsigned states, int64_t n) {
     int64_t heights[64] = {0};
     for (unsigned k = 0; k < states; k++)
-        if (relax(from, to, weight, count, n, heights) == count) return 1;
+        if (relax(edges, count, n, heights) == count) return 1;
     return 0;
 }
 
 #define ORIGIN ((int64_t)1 << 40)
 
-static unsigned least_from(const uint8_t *from, const uint8_t *to, const int64_t *weight, size_t count, unsigned states, unsigned start,
-                           unsigned limit, uint8_t *noted) {
+static unsigned least_from(const int16_t *edges, size_t count, unsigned states, unsigned start, unsigned limit, uint8_t *noted, size_t each) {
     int64_t walks[128] = {0}, *old = walks, *new = walks + 64;
     old[start] = ORIGIN;
     for (unsigned k = 0; k < limit; k++) {
         for (unsigned s = 0; s < states; s++) new[s] = 0;
         for (size_t i = 0; i < count; i++) {
-            int64_t along = old[to[i]] + weight[i];
-            if (along > new[from[i]]) {
-                new[from[i]] = along;
-                noted[k * 64 + from[i]] = (uint8_t)i;
+            const int16_t *e = edges + 4 * i;
+            int64_t along = old[e[1]] + e[2];
+            if (along > new[e[0]]) {
+                new[e[0]] = along;
+                noted[k * each + (size_t)e[0]] = (uint8_t)i;
             }
         }
         if (new[start] >= ORIGIN) return k + 1;
@@ -100,35 +106,39 @@ static unsigned least_from(const uint8_t *from, const uint8_t *to, const int64_t
     return limit + 1;
 }
 
-static unsigned show(const uint8_t *from, const uint8_t *to, const int64_t *weight, const uint16_t *row, size_t count, unsigned states, uint16_t *cycle) {
-    uint8_t noted[4096] = {0};
+static unsigned show_noted(const int16_t *edges, size_t count, unsigned states, uint16_t *cycle, uint8_t *noted, size_t each) {
     unsigned start = 0, length = states + 1;
     needed(noted);
     for (unsigned s = 0; s < states; s++) {
-        unsigned k = least_from(from, to, weight, count, states, s, length - 1, noted);
+        unsigned k = least_from(edges, count, states, s, length - 1, noted, each);
         if (k < length) start = s;
         length = k;
     }
-    least_from(from, to, weight, count, states, start, length, noted);
+    least_from(edges, count, states, start, length, noted, each);
     for (unsigned i = 0, s = start; i < length; i++) {
-        unsigned e = noted[(length - i - 1) * 64 + s];
-        cycle[i] = row[e];
-        s = to[e];
+        const int16_t *e = edges + 4 * noted[(length - i - 1) * each + s];
+        cycle[i] = (uint16_t)e[3];
+        s = (unsigned)e[1];
     }
     return length;
 }
 
-hemtaluq_weigh_answer floor_weigh(const uint8_t *file, size_t length, const uint16_t *weights, size_t count, uint16_t *cycle, size_t room) {
-    uint8_t states[16] = {0}, machine[1024] = {0}, left[1024] = {0}, entered[1024] = {0}, sent[1024] = {0}, taken[1024] = {0}, progress[1024] = {0};
-    uint8_t from[256] = {0}, to[256] = {0};
-    uint16_t first[17] = {0}, row[256] = {0};
-    int64_t weight[256] = {0};
-    struct counts c = {0, 0};
+static unsigned show(const int16_t *edges, size_t count, unsigned states, uint16_t *cycle) {
+    if (states <= 8) {
+        uint8_t noted[512] = {0};
+        return show_noted(edges, count, states, cycle, noted, 64);
+    }
+    uint8_t noted[4096] = {0};
+    return show_noted(edges, count, states, cycle, noted, 64);
+}
+
+static hemtaluq_weigh_answer weigh_in(const uint8_t *file, size_t length, const uint16_t *weights, size_t count, uint16_t *cycle, size_t room,
+                                      uint8_t *table, int16_t *edges) {
+    struct shape c = {0};
     hemtaluq_weigh_answer a = {0};
-    needed(machine), needed(left), needed(entered), needed(sent), needed(taken), needed(progress);
-    needed(from), needed(to), needed(row), needed(weight), needed(cycle);
-    struct fault fault = columns(file, length, &c, states, first, machine, left, entered, sent, taken, progress);
-    needed(machine);
+    needed(table), needed(edges), needed(cycle), needed(&c);
+    struct fault fault = decode(file, length, &c, table);
+    needed(table);
     if (!fault.number && count != c.types) fault.number = 9;
     for (size_t i = 0; i < count && !fault.number; i++)
         if (weights[i] > 1000) fault = (struct fault){10, i};
@@ -138,22 +148,24 @@ hemtaluq_weigh_answer floor_weigh(const uint8_t *file, size_t length, const uint
     if (fault.number) return a;
     uint64_t n = 0, less = 0, w = 0;
     for (unsigned m = 0; m < c.machines; m++) {
-        n = states[m] > n ? states[m] : n;
-        less += states[m] - 1u;
+        n = c.states[m] > n ? c.states[m] : n;
+        less += c.states[m] - 1u;
     }
     for (size_t i = 0; i < count; i++) w = weights[i] > w ? weights[i] : w;
     for (unsigned m = 0; m < c.machines; m++) {
-        size_t edges = 0;
-        for (unsigned r = first[m]; r < first[m + 1]; r++) {
-            from[edges] = left[r];
-            to[edges] = entered[r];
-            row[edges] = (uint16_t)r;
-            weight[edges] = (int64_t)(sent[r] < count ? weights[sent[r]] : 0) - (taken[r] < count ? weights[taken[r]] : 0);
-            edges += !progress[r];
+        size_t listed = 0;
+        for (unsigned r = c.first[m]; r < c.first[m + 1]; r++) {
+            const uint8_t *row = table + 8 * r;
+            int16_t *e = edges + 4 * listed;
+            e[0] = row[1];
+            e[1] = row[2];
+            e[2] = (int16_t)((row[3] < count ? weights[row[3]] : 0) - (row[4] < count ? weights[row[4]] : 0));
+            e[3] = (int16_t)r;
+            listed += !row[5];
         }
-        if (!decide(from, to, weight, edges, states[m], (int64_t)n)) {
+        if (!decide(edges, listed, c.states[m], (int64_t)n)) {
             a.kind = HEMTALUQ_CYCLE;
-            a.rows = show(from, to, weight, row, edges, states[m], cycle);
+            a.rows = show(edges, listed, c.states[m], cycle);
             return a;
         }
     }
@@ -162,4 +174,16 @@ hemtaluq_weigh_answer floor_weigh(const uint8_t *file, size_t length, const uint
     a.most_states = n;
     a.per_progress = n - 1 + n * n * w;
     return a;
+}
+
+/* A file of at most 64 bytes has fewer than 64 rows. */
+hemtaluq_weigh_answer floor_weigh(const uint8_t *file, size_t length, const uint16_t *weights, size_t count, uint16_t *cycle, size_t room) {
+    if (length <= 64) {
+        uint8_t table[512] = {0};
+        int16_t edges[256] = {0};
+        return weigh_in(file, length, weights, count, cycle, room, table, edges);
+    }
+    uint8_t table[8192] = {0};
+    int16_t edges[1024] = {0};
+    return weigh_in(file, length, weights, count, cycle, room, table, edges);
 }
