@@ -56,34 +56,35 @@ module _ (t : List ℤ) (at : ℕ) (a b c d : ℤ) where
     is-3 = getD-set-same t3 (at + 3) d (pos 0) (simp length-set (omega arith))
 
 -- Four numbers that are stored at 4 × i are edge i, and every other edge is kept.
-module _ (t : List ℤ) (i from to : ℕ) (weight : ℤ) (row : ℕ) (room : EdgeRoom (i + 1) t) where
+module _ (t : List ℤ) (i from to : ℕ) (weight : ℤ) (row : ℕ) (room : EdgeRoom (i + 1) t)
+    (a : ℤ) (a-is : a ≡ pos from) (b : ℤ) (b-is : b ≡ pos to) (c : ℤ) (c-is : c ≡ weight) (d : ℤ) (d-is : d ≡ pos row) where
   abbrev after : List ℤ
-  after = four t (4 * i) (pos from) (pos to) weight (pos row)
+  after = four t (4 * i) a b c d
 
   within : 4 * i + 4 ≤ length t
   within = omega (arith, room)
 
   long : length after ≡ length t
-  long = four-long t (4 * i) (pos from) (pos to) weight (pos row)
+  long = four-long t (4 * i) a b c d
 
   -- Number x of another edge is kept.
   other : (j x : ℕ) → x < 4 → (j ≡ i → ⊥) → getD after (4 * j + x) (pos 0) ≡ getD t (4 * j + x) (pos 0)
-  other j x l n = kept t (4 * i) (pos from) (pos to) weight (pos row) (4 * j + x) (λ y. apart j i x y n l)
+  other j x l n = kept t (4 * i) a b c d (4 * j + x) (λ y. apart j i x y n l)
 
   other-first : (j : ℕ) → (j ≡ i → ⊥) → getD after (4 * j) (pos 0) ≡ getD t (4 * j) (pos 0)
-  other-first j n = kept t (4 * i) (pos from) (pos to) weight (pos row) (4 * j) (λ y l q. apart j i 0 y n (omega arith) l (add-zero (4 * j) ∙ q))
+  other-first j n = kept t (4 * i) a b c d (4 * j) (λ y l q. apart j i 0 y n (omega arith) l (add-zero (4 * j) ∙ q))
 
   from-is : getD after (4 * i) (pos 0) ≡ pos from
-  from-is = is-0 t (4 * i) (pos from) (pos to) weight (pos row) within
+  from-is = is-0 t (4 * i) a b c d within ∙ a-is
 
   to-is : getD after (4 * i + 1) (pos 0) ≡ pos to
-  to-is = is-1 t (4 * i) (pos from) (pos to) weight (pos row) within
+  to-is = is-1 t (4 * i) a b c d within ∙ b-is
 
   weight-is : getD after (4 * i + 2) (pos 0) ≡ weight
-  weight-is = is-2 t (4 * i) (pos from) (pos to) weight (pos row) within
+  weight-is = is-2 t (4 * i) a b c d within ∙ c-is
 
   row-is : getD after (4 * i + 3) (pos 0) ≡ pos row
-  row-is = is-3 t (4 * i) (pos from) (pos to) weight (pos row) within
+  row-is = is-3 t (4 * i) a b c d within ∙ d-is
 
   pub four-stored : StoredEdge i (record { from = from; to = to; weight = weight; row = row }) t after
   unfolding edgeIn

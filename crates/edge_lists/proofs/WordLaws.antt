@@ -1,16 +1,21 @@
 -- Laws of signed numbers in 16 bits.
-use Prim.Native.Nat.{ℕ, _^_, _≤_, _<_}
+use Prim.Native.Nat.{_≤_}
 use native.Mathlib.Omega.{arith}
 use lib.IntN.{ℤ, pos, negsuc, natAbs}
 use mir.Syntax.{w16, w64}
-use mir.Val.{SFits}
+use mir.Val.{Fits, SFits}
 
--- A number in 16 bits is no more than 32,768 either way,
-pub word-small : (z : ℤ) → SFits w16 z → natAbs z ≤ 32768
-word-small (pos n) h = omega (arith, h .sfits)
-word-small (negsuc n) h = omega (arith, h .sfits)
+-- The size of a number in 16 bits fits 16 bits without a sign,
+pub size-fits : (z : ℤ) → SFits w16 z → Fits w16 (natAbs z)
+size-fits (pos n) h = record { fits = omega (arith, h .sfits) }
+size-fits (negsuc n) h = record { fits = omega (arith, h .sfits) }
 
--- and it fits 64 bits.
+-- and 64 bits,
+pub size-wide : (z : ℤ) → SFits w16 z → Fits w64 (natAbs z)
+size-wide (pos n) h = record { fits = omega (arith, h .sfits) }
+size-wide (negsuc n) h = record { fits = omega (arith, h .sfits) }
+
+-- and the number fits 64 bits.
 pub word-wide : (z : ℤ) → SFits w16 z → SFits w64 z
 word-wide (pos n) h = record { sfits = omega (arith, h .sfits) }
 word-wide (negsuc n) h = record { sfits = omega (arith, h .sfits) }

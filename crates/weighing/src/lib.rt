@@ -14,17 +14,19 @@ use figures::Figures;
 use plant::End;
 use plant::Fault;
 
-// A file of at most so many bytes gets a short table and a short list of edges: each row takes a byte at least, and clearing long ones would be half of the time.
+// A file of at most so many bytes gets a short table and a short list of edges: a row takes a byte at least, and clearing long ones would be half of the time.
 const SHORT: usize = 64;
 
-// 8 bytes for each of 64 rows, and 4 numbers for each of 64 edges.
+// The bytes of a table of 64 rows.
 const SHORT_TABLE: usize = 512;
 
+// The numbers of a list of 64 edges.
 const SHORT_EDGES: usize = 256;
 
-// The same for the 1,024 rows of a plant and the at most 255 edges of a machine.
+// The bytes of a table of the 1,024 rows that a plant can have.
 const TABLE: usize = 8192;
 
+// The numbers of a list of 256 edges: a machine has at most 255 rows.
 const EDGES: usize = 1024;
 
 // The answer of weighing: F, n and G, or how many rows are shown, or a fault.

@@ -1,13 +1,12 @@
 -- `from_of` meets its contract: the number is not negative, so it is its size.
 use borrow.Author.Needs.{needs}
-use native.Mathlib.Omega.{arith}
-use lib.ListN.{getD}
 use Prim.Native.Nat.{_*_}
+use lib.ListN.{getD}
 use lib.IntN.{pos}
 use mir.Syntax.{w16}
 use mir.Facts.{toZ-ofZ}
 use Rattle.edge_lists.specs.EdgeLists.{edgeIn}
-use Rattle.edge_lists.proofs.WordLaws.{word-small}
+use Rattle.edge_lists.proofs.WordLaws.{size-wide}
 use Rattle.edge_lists.proofs.from_of.Statement.{statement}
 use Rattle.edge_lists.proofs.from_of.Tie as tie
 
@@ -22,14 +21,12 @@ shared-slice-copy-out-result c = search needs
 
 cast-result : tie.Need-cast-result
 cast-result c =
-    let z = getD (c .before .args .edges .now) (4 * c .before .args .i) (pos 0) in
-    rw (toZ-ofZ {w = w16} {z = z} (record { sfits = c .result .given })) (c .before .pre .from-natural, record { fits = omega (arith, word-small z (record { sfits = c .result .given })) })
+    rw (toZ-ofZ {w = w16} (record { sfits = c .result .given })) (c .before .pre .from-natural, size-wide (getD (c .before .args .edges .now) (4 * c .before .args .i) (pos 0)) (record { sfits = c .result .given }))
 
 returns : tie.Need-returns
 unfolding edgeIn
 returns c =
-    let z = getD (c .before .args .edges .now) (4 * c .before .args .i) (pos 0) in
-    rw (toZ-ofZ {w = w16} {z = z} (record { sfits = c .result .given }))
+    rw (toZ-ofZ {w = w16} (record { sfits = c .result .given }))
 
 pub from-of-spec : {M : Type 1} → statement M
 from-of-spec = tie.close (tie.spec mul-result mul-result-2 shared-slice-copy-out-result cast-result returns)

@@ -64,8 +64,11 @@ returns : tie.Need-returns
 returns c =
     let a = c .args in
     let fits = small-word (a .weight) (c .pre .1) in
-    rw (toZ-pos w16 {n = a .from} (omega arith), toZ-pos w16 {n = a .to} (omega arith), toZ-pos w16 {n = a .row} (omega (arith, c .pre .2)), toZ-ofZ {w = w64} (word-wide _ fits), toZ-ofZ {w = w16} fits)
-    (four-stored (a .edges .now) (a .i) (a .from) (a .to) (a .weight) (a .row) (c .pre .0))
+    four-stored (a .edges .now) (a .i) (a .from) (a .to) (a .weight) (a .row) (c .pre .0)
+    _ (toZ-pos w16 {n = a .from} (omega arith))
+    _ (toZ-pos w16 {n = a .to} (omega arith))
+    _ (rw (toZ-ofZ {w = w64} (word-wide _ fits)) (toZ-ofZ {w = w16} fits))
+    _ (toZ-pos w16 {n = a .row} (omega (arith, c .pre .2)))
 
 pub store-edge-spec : {M : Type 1} → statement M
 store-edge-spec =

@@ -1,9 +1,5 @@
 -- `weight_of` meets its contract: a number in 16 bits fits 64.
 use borrow.Author.Needs.{needs}
-use native.Mathlib.Omega.{arith}
-use lib.ListN.{getD}
-use Prim.Native.Nat.{_+_, _*_}
-use lib.IntN.{pos}
 use mir.Syntax.{w16}
 use mir.Facts.{toZ-ofZ}
 use Rattle.edge_lists.specs.EdgeLists.{edgeIn}
@@ -25,14 +21,12 @@ shared-slice-copy-out-result c = search needs
 
 cast-result : tie.Need-cast-result
 cast-result c =
-    let z = getD (c .before .args .edges .now) (4 * c .before .args .i + 2) (pos 0) in
-    rw (toZ-ofZ {w = w16} {z = z} (record { sfits = c .result .given })) (word-wide z (record { sfits = c .result .given }))
+    rw (toZ-ofZ {w = w16} (record { sfits = c .result .given })) (word-wide _ (record { sfits = c .result .given }))
 
 returns : tie.Need-returns
 unfolding edgeIn
 returns c =
-    let z = getD (c .before .args .edges .now) (4 * c .before .args .i + 2) (pos 0) in
-    rw (toZ-ofZ {w = w16} {z = z} (record { sfits = c .result .given }), toZ-ofZ (word-wide z (record { sfits = c .result .given })))
+    rw (toZ-ofZ {w = w16} (record { sfits = c .result .given }), toZ-ofZ (word-wide _ (record { sfits = c .result .given })))
 
 pub weight-of-spec : {M : Type 1} → statement M
 weight-of-spec = tie.close (tie.spec mul-result add-result mul-result-2 shared-slice-copy-out-result cast-result returns)
