@@ -10,7 +10,7 @@ use native.Mathlib.Numerals.{add-one}
 use native.Mathlib.Omega.{arith}
 use borrow.Author.Tests.{ltb-true, ltb-false}
 use lib.Dec.{ltb}
-use lib.ListN.{length, getD, set, replicate, getD-replicate, length-set, List·getD-eq-default}
+use lib.ListN.{length, getD, set, replicate, getD-replicate, length-replicate, length-set, List·getD-eq-default}
 use lib.Seq.{getD-set-same, getD-set-other}
 use lib.IntN.{ℤ, pos, _+ℤ_, _*ℤ_}
 use Rattle.livelock.specs.Lists.{sum}
@@ -145,7 +145,7 @@ module _ (n count states : ℕ) (edges : List ℤ) (ok : EdgesIn states count ed
   edge-keeps l = pass-keeps g i before now last so-far (omega (arith, ltb-false (getD now (edgeIn edges i .from) 0) along l, length-same n z))
 
   -- and where it is, that height becomes the length.
-  pub edge-raises : length before ≡ 64 → ltb (getD now (edgeIn edges i .from) 0) along ≡ true → (v : ℕ) → v ≡ max (getD now (edgeIn edges i .from) 0) along
+  pub edge-raises : states ≤ length before → ltb (getD now (edgeIn edges i .from) 0) along ≡ true → (v : ℕ) → v ≡ max (getD now (edgeIn edges i .from) 0) along
       → Pass (lengthened n (edgeGraph count edges)) (i + 1) before (set now (edgeIn edges i .from) v) i
   edge-raises room more v is =
       pass-raises g i before now last so-far (there, refl)
@@ -160,28 +160,28 @@ module _ (n count states : ℕ) (edges : List ℤ) (ok : EdgesIn states count ed
 -- The heights after k passes over all edges of g, each of which raised one. They are lengths of walks and no less than the greatest lengths with at most k edges.
 -- As the k-th pass raised the height of some state, that height is above the greatest length with at most k − 1 edges; with k = 0 there was no pass.
 pub record Heights (g : Graph) (k : ℕ) (heights : List ℕ) : Type 0 where
-  pub room : length heights ≡ 64
   pub low : AtMost (k * 1073741824) heights
   pub attained : WalkLengths g heights
   pub at-least : (s : ℕ) → longest g k s ≤ getD heights s 0
   pub raised : (k ≡ 0) ⊎ ((s : ℕ) × (longest g (k - 1) s < getD heights s 0))
 
 -- A table of zeros has 0 at every place, also beyond its end.
-zero-at : (s : ℕ) → _≡_ {A = ℕ} (getD (replicate 64 0) s 0) 0
-zero-at s = go (decLt s 64)
+pub zeros : (n : ℕ) → AtMost 0 (replicate n 0)
+zeros n s = go (decLt s n)
   where
-    go : Dec (s < 64) → _≡_ {A = ℕ} (getD (replicate 64 0) s 0) 0
-    go (yes l) = getD-replicate 64 s 0 0 l
-    go (no l) = let past : 64 ≤ s = omega arith in List·getD-eq-default (replicate 64 0) 0 past
+    go : Dec (s < n) → getD (replicate n 0) s 0 ≤ 0
+    go (yes l) = omega (arith, getD-replicate {A = ℕ} n s 0 0 l)
+    go (no l) =
+        let past : length (replicate {A = ℕ} n 0) ≤ s = rw (length-replicate {A = ℕ} n 0) (omega arith) in
+        omega (arith, List·getD-eq-default {A = ℕ} (replicate n 0) 0 past)
 
 -- Before the first pass,
-pub heights-first : (g : Graph) → Heights g 0 (replicate 64 0)
+pub heights-first : (g : Graph) (heights : List ℕ) → AtMost 0 heights → Heights g 0 heights
 unfolding longest
-heights-first g =
+heights-first g heights none =
     record {
-      room = refl;
-      low = λ s. omega (arith, zero-at s);
-      attained = λ s. walk-without-edges g s _ (zero-at s);
+      low = λ s. omega (arith, none s);
+      attained = λ s. walk-without-edges g s _ (omega (arith, none s));
       at-least = λ s. omega arith;
       raised = inl refl;
     }
@@ -193,7 +193,6 @@ module _ (g : Graph) (k : ℕ) (heights : List ℕ) (here : Heights g k heights)
       let e : k + 1 - 1 ≡ k = omega arith in
       let x = p .raised (omega (arith, p .last-in)) in
       record {
-        room = p .same-length ∙ here .room;
         low = λ s. omega (arith, p .rises (k * 1073741824) (here .low) s);
         attained = p .attained (here .attained);
         at-least = λ s. rw (add-one k) (pass-longest g k (λ x. getD heights x 0) (λ x. getD after x 0) (λ e u. p .along e (u .0)) (here .at-least) s);

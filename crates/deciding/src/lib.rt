@@ -22,8 +22,8 @@ fn row_length(n: u64, weight: i64) -> i64
 
 // One pass over the edges, in place; the last edge that raised a height, or the number of edges if none did. The height of a is read first: read just
 // before the test, the compiler would store it at every edge, raised or not, and the next edge would wait for the store.
-fn relax(edges: &[i16], count: usize, states: usize, n: u64, heights: &mut [u64; 64]) -> usize
-    requires { ⌜ EdgesIn states count (now edges) × (n ≤ 64) × (length (now heights) ≡ 64) × AtMost 68719476736 (now heights) ⌝ }
+fn relax(edges: &[i16], count: usize, states: usize, n: u64, heights: &mut [u64]) -> usize
+    requires { ⌜ EdgesIn states count (now edges) × (n ≤ 64) × (states ≤ length (now heights)) × AtMost 68719476736 (now heights) ⌝ }
     ensures { λ r. ⌜ Pass (lengthened n (edgeGraph count (now (edges .entry)))) count (now (heights .entry)) (now (heights .exit)) r ⌝ }
 {
     let mut last = count;
@@ -43,19 +43,32 @@ fn relax(edges: &[i16], count: usize, states: usize, n: u64, heights: &mut [u64;
     last
 }
 
-// Whether every simple cycle weighs below zero. A pass that raises no height says yes; if each of as many passes as there are states raises one, the answer is no.
-pub fn decide(edges: &[i16], count: usize, states: usize, n: u64) -> bool
-    requires { ⌜ EdgesIn states count (now edges) × (states ≤ n) × (n ≤ 64) ⌝ }
+// Whether every simple cycle weighs below zero, with lent heights, each 0. A pass that raises no height says yes; if each of as many passes as there are
+// states raises one, the answer is no.
+fn decide_from(edges: &[i16], count: usize, states: usize, n: u64, heights: &mut [u64]) -> bool
+    requires { ⌜ EdgesIn states count (now edges) × (states ≤ n) × (n ≤ 64) × (states ≤ length (now heights)) × AtMost 0 (now heights) ⌝ }
     ensures { λ r. ⌜ Decided (edgeGraph count (now (edges .entry))) r ⌝ }
 {
-    let mut heights = [0; 64];
     let mut k = 0;
     while k < states {
-        let last = relax(edges, count, states, n, &mut heights);
+        let last = relax(edges, count, states, n, heights);
         if last == count {
             return true;
         }
         k += 1;
     }
     false
+}
+
+// The same with heights of its own: a machine of few states needs few, and clearing 64 for each machine would be a tenth of the time.
+pub fn decide(edges: &[i16], count: usize, states: usize, n: u64) -> bool
+    requires { ⌜ EdgesIn states count (now edges) × (states ≤ n) × (n ≤ 64) ⌝ }
+    ensures { λ r. ⌜ Decided (edgeGraph count (now (edges .entry))) r ⌝ }
+{
+    if states <= 8 {
+        let mut heights = [0; 8];
+        return decide_from(edges, count, states, n, &mut heights);
+    }
+    let mut heights = [0; 64];
+    decide_from(edges, count, states, n, &mut heights)
 }

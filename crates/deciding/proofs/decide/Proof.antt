@@ -1,68 +1,35 @@
--- `decide` meets its contract: after k passes the heights are lengths of walks, and at least the greatest lengths with at most k edges.
-use Prim.Native.Nat.{_-_, _≤_}
-use native.Mathlib.Omega.{arith}
-use lib.ListN.{getD}
-use Rattle.livelock.proofs.Lengths.{lengthened}
-use Rattle.deciding.specs.Rounds.{edgeGraph}
-use Rattle.deciding.proofs.DecisionLaws.{edges-within}
-use Rattle.deciding.proofs.DecisionLaws.{Heights, heights-first, heights-low, heights-next, heights-settled, heights-positive, all-below, some-cycle}
+-- `decide` meets its contract: the heights that it lends are as many as there are states, and each is 0.
 use borrow.Author.Needs.{needs}
+use native.Mathlib.Omega.{arith}
+use Rattle.deciding.proofs.DecisionLaws.{zeros}
 use Rattle.deciding.proofs.decide.Statement.{statement}
 use Rattle.deciding.proofs.decide.Tie as tie
 
-abbrev Inv-loop : tie.InvT-loop
-Inv-loop edges count states n heights₀ k₀ heights k = (k ≤ states) × Heights (lengthened n (edgeGraph count edges)) k heights
+slice-aggregate-decide-from : tie.Need-slice-aggregate-decide-from
+slice-aggregate-decide-from c = search needs
 
-abbrev μ-loop : tie.MeasureT-loop
-μ-loop edges count states n heights₀ k₀ heights k = states - k
+decide-from-requires : tie.Need-decide-from-requires
+decide-from-requires c κs = let p = c .before .before .pre in (p .0, p .1, p .2, omega (arith, c .before .if1 .taken), zeros 8)
 
-loop-holds : tie.Need-loop-holds Inv-loop μ-loop
-loop-holds c = (search needs, heights-first _)
+returns : tie.Need-returns
+returns c = search needs
 
-relax-requires : tie.Need-relax-requires Inv-loop μ-loop
-relax-requires c κs =
-    let p = c .before .before .before .pre in
-    let l = c .before .before .loop in
-    (p .0, p .2, l .inv .1 .room, heights-low _ (l .k) (l .heights) (l .inv .1) (omega (arith, l .inv .0, p .0 .states-in)))
+slice-aggregate-decide-from-2 : tie.Need-slice-aggregate-decide-from-2
+slice-aggregate-decide-from-2 c = search needs
 
-returns : tie.Need-returns Inv-loop μ-loop
-returns c =
-    let a = c .before .before .before .before .before .args in
-    let p = c .before .before .before .before .before .pre in
-    let g = edgeGraph (a .count) (a .edges .now) in
-    let inside = edges-within (a .count) (a .states) (a .edges .now) (p .0) in
-    let l = c .before .before .before .before .loop in
-    all-below (a .n) g (a .states) inside (p .1) (λ s. getD (l .heights) s 0) (heights-settled (lengthened (a .n) g) (l .k) (l .heights) (l .inv .1) _ _ (c .if1 .taken) (c .before .relax .ensures))
+decide-from-requires-2 : tie.Need-decide-from-requires-2
+decide-from-requires-2 c κs = let p = c .before .before .pre in (p .0, p .1, p .2, p .0 .states-in, zeros 64)
 
-add-k : tie.Need-add-k Inv-loop μ-loop
-add-k c = search needs
-
-loop-less : tie.Need-loop-less Inv-loop μ-loop
-loop-less c = search needs
-
-loop-again : tie.Need-loop-again Inv-loop μ-loop
-loop-again c =
-    let l = c .before .before .before .before .loop in
-    (search needs, heights-next _ (l .k) (l .heights) (l .inv .1) _ _ (c .before .before .before .before .before .pre .0 .few) (c .if1 .left) (c .before .relax .ensures))
-
-returns-2 : tie.Need-returns-2 Inv-loop μ-loop
-returns-2 c =
-    let a = c .before .before .args in
-    let p = c .before .before .pre in
-    let l = c .before .loop in
-    let inside = edges-within (a .count) (a .states) (a .edges .now) (p .0) in
-    some-cycle (a .n) _ (a .states) inside (p .1) (heights-positive _ (l .k) (l .heights) (l .inv .1) (a .states) inside (p .0 .some-state) (omega (arith, l .inv .0, c .loop-test .left)))
+returns-2 : tie.Need-returns-2
+returns-2 c = search needs
 
 pub decide-spec : {M : Type 1} → statement M
 decide-spec =
     tie.close
     (tie.spec
-    Inv-loop
-    μ-loop
-    loop-holds
-    relax-requires
+    slice-aggregate-decide-from
+    decide-from-requires
     returns
-    add-k
-    loop-less
-    loop-again
+    slice-aggregate-decide-from-2
+    decide-from-requires-2
     returns-2)

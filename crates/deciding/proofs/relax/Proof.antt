@@ -3,6 +3,7 @@ use mathlib.Core.Path.{_≡_, sym, _∙_, subst}
 use mathlib.Core.Logic.{⊎-elim}
 use Prim.Native.Nat.{ℕ, _-_, _≤_, _<_}
 use native.Mathlib.Omega.{arith}
+use lib.ListN.{length}
 use mir.Syntax.{w64}
 use mir.Facts.{toZ-ofZ}
 use Rattle.livelock.proofs.Lengths.{lengthened}
@@ -19,48 +20,55 @@ Inv-loop edges count states n heights₀ last₀ i₀ heights last i = (i ≤ co
 abbrev μ-loop : tie.MeasureT-loop
 μ-loop edges count states n heights₀ last₀ i₀ heights last i = count - i
 
--- Both states of an edge have a height.
-left-low : (c : tie.After-from-of Inv-loop μ-loop) → c .from-of .result < 64
-left-low c = let ok = c .before .before .before .pre .0 in omega (arith, c .from-of .ensures, ok .from-in (c .before .before .loop .i) (c .before .loop-test .taken), ok .states-in)
+-- Both states of an edge are states of the machine,
+left-in : (c : tie.After-from-of Inv-loop μ-loop) → c .from-of .result < c .before .before .before .before .args .states
+left-in c = omega (arith, c .from-of .ensures, c .before .before .before .before .pre .0 .from-in (c .before .before .loop .i) (c .before .loop-test .taken))
 
-entered-low : (c : tie.After-to-of Inv-loop μ-loop) → c .to-of .result < 64
-entered-low c = let ok = c .before .before .before .before .before .pre .0 in omega (arith, c .to-of .ensures, ok .to-in (c .before .before .before .before .loop .i) (c .before .before .before .loop-test .taken), ok .states-in)
+entered-in : (c : tie.After-to-of Inv-loop μ-loop) → c .to-of .result < c .before .before .before .before .before .before .args .states
+entered-in c = omega (arith, c .to-of .ensures, c .before .before .before .before .before .before .pre .0 .to-in (c .before .before .before .before .loop .i) (c .before .before .before .loop-test .taken))
+
+-- and have a height.
+left-low : (c : tie.After-from-of Inv-loop μ-loop) → c .from-of .result < length (c .before .before .loop .heights)
+left-low c = omega (arith, left-in c, c .before .before .before .before .pre .2, c .before .before .loop .inv .1 .same-length)
+
+entered-low : (c : tie.After-to-of Inv-loop μ-loop) → c .to-of .result < length (c .before .before .before .before .loop .heights)
+entered-low c = omega (arith, entered-in c, c .before .before .before .before .before .before .pre .2, c .before .before .before .before .loop .inv .1 .same-length)
 
 loop-holds : tie.Need-loop-holds Inv-loop μ-loop
-loop-holds c = (search needs, pass-starts _ (c .args .heights .now))
+loop-holds c = (search needs, pass-starts _ (c .before .args .heights .now))
 
 from-of-requires : tie.Need-from-of-requires Inv-loop μ-loop
-from-of-requires c κs = c .before .before .pre .0 .there (c .before .loop .i) (c .loop-test .taken)
+from-of-requires c κs = c .before .before .before .pre .0 .there (c .before .loop .i) (c .loop-test .taken)
 
 mul-height : tie.Need-mul-height Inv-loop μ-loop
-mul-height c = record { fits = omega (arith, left-low c) }
+mul-height c = record { fits = omega (arith, left-in c, c .before .before .before .before .pre .0 .states-in) }
 
-element-copy-out-height : tie.Need-element-copy-out-height Inv-loop μ-loop
-element-copy-out-height c = left-low c
+slice-read-height : tie.Need-slice-read-height Inv-loop μ-loop
+slice-read-height c = left-low (c .before)
 
 to-of-requires : tie.Need-to-of-requires Inv-loop μ-loop
-to-of-requires c κs = c .before .before .before .before .pre .0 .there (c .before .before .before .loop .i) (c .before .before .loop-test .taken)
+to-of-requires c κs = c .before .before .before .before .before .pre .0 .there (c .before .before .before .loop .i) (c .before .before .loop-test .taken)
 
 weight-of-requires : tie.Need-weight-of-requires Inv-loop μ-loop
-weight-of-requires c κs = c .before .before .before .before .before .pre .0 .there (c .before .before .before .before .loop .i) (c .before .before .before .loop-test .taken)
+weight-of-requires c κs = c .before .before .before .before .before .before .pre .0 .there (c .before .before .before .before .loop .i) (c .before .before .before .loop-test .taken)
 
 row-length-requires : tie.Need-row-length-requires Inv-loop μ-loop
 row-length-requires c κs =
-    let start = c .before .before .before .before .before .before in
+    let start = c .before .before .before .before .before .before .before in
     let i = c .before .before .before .before .before .loop .i in
     let there = c .before .before .before .before .loop-test .taken in
     let fit = toZ-ofZ {w = w64} {z = c .weight-of .result} (record { sfits = c .weight-of .ok }) in
     (start .pre .1, rw (fit, c .weight-of .ensures) (start .pre .0 .rise-in i there), rw (fit, c .weight-of .ensures) (start .pre .0 .fall-in i there))
 
 mul-next : tie.Need-mul-next Inv-loop μ-loop
-mul-next c = record { fits = omega (arith, entered-low (c .before .before)) }
+mul-next c = record { fits = omega (arith, entered-in (c .before .before), c .before .before .before .before .before .before .before .before .pre .0 .states-in) }
 
-element-copy-out-next : tie.Need-element-copy-out-next Inv-loop μ-loop
-element-copy-out-next c = entered-low (c .before .before)
+slice-read-next : tie.Need-slice-read-next Inv-loop μ-loop
+slice-read-next c = entered-low (c .before .before .before)
 
 rises-requires : tie.Need-rises-requires Inv-loop μ-loop
 rises-requires c κs =
-    let start = c .before .before .before .before .before .before .before .before in
+    let start = c .before .before .before .before .before .before .before .before .before in
     let a = start .args in
     let ok = start .pre .0 in
     let l = c .before .before .before .before .before .before .before .loop in
@@ -77,10 +85,10 @@ raised-requires : tie.Need-raised-requires Inv-loop μ-loop
 raised-requires c κs = rises-requires (c .before .before) κs
 
 mul-heights : tie.Need-mul-heights Inv-loop μ-loop
-mul-heights c = record { fits = omega (arith, left-low (c .before .before .before .before .before .before .before .before)) }
+mul-heights c = record { fits = omega (arith, left-in (c .before .before .before .before .before .before .before .before), c .before .before .before .before .before .before .before .before .before .before .before .before .pre .0 .states-in) }
 
-element-write-heights : tie.Need-element-write-heights Inv-loop μ-loop
-element-write-heights c = left-low (c .before .before .before .before .before .before .before .before)
+slice-write-heights : tie.Need-slice-write-heights Inv-loop μ-loop
+slice-write-heights c = left-low (c .before .before .before .before .before .before .before .before)
 
 add-i : tie.Need-add-i Inv-loop μ-loop
 add-i c = search needs
@@ -90,7 +98,7 @@ loop-less c = search needs
 
 loop-again : tie.Need-loop-again Inv-loop μ-loop
 loop-again c =
-    let start = c .before .before .before .before .before .before .before .before .before .before in
+    let start = c .before .before .before .before .before .before .before .before .before .before .before in
     let a = start .args in
     let l = c .before .before .before .before .before .before .before .before .before .loop in
     let there = c .before .before .before .before .before .before .before .before .loop-test .taken in
@@ -108,9 +116,12 @@ loop-again c =
           (c .if1 .came),
     )
 
+same-length : tie.Need-same-length Inv-loop μ-loop
+same-length c = c .before .loop .inv .1 .same-length
+
 returns : tie.Need-returns Inv-loop μ-loop
 returns c =
-    let a = c .before .before .args in
+    let a = c .before .before .before .args in
     let done : c .before .loop .i ≡ a .count = omega (arith, c .before .loop .inv .0, c .loop-test .left) in
     subst (λ (x : ℕ). Pass (lengthened (a .n) (edgeGraph (a .count) (a .edges .now))) x (a .heights .now) (c .before .loop .heights) (c .before .loop .last)) done (c .before .loop .inv .1)
 
@@ -123,17 +134,18 @@ relax-spec =
     loop-holds
     from-of-requires
     mul-height
-    element-copy-out-height
+    slice-read-height
     to-of-requires
     weight-of-requires
     row-length-requires
     mul-next
-    element-copy-out-next
+    slice-read-next
     rises-requires
     raised-requires
     mul-heights
-    element-write-heights
+    slice-write-heights
     add-i
     loop-less
     loop-again
+    same-length
     returns)
