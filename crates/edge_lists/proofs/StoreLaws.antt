@@ -7,7 +7,7 @@ use native.Mathlib.Omega.{arith}
 use lib.ListN.{length, getD, set, length-set}
 use lib.Seq.{getD-set-same, getD-set-other}
 use lib.IntN.{ℤ, pos}
-use Rattle.edge_lists.specs.EdgeLists.{edgeIn, EdgeRoom, HasEdge, StoredEdge}
+use Rattle.edge_lists.specs.EdgeLists.{edgeIn, EdgeRoom, StoredEdge}
 
 -- Numbers of different edges are different numbers.
 apart : (j i x y : ℕ) → (j ≡ i → ⊥) → x < 4 → y < 4 → 4 * j + x ≡ 4 * i + y → ⊥

@@ -41,7 +41,6 @@ use Rattle.machines.specs.Machines.{Weighable, FirstFailing}
 use Rattle.machines.proofs.TurnLaws.{machines-are, states-in, turn-edges}
 use Rattle.weighing.specs.Inner.Checks.{WeightsChecked, RoomChecked, Shows}
 use Rattle.edge_lists.specs.EdgeLists.{edgeIn}
-use Rattle.edges.specs.Edges.{Light}
 use Rattle.figures.specs.FigureSums.{figuresIn, FiguresOf}
 use Rattle.deciding.specs.Rounds.{edgeGraph}
 use Rattle.searching.specs.Searches.{ShownRows}

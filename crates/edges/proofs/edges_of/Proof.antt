@@ -9,7 +9,6 @@ use mir.Facts.{toZ-ofZ}
 use Rattle.tables.specs.Tables.{rowOf}
 use Rattle.edges.specs.Edges.{Listed}
 use Rattle.edges.proofs.ListedLaws.{none-listed, one-at-most, row-listed, all-listed, row-light}
-use borrow.Author.Needs.{needs}
 use Rattle.edges.proofs.edges_of.Statement.{statement}
 use Rattle.edges.proofs.edges_of.Tie as tie
 
