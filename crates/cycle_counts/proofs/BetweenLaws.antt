@@ -1,5 +1,5 @@
 -- Laws of the numbers of rows from state to state, and of a path that can only be closed.
-use mathlib.Core.Path.{_≡_, refl, ap, _∙_, subst}
+use mathlib.Core.Path.{_≡_, refl, sym, ap, _∙_}
 use mathlib.Core.Logic.{_≢_}
 use mathlib.Core.Bool.{Bool, true, false, cond}
 use mathlib.Core.List.{List, [], _∷_, map}
@@ -33,15 +33,15 @@ between-few left entered s t k (suc n) = go (eqb (column left k) s) (eqb (column
     go false b h = omega arith
 
 -- Of no rows none lead anywhere.
-pub between-none : (left entered between : List ℕ) (last : ℕ) → ((i : ℕ) → column between i ≡ 0) → Between left entered between last last
-between-none left entered between last z = record { known = λ s t b d. let n : last - last ≡ 0 = omega arith in rw n (none s t) }
+pub between-none : (left entered between : List ℕ) (last : ℕ) → ((i : ℕ) → i < 768 → column between i ≡ 0) → Between left entered between last last
+between-none left entered between last z = record { known = λ s t b d. let n : last - last ≡ 0 = omega arith in rw n (none s t (omega arith)) }
   where
-    none : (s t : ℕ) → column between (s * 32 + t) ≡ rowsBetween left entered s t last 0
-    none s t = z (s * 32 + t) ∙ unfold rowsBetween in refl
+    none : (s t : ℕ) → s * 32 + t < 768 → column between (s * 32 + t) ≡ rowsBetween left entered s t last 0
+    none s t h = z (s * 32 + t) h ∙ unfold rowsBetween in refl
 
 -- Row k comes to be one of the rows: one more leads from the state that it leaves to the state that it enters.
 module _ (left entered between : List ℕ) (k last i : ℕ) (g : Between left entered between (k + 1) last) (h : k < last) (low : column left k < 24) (high : column entered k < 24)
-    (room : length between ≡ 1024) (at : i ≡ column left k * 32 + column entered k) where
+    (room : length between ≡ 768) (at : i ≡ column left k * 32 + column entered k) where
   abbrev between′ : List ℕ
   between′ = set between i (column between i + 1)
 
@@ -66,12 +66,26 @@ module _ (left entered between : List ℕ) (k last i : ℕ) (g : Between left en
   pub between-more : Between left entered between′ k last
   between-more = record { known = λ s t b d. one-more s t b d (ℕ-discrete (column left k) s) (ℕ-discrete (column entered k) t) }
 
--- The same from row k to the row before it.
-pub between-down : (left entered between : List ℕ) (k last i : ℕ) → 0 < k → k ≤ last → column left (k - 1) < 24 → column entered (k - 1) < 24 → length between ≡ 1024
-    → i ≡ column left (k - 1) * 32 + column entered (k - 1) → Between left entered between k last → Between left entered (set between i (column between i + 1)) (k - 1) last
-between-down left entered between k last i p l low high room at g =
-    let e : k ≡ k - 1 + 1 = omega arith in
-    between-more left entered between (k - 1) last i (subst (λ (z : ℕ). Between left entered between z last) e g) (omega arith) low high room at
+-- As many rows lead from one state to another where they leave and enter the same states.
+rows-same : (left left′ entered entered′ : List ℕ) (s t k n : ℕ) → ((j : ℕ) → k ≤ j → j < k + n → column left′ j ≡ column left j)
+    → ((j : ℕ) → k ≤ j → j < k + n → column entered′ j ≡ column entered j) → rowsBetween left′ entered′ s t k n ≡ rowsBetween left entered s t k n
+unfolding rowsBetween
+rows-same left left′ entered entered′ s t k zero leaves enters = refl
+rows-same left left′ entered entered′ s t k (suc n) leaves enters =
+    rw (
+      leaves k (omega arith) (omega arith),
+      enters k (omega arith) (omega arith),
+      rows-same left left′ entered entered′ s t (suc k) n (λ j a b. leaves j (omega arith) (omega arith)) (λ j a b. enters j (omega arith) (omega arith)),
+    )
+
+pub between-same : (left left′ entered entered′ between : List ℕ) (first last : ℕ) → first ≤ last → ((k : ℕ) → first ≤ k → k < last → column left′ k ≡ column left k)
+    → ((k : ℕ) → first ≤ k → k < last → column entered′ k ≡ column entered k) → Between left entered between first last → Between left′ entered′ between first last
+between-same left left′ entered entered′ between first last ordered leaves enters g =
+    record {
+      known = λ s t b d.
+          g .known s t b d
+          ∙ sym (rows-same left left′ entered entered′ s t first (last - first) (λ j a l. leaves j a (omega arith)) (λ j a l. enters j a (omega arith)));
+    }
 
 -- ---- where all states are marked
 

@@ -93,14 +93,15 @@ module _ {entered next head into between : List ℕ} {last start : ℕ} (marks :
       ∙ ap (λ (z : List ℕ). rest left entered first last start z rows (column left begin) last begin) marked-is
 
   -- `count` takes it,
-  pub onward-counted : (begin : ℕ) → begin ≡ column head s → (r r′ : ℕ) → Counted entered next head into between last start closed (depth + 1) begin last r r′
+  pub onward-counted : (begin end : ℕ) → begin ≡ column head s → end ≡ last → (r r′ : ℕ) → Counted entered next head into between last start closed (depth + 1) begin end r r′
       → Onward entered next head into between last start marks depth s r r′
-  onward-counted begin begin-is r r′ f =
+  onward-counted begin end begin-is end-is r r′ f =
       record {
         takes = λ rows d left first tables.
             subst (λ (z : List ℕ). r′ ≡ r - length z) (same-onward rows left first tables)
             (subst (λ (z : ℕ). r′ ≡ r - length (rest left entered first last start closed rows (column left z) last z)) begin-is
-            (f rows d left first tables (omega (arith, begin-is, tables .links .head-in s b .0))));
+            (subst (λ (z : ℕ). r′ ≡ r - length (extensions left entered first last start closed rows (column left begin) begin (z - begin))) end-is
+            (f rows d left first tables (omega (arith, begin-is, tables .links .head-in s b .0)))));
       }
 
   -- and where all states are marked, it is the rows from s to the start, each of which closes a cycle.

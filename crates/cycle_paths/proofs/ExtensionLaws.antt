@@ -343,10 +343,10 @@ module _ {entered next head into : List ℕ} {last start : ℕ} {marks rows : Li
         -- and one that enters a state adds the extensions of the longer path, though states that are dead ends are marked for them.
         pub extending-enter : (s : ℕ) → step ≡ Steps.Enter s → s < 24 → unleft marks ≡ suc (unleft (set marks s 1)) → (path : List ℕ) (depth : ℕ) → take depth path ≡ rows
             → depth < length path → (begin : ℕ) → begin ≡ column head s → (marked closed : List ℕ) → marked ≡ set marks s 1 → length marked ≡ 24 → length closed ≡ 24
-            → Closed into start marked closed
-            → Extended entered next head into last start closed (take (depth + 1) (set path depth k)) begin last limit out used used′ out′
+            → Closed into start marked closed → (end room : ℕ) → end ≡ last → room ≡ limit
+            → Extended entered next head into last start closed (take (depth + 1) (set path depth k)) begin end room out used used′ out′
             → Extending entered next head into last start marks rows low high limit before pos n used′ out′
-        extending-enter s e b u path depth rows-are room begin begin-is marked closed marked-is marked-length closed-length shut f =
+        extending-enter s e b u path depth rows-are room begin begin-is marked closed marked-is marked-length closed-length shut end room′ end-is room-is f =
             record {
               leaves = λ left first links l. turn-leaves (turn-of left first links l);
               adds = λ left first links from l.
@@ -359,7 +359,9 @@ module _ {entered next head into : List ℕ} {last start : ℕ} {marks rows : Li
                   (λ (z : List ℕ). Added limit out used z used′ out′)
                   (extensions-closed left entered into first last start marked closed longer (column left begin) begin (last - begin) from shut marked-length closed-length low-in within
                   ∙ ap (λ (z : List ℕ). extensions left entered first last start z longer (column left begin) begin (last - begin)) marked-is)
-                  (f left first links from low-in));
+                  (subst (λ (z : ℕ). Added z out used (extensions left entered first last start closed longer (column left begin) begin (last - begin)) used′ out′) room-is
+                  (subst (λ (z : ℕ). Added room′ out used (extensions left entered first last start closed longer (column left begin) begin (z - begin)) used′ out′) end-is
+                  (f left first links from low-in))));
             }
 
 -- The first rows of a path are kept by a store behind them and by what keeps that store.
@@ -398,14 +400,23 @@ module _ (left entered : List ℕ) (first last : ℕ) where
       let o : k + 1 - k ≡ 1 = omega arith in
       rw (marks-are, n, o, add-one k, entries-none) (flattened-append (cyclesBy 24 (column left) (column entered) (upFrom first (last - first)) k) _)
 
-  -- So it is where dead ends are marked, too.
-  pub entries-closed : (into : List ℕ) (k : ℕ) (path after : List ℕ) → Sources left entered into first last → Closed into (column left k) (leftOnly 24 (column left k)) after
+  -- So it is where dead ends are marked, too,
+  entries-shut : (into : List ℕ) (k : ℕ) (path after : List ℕ) → Sources left entered into first last → Closed into (column left k) (leftOnly 24 (column left k)) after
       → length after ≡ 24 → first ≤ k → k < last
       → entriesFrom k ≡ extensions left entered first last (column left k) after (take 0 path) (column left k) k (k + 1 - k) ++ entriesFrom (k + 1)
-  entries-closed into k path after from shut l low-in h =
+  entries-shut into k path after from shut l low-in h =
       entries-first k path (leftOnly 24 (column left k)) refl h
       ∙ ap (λ (z : List ℕ). z ++ entriesFrom (k + 1))
       (sym (extensions-closed left entered into first last (column left k) (leftOnly 24 (column left k)) after (take 0 path) (column left k) k (k + 1 - k) from shut (left-length 24 (column left k)) l low-in (omega arith)))
+
+  -- from the state that row k leaves.
+  pub entries-closed : (into : List ℕ) (k start : ℕ) (path after : List ℕ) → start ≡ column left k → Sources left entered into first last → Closed into start (leftOnly 24 start) after
+      → length after ≡ 24 → first ≤ k → k < last
+      → entriesFrom k ≡ extensions left entered first last start after (take 0 path) (column left k) k (k + 1 - k) ++ entriesFrom (k + 1)
+  entries-closed into k start path after e from shut l low-in h =
+      subst
+      (λ (z : ℕ). Closed into z (leftOnly 24 z) after → entriesFrom k ≡ extensions left entered first last z after (take 0 path) (column left k) k (k + 1 - k) ++ entriesFrom (k + 1))
+      (sym e) (λ s. entries-shut into k path after from s l low-in h) shut
 
   -- After the last row there are none.
   pub entries-end : (k : ℕ) → last ≤ k → entriesFrom k ≡ []

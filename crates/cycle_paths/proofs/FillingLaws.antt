@@ -1,5 +1,5 @@
 -- Laws of storing and counting entries, one part after the other.
-use mathlib.Core.Path.{_≡_, refl, sym, ap, _∙_}
+use mathlib.Core.Path.{_≡_, refl, sym, ap, _∙_, subst}
 use mathlib.Core.List.{List, [], _∷_, _++_}
 use Prim.Native.Nat.{ℕ, suc, _+_, _<_, _≤_, min}
 use native.Mathlib.Numerals.{add-one}
@@ -32,6 +32,10 @@ module _ (out path : List ℕ) (pos depth row limit : ℕ) (d : depth ≤ length
       → Added limit out pos (entryOf (take depth path) row) used out
   added-counted h used e =
       record { counted = omega (arith, entry-length path depth row d); stored = λ i. absurd (omega (arith, entry-length path depth row d)) }
+
+-- The length of the list is the limit, under another name.
+pub added-in : {limit pos used : ℕ} {out es after : List ℕ} → length out ≡ limit → Added (length out) out pos es used after → Added limit out pos es used after
+added-in {limit} {pos} {used} {out} {es} {after} e f = subst (λ (z : ℕ). Added z out pos es used after) e f
 
 -- ---- part after part
 

@@ -2,26 +2,27 @@
 use mathlib.Core.Path.{_≡_, sym, ap, _∙_, subst}
 use mathlib.Core.Logic.{_≢_}
 use mathlib.Core.List.{List}
-use Prim.Native.Nat.{ℕ, _+_, _-_, _<_, _≤_}
+use Prim.Native.Nat.{ℕ, _+_, _<_, _≤_}
 use native.Mathlib.Decide.{ℕ-discrete}
 use native.Mathlib.Omega.{arith}
-use lib.ListN.{length, set, length-set, replicate, getD-replicate, length-replicate}
+use lib.ListN.{length, set, length-set}
 use lib.Seq.{getD-set-same, getD-set-other}
-use Rattle.cycle_paths.specs.Rows.{Linked}
+use Rattle.graphs.specs.Graphs.{lastOf}
+use Rattle.cycle_paths.specs.Rows.{Linked, Searchable}
 use Rattle.state_marks.specs.Marks.{column}
 
 -- Links of no rows.
-pub linked-none : (left next : List ℕ) (last : ℕ) → last ≤ length next → Linked left next (replicate 24 last) last last
-linked-none left next last h =
+pub linked-none : (left next head : List ℕ) (last : ℕ) → last ≤ length next → 24 ≤ length head → ((s : ℕ) → s < 24 → column head s ≡ last) → Linked left next head last last
+linked-none left next head last h room none =
     record {
       next-room = h;
-      head-room = omega (arith, length-replicate {A = ℕ} 24 last);
+      head-room = room;
       next-later = λ k a b. absurd (omega arith);
       next-same = λ k a b c. absurd (omega arith);
       next-first = λ k j a b c d e. omega arith;
-      head-in = λ s b. (omega (arith, getD-replicate 24 s last 0 b), omega (arith, getD-replicate 24 s last 0 b));
-      head-same = λ s b c. absurd (omega (arith, getD-replicate 24 s last 0 b));
-      head-first = λ s j b c d e. omega (arith, getD-replicate 24 s last 0 b);
+      head-in = λ s b. (omega (arith, none s b), omega (arith, none s b));
+      head-same = λ s b c. absurd (omega (arith, none s b));
+      head-first = λ s j b c d e. omega (arith, none s b);
     }
 
 -- Row k, which leaves state s, is put before the rows that are linked: it comes to be the first row that leaves s, and what was first
@@ -90,7 +91,7 @@ module _ (left next head : List ℕ) (k last : ℕ) (g : Linked left next head (
   first-head t j b a l q (no e) (no d) = g .head-first t j b (omega arith) (omega (arith, head-else t e)) q
 
   -- All together.
-  linked-more : Linked left next′ head′ k last
+  pub linked-more : Linked left next′ head′ k last
   linked-more =
       record {
         next-room = omega (arith, g .next-room, length-set next k (column head s));
@@ -103,9 +104,26 @@ module _ (left next head : List ℕ) (k last : ℕ) (g : Linked left next head (
         head-first = λ t j b a l q. first-head t j b a l q (ℕ-discrete t s) (ℕ-discrete j k);
       }
 
--- The same from row k to the row before it.
-pub linked-down : (left next head : List ℕ) (k last : ℕ) → 0 < k → k ≤ last → column left (k - 1) < 24 → Linked left next head k last
-    → Linked left (set next (k - 1) (column head (column left (k - 1)))) (set head (column left (k - 1)) (k - 1)) (k - 1) last
-linked-down left next head k last p l b g =
-    let e : k ≡ k - 1 + 1 = omega arith in
-    linked-more left next head (k - 1) last (subst (λ (z : ℕ). Linked left next head z last) e g) (omega arith) b
+-- The links are the same where the rows leave the same states and have the same next rows.
+pub linked-same : (left left′ next next′ head : List ℕ) (first last : ℕ) → last ≤ length next′ → ((k : ℕ) → first ≤ k → k < last → column left′ k ≡ column left k)
+    → ((k : ℕ) → first ≤ k → k < last → column next′ k ≡ column next k) → Linked left next head first last → Linked left′ next′ head first last
+linked-same left left′ next next′ head first last room leaves goes g =
+    record {
+      next-room = room;
+      head-room = g .head-room;
+      next-later = λ k a b. omega (arith, goes k a b, g .next-later k a b);
+      next-same = λ k a b c.
+          let e = goes k a b in
+          let l : column next k < last = omega (arith, e, c) in
+          ap (column left′) e ∙ leaves (column next k) (omega (arith, g .next-later k a b)) l ∙ g .next-same k a b l ∙ sym (leaves k a b);
+      next-first = λ k j a b c d e.
+          let l : k < last = omega arith in
+          g .next-first k j a b (omega (arith, goes k a l)) d (sym (leaves j (omega arith) d) ∙ e ∙ leaves k a l);
+      head-in = g .head-in;
+      head-same = λ s b c. leaves (column head s) (g .head-in s b .0) c ∙ g .head-same s b c;
+      head-first = λ s j b c d e. g .head-first s j b c d (sym (leaves j c (omega (arith, g .head-in s b .1))) ∙ e);
+    }
+
+-- A graph that has its rows has them up to the number that it keeps.
+pub searchable-last : {graph : List ℕ} {first last : ℕ} → Searchable graph first last → Searchable graph first (lastOf graph)
+searchable-last {graph} {first} s = subst (Searchable graph first) (sym (s .last-is)) s

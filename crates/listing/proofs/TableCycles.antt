@@ -2,10 +2,8 @@
 use mathlib.Core.Path.{_≡_, sym, ap, _∙_}
 use mathlib.Core.List.{List}
 use Prim.Native.Nat.{ℕ, _+_, _-_, _≤_, _<_}
-use native.Mathlib.Decide.{ℕ-discrete}
 use native.Mathlib.Omega.{arith}
-use lib.ListN.{length, getD, set}
-use lib.Seq.{getD-set-same, getD-set-other}
+use lib.ListN.{getD}
 use Rattle.livelock.specs.Plants.{Row, rowCount, stateCount}
 use Rattle.livelock.specs.Cycles.{leaves, enters, RowOf}
 use Rattle.livelock.proofs.QuietGraphs.{row-within}
@@ -32,26 +30,6 @@ use Rattle.cycle_paths.proofs.CycleLaws.{number-row, row-number, numbers-increa
 -- Before the first row nothing is copied.
 pub none-copied : (table : List ℕ) (first : ℕ) (left entered : List ℕ) → Copied table first first left entered
 none-copied table first left entered = record { left-is = λ k from below. absurd (omega arith); entered-is = λ k from below. absurd (omega arith) }
-
--- One state more of a column is stored.
-stored : (is : ℕ → ℕ) (column : List ℕ) (first n : ℕ) → n < length column → ((k : ℕ) → first ≤ k → k < n → getD column k 0 ≡ is k)
-    → (k : ℕ) → first ≤ k → k < n + 1 → getD (set column n (is n)) k 0 ≡ is k
-stored is column first n room h k from below = go (ℕ-discrete k n)
-  where
-    go : Dec (k ≡ n) → getD (set column n (is n)) k 0 ≡ is k
-    go (yes e) = rw e (getD-set-same column n (is n) 0 room)
-    go (no e) =
-        let l : k < n = omega arith in
-        getD-set-other column n k (is n) 0 e ∙ h k from l
-
--- Row n is copied behind the others.
-pub row-copied : (table : List ℕ) (first n : ℕ) (left entered : List ℕ) → n < length left → n < length entered → Copied table first n left entered
-    → Copied table first (n + 1) (set left n (rowIn table n .left)) (set entered n (rowIn table n .entered))
-row-copied table first n left entered room room′ h =
-    record {
-      left-is = stored (λ k. rowIn table k .left) left first n room (h .left-is);
-      entered-is = stored (λ k. rowIn table k .entered) entered first n room′ (h .entered-is);
-    }
 
 module _ (table : List ℕ) (first last : ℕ) (ok : Listable table first last) (left entered : List ℕ) (copied : Copied table first last left entered) where
   -- Columns copied of rows that are fit to be listed have states below 24,
@@ -121,12 +99,13 @@ module _ (s : Shape) (table : List ℕ) (ready : Ready s table) (limits : Within
 
   module _ (few : stateCount (plantOf s table) m ≤ 24) (first last : ℕ) (first-is : first ≡ getD (s .first) m 0) (last-is : last ≡ getD (s .first) (m + 1) 0) where
     -- so that the machine's rows are fit to be listed,
-    pub machine-listable : Listable table first last
-    machine-listable =
+    pub machine-listable : last ≤ first + 48 → Listable table first last
+    machine-listable few-rows =
         let rows = machine-rows s table ready m within in
         record {
           ordered = omega (arith, first-is, last-is, rows .0);
           few = omega (arith, last-is, rows .1, ready .sound .few-rows);
+          few-rows = few-rows;
           room = omega (arith, last-is, rows .1, ready .sound .room);
           below-24 = λ k a b.
               let from : low ≤ k = omega (arith, first-is) in

@@ -7,7 +7,7 @@ ghost use Rattle.tables.specs.Tables.{RoomFor};
 ghost use Rattle.decoding.specs.Tables.{plantOf, Ready};
 ghost use Rattle.listing.specs.Answers.{answerOf, refused};
 ghost use Rattle.listing.specs.Listing.{judged, answered, filled, Means};
-ghost use Rattle.listing.specs.Inner.Machines.{Copied, Listable, Answers, AnswersRows, AnswersChecked};
+ghost use Rattle.listing.specs.Inner.Machines.{Graphed, Listable, Answers, AnswersRows, AnswersChecked};
 use decoding::Shape;
 use plant::End;
 use plant::Fault;
@@ -18,12 +18,6 @@ pub enum Listed {
     Refused(Fault),
 }
 
-// The states that rows leave and enter, by row number.
-struct Columns {
-    left: [u8; 1024],
-    entered: [u8; 1024],
-}
-
 // A refusal at place 0.
 fn refused(number: u8) -> Listed
     ensures { λ r. ⌜ answerOf r ≡ refused number 0 ⌝ }
@@ -31,20 +25,20 @@ fn refused(number: u8) -> Listed
     Listed::Refused(Fault { number, place: 0 })
 }
 
-// Copies the states of the rows from `first` up to, and not including, `last` into columns, which the search reads once for each step.
-fn columns_of(table: &[u8], first: usize, last: usize) -> Columns
+// The graph of the rows from `first` up to, and not including, `last`; from the last row to the first, so that each is put before those that it has.
+fn graph_of(table: &[u8], first: usize, last: usize) -> [u32; 1024]
     requires { ⌜ Listable (now table) first last ⌝ }
-    ensures { λ r. ⌜ Copied (now (table .entry)) first last (r .left) (r .entered) ⌝ }
+    ensures { λ r. ⌜ Graphed (now (table .entry)) first last r ⌝ }
 {
-    let mut left = [0; 1024];
-    let mut entered = [0; 1024];
-    let mut k = first;
-    while k < last {
-        left[k] = tables::left_of(table, k);
-        entered[k] = tables::entered_of(table, k);
-        k += 1;
+    let mut graph = graphs::without_rows(last);
+    let mut k = last;
+    while k > first {
+        k -= 1;
+        let left = tables::left_of(table, k);
+        let entered = tables::entered_of(table, k);
+        graphs::add_row(&mut graph, k, left, entered);
     }
-    Columns { left, entered }
+    graph
 }
 
 // Lists the cycles of the rows from `first` up to, and not including, `last`: counts their entries first, then stores them if the list has room.
@@ -52,31 +46,13 @@ fn list_between(table: &[u8], first: usize, last: usize, out: &mut [u16]) -> Lis
     requires { ⌜ Listable (now table) first last ⌝ }
     ensures { λ r. ⌜ AnswersRows (now (table .entry)) first last (now (out .entry)) (now (out .exit)) r ⌝ }
 {
-    let columns = columns_of(table, first, last);
-    let links = cycle_paths::link(&columns.left, first, last);
+    let graph = graph_of(table, first, last);
     let room = out.len();
-    let needed = cycle_counts::count_rows(
-        &columns.left,
-        &columns.entered,
-        &links.next,
-        &links.head,
-        first,
-        last,
-        room,
-    );
+    let needed = cycle_counts::count_rows(&graph, first, last, room);
     if needed > room {
         return refused(14);
     }
-    let used = cycle_paths::list_rows(
-        &columns.left,
-        &columns.entered,
-        &links.next,
-        &links.head,
-        first,
-        last,
-        out,
-        room,
-    );
+    let used = cycle_paths::list_rows(&graph, first, last, out);
     Listed::Entries(used)
 }
 

@@ -24,7 +24,7 @@ sources-none left entered into first =
     record { leaves-in = λ k a b. absurd (omega arith); enters-in = λ k a b. absurd (omega arith); stands = λ k a b. absurd (omega arith) }
 
 -- Row k comes to be one of the rows: the state that it leaves is put in at the state that it enters.
-module _ (left entered into : List ℕ) (first k v : ℕ) (g : Sources left entered into first k) (low : column left k < 24) (high : column entered k < 24)
+module _ (left entered into : List ℕ) (k last v : ℕ) (g : Sources left entered into (k + 1) last) (low : column left k < 24) (high : column entered k < 24)
     (room : length into ≡ 32) (put : marksOf 24 v ≡ set (marksOf 24 (column into (column entered k))) (column left k) 1) where
   abbrev into′ : List ℕ
   into′ = set into (column entered k) v
@@ -36,7 +36,7 @@ module _ (left entered into : List ℕ) (first k v : ℕ) (g : Sources left ente
   few : column left k < length (marksOf 24 (column into (column entered k)))
   few = omega (arith, low, marks-length 24 (column into (column entered k)))
 
-  stands-in : (j : ℕ) → first ≤ j → j < k + 1 → Dec (j ≡ k) → Dec (column entered j ≡ column entered k) → getD (marksOf 24 (column into′ (column entered j))) (column left j) 0 ≡ 1
+  stands-in : (j : ℕ) → k ≤ j → j < last → Dec (j ≡ k) → Dec (column entered j ≡ column entered k) → getD (marksOf 24 (column into′ (column entered j))) (column left j) 0 ≡ 1
   stands-in j a b (yes p) d =
       subst (λ (i : ℕ). getD (marksOf 24 (column into′ (column entered i))) (column left i) 0 ≡ 1) (sym p)
       (ap (λ (z : ℕ). getD (marksOf 24 z) (column left k) 0) put-at
@@ -47,11 +47,11 @@ module _ (left entered into : List ℕ) (first k v : ℕ) (g : Sources left ente
       ∙ ap (λ (z : ℕ). getD (marksOf 24 z) (column left j) 0) put-at
       ∙ ap (λ (z : List ℕ). getD z (column left j) 0) put
       ∙ still-marked (marksOf 24 (column into (column entered k))) (column left k) (column left j) few
-      (ap (λ (z : ℕ). getD (marksOf 24 (column into z)) (column left j) 0) (sym q) ∙ g .stands j a (omega arith))
+      (ap (λ (z : ℕ). getD (marksOf 24 (column into z)) (column left j) 0) (sym q) ∙ g .stands j (omega arith) b)
   stands-in j a b (no n) (no q) =
-      ap (λ (z : ℕ). getD (marksOf 24 z) (column left j) 0) (getD-set-other into (column entered k) (column entered j) v 0 q) ∙ g .stands j a (omega arith)
+      ap (λ (z : ℕ). getD (marksOf 24 z) (column left j) 0) (getD-set-other into (column entered k) (column entered j) v 0 q) ∙ g .stands j (omega arith) b
 
-  pub sources-more : Sources left entered into′ first (k + 1)
+  pub sources-more : Sources left entered into′ k last
   sources-more =
       record {
         leaves-in = λ j a b. one j a b (ℕ-discrete j k) .0;
@@ -59,6 +59,19 @@ module _ (left entered into : List ℕ) (first k v : ℕ) (g : Sources left ente
         stands = λ j a b. stands-in j a b (ℕ-discrete j k) (ℕ-discrete (column entered j) (column entered k));
       }
     where
-      one : (j : ℕ) → first ≤ j → j < k + 1 → Dec (j ≡ k) → (column left j < 24) × (column entered j < 24)
+      one : (j : ℕ) → k ≤ j → j < last → Dec (j ≡ k) → (column left j < 24) × (column entered j < 24)
       one j a b (yes p) = subst (λ (i : ℕ). (column left i < 24) × (column entered i < 24)) (sym p) (low, high)
-      one j a b (no n) = (g .leaves-in j a (omega arith), g .enters-in j a (omega arith))
+      one j a b (no n) = (g .leaves-in j (omega arith) b, g .enters-in j (omega arith) b)
+
+-- The sources are the same where the rows leave and enter the same states.
+pub sources-same : (left left′ entered entered′ into : List ℕ) (first last : ℕ) → ((k : ℕ) → first ≤ k → k < last → column left′ k ≡ column left k)
+    → ((k : ℕ) → first ≤ k → k < last → column entered′ k ≡ column entered k) → Sources left entered into first last → Sources left′ entered′ into first last
+sources-same left left′ entered entered′ into first last leaves enters g =
+    record {
+      leaves-in = λ k a b. omega (arith, leaves k a b, g .leaves-in k a b);
+      enters-in = λ k a b. omega (arith, enters k a b, g .enters-in k a b);
+      stands = λ k a b.
+          ap (λ (z : ℕ). getD (marksOf 24 (column into z)) (column left′ k) 0) (enters k a b)
+          ∙ ap (λ (z : ℕ). getD (marksOf 24 (column into (column entered k))) z 0) (leaves k a b)
+          ∙ g .stands k a b;
+    }

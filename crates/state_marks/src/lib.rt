@@ -4,7 +4,8 @@ ghost use mathlib.Core.Path.{_≡_};
 ghost use Prim.Native.Nat.{_<_};
 ghost use lib.ListN.{getD, set};
 ghost use lib.Dec.{eqb};
-ghost use Rattle.state_marks.specs.Marks.{marksOf, RowsBelow, Sources, BelowOnly, OthersKept, Closed};
+ghost use Rattle.state_marks.specs.Marks.{marksOf, BelowOnly, OthersKept, Closed};
+ghost use Rattle.graphs.specs.Graphs.{intoOf};
 
 // The bits of 24 states.
 const ALL: u32 = 16_777_215;
@@ -25,26 +26,6 @@ pub fn with_left(marks: u32, state: u8) -> u32
     marks | (1 << state)
 }
 
-// For each state the states that a row from `first` up to, and not including, `last` leaves to enter it: their bits stand.
-pub fn sources<'a>(
-    left: &'a [u8; 1024],
-    entered: &'a [u8; 1024],
-    first: usize,
-    last: usize,
-) -> [u32; 32]
-    requires { ⌜ RowsBelow (now left) first last × RowsBelow (now entered) first last ⌝ }
-    ensures { λ r. ⌜ Sources (now (left .entry)) (now (entered .entry)) r first last ⌝ }
-{
-    let mut into = [0; 32];
-    let mut k = first;
-    while k < last {
-        let state = entered[k] as usize;
-        into[state] = with_left(into[state], left[k]);
-        k += 1;
-    }
-    into
-}
-
 // The states below one: their bits stand, and no others.
 pub fn below(state: u8) -> u32
     requires { ⌜ state < 24 ⌝ }
@@ -63,12 +44,12 @@ fn turned(bits: u32, state: u32) -> u32
 
 // The marks, with dead ends marked as well: the states from which no path over states that are not marked leads back to `start`. The
 // others, `live`, are found backward from `start`; `todo` has those of them whose sources are not yet in `live`. Each state is to do at most once.
-pub fn without_dead_ends(into: &[u32; 32], start: u8, marks: u32) -> u32
+pub fn without_dead_ends(graph: &[u32; 1024], start: u8, marks: u32) -> u32
     requires { ⌜ start < 24 ⌝ }
-    ensures { λ r. ⌜ Closed (now (into .entry)) start (marksOf 24 marks) (marksOf 24 r) ⌝ }
+    ensures { λ r. ⌜ Closed (intoOf (now (graph .entry))) start (marksOf 24 marks) (marksOf 24 r) ⌝ }
 {
     let free = marks ^ ALL;
-    let mut live = into[start as usize] & free;
+    let mut live = graphs::into_of(graph, start as usize) & free;
     let mut todo = live;
     let mut turns: u32 = 0;
     while todo != 0 {
@@ -76,7 +57,7 @@ pub fn without_dead_ends(into: &[u32; 32], start: u8, marks: u32) -> u32
             return marks;
         }
         let state = u32::trailing_zeros(todo);
-        let more = into[state as usize] & (free ^ live);
+        let more = graphs::into_of(graph, state as usize) & (free ^ live);
         todo = turned(todo, state) | more;
         live = live | more;
         turns += 1;
@@ -85,12 +66,12 @@ pub fn without_dead_ends(into: &[u32; 32], start: u8, marks: u32) -> u32
 }
 
 // The same once `state` is left, where the dead ends were marked before: if no state that is not marked has a row to it, there are no new ones.
-pub fn after_leaving(into: &[u32; 32], start: u8, state: u8, marks: u32) -> u32
+pub fn after_leaving(graph: &[u32; 1024], start: u8, state: u8, marks: u32) -> u32
     requires { ⌜ (start < 24) × (state < 24) ⌝ }
-    ensures { λ r. ⌜ Closed (now (into .entry)) start (marksOf 24 marks) (marksOf 24 r) ⌝ }
+    ensures { λ r. ⌜ Closed (intoOf (now (graph .entry))) start (marksOf 24 marks) (marksOf 24 r) ⌝ }
 {
-    if into[state as usize] & (marks ^ ALL) == 0 {
+    if graphs::into_of(graph, state as usize) & (marks ^ ALL) == 0 {
         return marks;
     }
-    without_dead_ends(into, start, marks)
+    without_dead_ends(graph, start, marks)
 }

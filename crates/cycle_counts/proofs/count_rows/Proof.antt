@@ -1,82 +1,97 @@
 -- `count_rows` meets its contract: the entries of the cycles that begin with one of the rows from `row` on are left to be taken from the room.
 use borrow.Author.Needs.{needs}
-use Prim.Native.Nat.{_+_, _-_, _≤_, _<_}
+use Prim.Native.Nat.{ℕ, _+_, _-_, _≤_, _<_}
 use native.Mathlib.Omega.{arith}
-use mathlib.Core.List.{[]}
-use mathlib.Core.Path.{_≡_, refl}
+use mathlib.Core.List.{List, []}
+use mathlib.Core.Path.{_≡_, refl, sym, ap, subst}
 use lib.ListN.{length}
+use Rattle.graphs.specs.Graphs.{leftOf, enteredOf, nextOf, headOf, intoOf, betweenOf, lastOf}
 use Rattle.cycle_paths.specs.Cycles.{cyclesThrough}
-use Rattle.state_marks.specs.Marks.{column}
-use Rattle.state_marks.specs.Marks.{marksOf}
+use Rattle.cycle_paths.specs.Entries.{allEntries}
+use Rattle.cycle_paths.specs.Rows.{Searchable}
+use Rattle.state_marks.specs.Marks.{column, marksOf}
 use Rattle.cycle_paths.specs.Inner.Extending.{extensions}
 use Rattle.state_marks.proofs.MarkLaws.{marks-length}
+use Rattle.cycle_paths.proofs.LinkLaws.{searchable-last}
 use Rattle.cycle_paths.proofs.ExtensionLaws.{closed-first, unleft-few, entriesFrom, entries-closed, entries-end}
+use Rattle.cycle_counts.specs.Inner.Counting.{Between, Tables}
 use Rattle.cycle_counts.proofs.CountingLaws.{Taking, taking-begins, taking-part, taking-ends}
 use Rattle.cycle_counts.proofs.count_rows.Statement.{statement}
 use Rattle.cycle_counts.proofs.count_rows.Tie as tie
 
 abbrev Inv-loop : tie.InvT-loop
-Inv-loop left entered next head first last limit into between room rest₀ row₀ rest row =
-    (first ≤ row) × (row ≤ last) × Taking room (entriesFrom left entered first last first) rest (entriesFrom left entered first last row)
+Inv-loop graph first last limit room rest₀ row₀ rest row =
+    (first ≤ row) × (row ≤ last) × Taking room (entriesFrom (leftOf graph) (enteredOf graph) first (lastOf graph) first) rest (entriesFrom (leftOf graph) (enteredOf graph) first (lastOf graph) row)
 
 abbrev μ-loop : tie.MeasureT-loop
-μ-loop left entered next head first last limit into between room rest₀ row₀ rest row = last - row
+μ-loop graph first last limit room rest₀ row₀ rest row = last - row
+
+-- The tables of a graph that has its rows, up to the number that it keeps.
+tables-of : (graph : List ℕ) (first last : ℕ) → Searchable graph first last → Between (leftOf graph) (enteredOf graph) (betweenOf graph) first last
+    → Tables (leftOf graph) (enteredOf graph) (nextOf graph) (headOf graph) (intoOf graph) (betweenOf graph) first (lastOf graph)
+tables-of graph first last s pairs =
+    record {
+      links = searchable-last s .links;
+      from = searchable-last s .from;
+      pairs = subst (Between (leftOf graph) (enteredOf graph) (betweenOf graph) first) (sym (s .last-is)) pairs;
+    }
 
 -- The state that a row leaves is below 24.
-state-in : (c : tie.In-loop Inv-loop μ-loop) → column (c .before .before .before .before .args .left .now) (c .before .loop .row) < 24
-state-in c = c .before .before .before .before .pre .0 .below-24 (c .before .loop .row) (c .before .loop .inv .0) (c .loop-test .taken)
+left-in : (c : tie.In-loop Inv-loop μ-loop) → column (leftOf (c .before .before .args .graph .now)) (c .before .loop .row) < 24
+left-in c = c .before .before .pre .0 .left-in .below-24 (c .before .loop .row) (c .before .loop .inv .0) (c .loop-test .taken)
+
+state-in : (c : tie.After-left-of Inv-loop μ-loop) → c .left-of .result < 24
+state-in c = omega (arith, c .left-of .ensures, left-in (c .before))
 
 -- At the end all is taken.
 all-taken : (c : tie.After-loop Inv-loop μ-loop)
-    → c .before .loop .rest ≡ c .before .before .before .before .args .limit + 1 - length (entriesFrom (c .before .before .before .before .args .left .now) (c .before .before .before .before .args .entered .now) (c .before .before .before .before .args .first) (c .before .before .before .before .args .last) (c .before .before .before .before .args .first))
+    → c .before .loop .rest ≡ c .before .before .args .limit + 1 - length (allEntries (leftOf (c .before .before .args .graph .now)) (enteredOf (c .before .before .args .graph .now)) (c .before .before .args .first) (c .before .before .args .last))
+unfolding cyclesThrough
 all-taken c =
-    let a = c .before .before .before .before .args in
+    let a = c .before .before .args in
+    let g = a .graph .now in
     let l = c .before .loop in
-    taking-ends (l .inv .2) (entries-end (a .left .now) (a .entered .now) (a .first) (a .last) (l .row) (omega arith))
-
-sources-requires : tie.Need-sources-requires Inv-loop μ-loop
-sources-requires c κs = (c .pre .0, c .pre .1)
-
-rows-between-requires : tie.Need-rows-between-requires Inv-loop μ-loop
-rows-between-requires c κs = (c .before .pre .0, c .before .pre .1)
+    let e = c .before .before .pre .0 .last-is in
+    subst
+    (λ (z : ℕ). l .rest ≡ a .limit + 1 - length (allEntries (leftOf g) (enteredOf g) (a .first) z))
+    e
+    (taking-ends (l .inv .2) (entries-end (leftOf g) (enteredOf g) (a .first) (lastOf g) (l .row) (omega (arith, c .loop-test .left, e))))
 
 add-room : tie.Need-add-room Inv-loop μ-loop
 add-room c = search needs
 
 loop-holds : tie.Need-loop-holds Inv-loop μ-loop
-loop-holds c = (omega arith, c .before .before .pre .0 .ordered, taking-begins)
+loop-holds c = (omega arith, c .pre .0 .left-in .ordered, taking-begins)
 
-element-copy-out-start : tie.Need-element-copy-out-start Inv-loop μ-loop
-element-copy-out-start c = omega (arith, c .loop-test .taken, c .before .before .before .before .pre .0 .few)
+left-of-requires : tie.Need-left-of-requires Inv-loop μ-loop
+left-of-requires c κs = (omega (arith, c .loop-test .taken, c .before .before .pre .0 .left-in .few), left-in c)
 
 below-requires : tie.Need-below-requires Inv-loop μ-loop
-below-requires c κs = state-in (c .before)
+below-requires c κs = state-in c
 
 with-left-requires : tie.Need-with-left-requires Inv-loop μ-loop
-with-left-requires c κs = state-in (c .before .before)
+with-left-requires c κs = state-in (c .before)
 
 without-dead-ends-requires : tie.Need-without-dead-ends-requires Inv-loop μ-loop
-without-dead-ends-requires c κs = state-in (c .before .before .before .before)
+without-dead-ends-requires c κs = state-in (c .before .before)
 
 add-count : tie.Need-add-count Inv-loop μ-loop
 add-count c = search needs
 
 count-requires : tie.Need-count-requires Inv-loop μ-loop
 count-requires c κs =
-    let b = c .before .before .before .before .before .before .before .before .before .before .before in
-    let p = b .pre in
-    let i = c .before .before .before .before .before .before .before .before .loop .inv in
-    let h = c .before .before .before .before .before .before .before .loop-test .taken in
-    let marks = c .before .before .without-dead-ends .result in
+    let b = c .before .before .before .before .before .before in
+    let i = c .before .before .before .before .before .loop .inv in
+    let marks = c .without-dead-ends .result in
     record {
-      left = b .args .left .now;
+      left = leftOf (b .args .graph .now);
       first = b .args .first;
-      tables = record { links = p .2; from = c .before .before .before .before .before .before .before .before .before .before .sources .ensures; pairs = c .before .before .before .before .before .before .before .before .before .rows-between .ensures };
-      enter = p .1;
-      start-in = state-in (c .before .before .before .before .before .before .before);
+      tables = tables-of (b .args .graph .now) (b .args .first) (b .args .last) (b .pre .0) (b .pre .1);
+      enter = searchable-last (b .pre .0) .entered-in;
+      start-in = state-in (c .before .before .before);
       low-in = i .0;
       ordered = omega arith;
-      high-in = omega arith;
+      high-in = omega (arith, c .before .before .before .before .loop-test .taken, b .pre .0 .last-is);
       fits = omega (arith, unleft-few (marksOf 24 marks), marks-length 24 marks);
     }
 
@@ -88,28 +103,29 @@ loop-less c = search needs
 
 loop-again : tie.Need-loop-again Inv-loop μ-loop
 loop-again c =
-    let b = c .before .before .before .before .before .before .before .before .before .before .before .before in
+    let b = c .before .before .before .before .before .before .before in
     let a = b .args in
-    let l = c .before .before .before .before .before .before .before .before .before .loop in
-    let h = c .before .before .before .before .before .before .before .before .loop-test .taken in
-    let from = c .before .before .before .before .before .before .before .before .before .before .before .sources .ensures in
-    let closed = c .before .before .before .without-dead-ends in
-    let marked = c .before .before .before .before .before .with-left in
-    let low = c .before .before .before .before .before .before .below in
-    let shut = closed-first _ _ (low .result) (marked .result) _ (state-in (c .before .before .before .before .before .before .before .before)) (low .ensures) (marked .ensures) (closed .ensures) in (
+    let g = a .graph .now in
+    let l = c .before .before .before .before .before .before .loop in
+    let h = c .before .before .before .before .before .loop-test .taken in
+    let start = c .before .before .before .before .left-of in
+    let closed = c .before .without-dead-ends in
+    let marked = c .before .before .with-left in
+    let low = c .before .before .before .below in
+    let tables = tables-of g (a .first) (a .last) (b .pre .0) (b .pre .1) in
+    let shut = closed-first _ _ (low .result) (marked .result) _ (state-in (c .before .before .before .before)) (low .ensures) (marked .ensures) (closed .ensures) in (
       omega (arith, l .inv .0),
       omega arith,
-      taking-part (l .inv .2) (extensions (a .left .now) (a .entered .now) (a .first) (a .last) (column (a .left .now) (l .row)) (marksOf 24 (closed .result)) [] (column (a .left .now) (l .row)) (l .row) (l .row + 1 - l .row)) _
-          (entries-closed (a .left .now) (a .entered .now) (a .first) (a .last) _ (l .row) [] (marksOf 24 (closed .result)) from shut (marks-length 24 (closed .result)) (l .inv .0) h)
+      taking-part (l .inv .2) (extensions (leftOf g) (enteredOf g) (a .first) (lastOf g) (start .result) (marksOf 24 (closed .result)) [] (column (leftOf g) (l .row)) (l .row) (l .row + 1 - l .row)) _
+          (entries-closed (leftOf g) (enteredOf g) (a .first) (lastOf g) (intoOf g) (l .row) (start .result) [] (marksOf 24 (closed .result)) (start .ensures) (tables .from) shut (marks-length 24 (closed .result)) (l .inv .0) (omega (arith, h, b .pre .0 .last-is)))
           _
-          (c .count .ensures [] refl (a .left .now) (a .first) (record { links = b .pre .2; from = from; pairs = c .before .before .before .before .before .before .before .before .before .before .rows-between .ensures }) (l .inv .0)),
+          (c .count .ensures [] refl (leftOf g) (a .first) tables (l .inv .0)),
     )
 
 sub-result : tie.Need-sub-result Inv-loop μ-loop
 sub-result c = omega (arith, all-taken c)
 
 returns : tie.Need-returns Inv-loop μ-loop
-unfolding cyclesThrough
 returns c = omega (arith, all-taken c)
 
 pub count-rows-spec : {M : Type 1} → statement M
@@ -118,11 +134,9 @@ count-rows-spec =
     (tie.spec
     Inv-loop
     μ-loop
-    sources-requires
-    rows-between-requires
     add-room
     loop-holds
-    element-copy-out-start
+    left-of-requires
     below-requires
     with-left-requires
     without-dead-ends-requires

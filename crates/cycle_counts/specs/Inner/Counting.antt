@@ -5,6 +5,7 @@ use mathlib.Core.List.{List}
 use Prim.Native.Nat.{ℕ, zero, suc, _+_, _-_, _*_, _≤_, _<_}
 use lib.ListN.{length}
 use lib.Dec.{eqb}
+use Rattle.graphs.specs.Graphs.{enteredOf, nextOf, headOf, intoOf, betweenOf, lastOf}
 use Rattle.cycle_paths.specs.Cycles.{unleft}
 use Rattle.state_marks.specs.Marks.{column}
 use Rattle.state_marks.specs.Marks.{RowsBelow, Sources}
@@ -44,3 +45,8 @@ abbrev pub Counted : List ℕ → List ℕ → List ℕ → List ℕ → List �
 Counted entered next head into between last start marks depth low high room rest =
     (rows : List ℕ) → length rows ≡ depth → (left : List ℕ) (first : ℕ) → Tables left entered next head into between first last → first ≤ low
     → rest ≡ room - length (extensions left entered first last start marks rows (column left low) low (high - low))
+
+-- The same of a graph.
+abbrev pub CountedIn : List ℕ → ℕ → List ℕ → ℕ → ℕ → ℕ → ℕ → ℕ → Type 0
+CountedIn graph start marks depth low high room rest =
+    Counted (enteredOf graph) (nextOf graph) (headOf graph) (intoOf graph) (betweenOf graph) (lastOf graph) start marks depth low high room rest

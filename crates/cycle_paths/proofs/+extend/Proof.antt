@@ -6,12 +6,13 @@ use mathlib.Core.Logic.{⊎-elim}
 use Prim.Native.Nat.{ℕ, suc, _-_, _<_, _≤_}
 use native.Mathlib.Omega.{arith}
 use lib.ListN.{length, getD, set, take, length-set}
+use Rattle.graphs.specs.Graphs.{enteredOf, nextOf, headOf, intoOf, lastOf}
 use Rattle.cycle_paths.specs.Cycles.{unleft}
-use Rattle.state_marks.specs.Marks.{column}
-use Rattle.state_marks.specs.Marks.{marksOf}
+use Rattle.state_marks.specs.Marks.{column, marksOf}
 use Rattle.cycle_paths.specs.Inner.Extending.{PathKept}
 use Rattle.state_marks.proofs.MarkLaws.{marks-length}
 use Rattle.cycle_paths.proofs.MarkLaws.{unleft-falls}
+use Rattle.cycle_paths.proofs.FillingLaws.{added-in}
 use Rattle.cycle_paths.proofs.ExtensionLaws.{enter-unleft, Extending, extending-begins, extending-named, extending-stops, extending-ends, extending-skip, extending-close, extending-enter, closed-unleft, path-kept}
 use borrow.Fn.Kinds.{In}
 use borrow.Fn.PlainCycle.{Measures, is, falls, and}
@@ -20,14 +21,16 @@ use Rattle.cycle_paths.proofs.extend.Kinds as extend-kinds
 use Rattle.cycle_paths.proofs.+extend.Lts-extend as extend-lts
 use Rattle.cycle_paths.proofs.add_cycle.Reads as add-cycle-reads
 use Rattle.cycle_paths.proofs.step_of.Reads as step-of-reads
-use Rattle.casts.proofs.index_u16.Reads as index-u16-reads
+use Rattle.graphs.proofs.head_of.Reads as head-of-reads
+use Rattle.graphs.proofs.last_of.Reads as last-of-reads
+use Rattle.graphs.proofs.next_of.Reads as next-of-reads
 use Rattle.state_marks.proofs.with_left.Reads as with-left-reads
 use Rattle.state_marks.proofs.after_leaving.Reads as after-leaving-reads
 use Rattle.cycle_paths.proofs.+extend.{statement}
 use Rattle.cycle_paths.proofs.+extend.Tie.{close}
 
 abbrev μ-extend : Measures 3 extend-kinds.ps ℕ
-μ-extend κs a = unleft (marksOf 24 (a .1 .1 .1 .1 .1 .1 .0))
+μ-extend κs a = unleft (marksOf 24 (a .1 .1 .0))
 
 abbrev extend-at : ℕ → In 3 extend-kinds.ps
 extend-at t = and 3 extend-kinds.ps (is 3 extend-kinds.ps μ-extend t) extend.Pre
@@ -38,28 +41,28 @@ extend-below t = and 3 extend-kinds.ps (falls 3 extend-kinds.ps _<_ μ-extend t)
 -- What the functions that are called, this one among them, ask and give.
 abbrev claims : ℕ → extend-lts.Claims
 claims t =
-    (step-of-reads.Asked, step-of-reads.Learnt, add-cycle-reads.Asked, add-cycle-reads.Learnt, index-u16-reads.Asked, index-u16-reads.Learnt, with-left-reads.Asked, with-left-reads.Learnt, after-leaving-reads.Asked, after-leaving-reads.Learnt, extend-below t, extend.Post)
+    (step-of-reads.Asked, step-of-reads.Learnt, add-cycle-reads.Asked, add-cycle-reads.Learnt, head-of-reads.Asked, head-of-reads.Learnt, last-of-reads.Asked, last-of-reads.Learnt, with-left-reads.Asked, with-left-reads.Learnt, after-leaving-reads.Asked, after-leaving-reads.Learnt, extend-below t, extend.Post, next-of-reads.Asked, next-of-reads.Learnt)
 
 abbrev extend-Inv-loop : extend-lts.InvT-loop
-extend-Inv-loop entered next head into last start marks path₀ depth low high out₀ pos limit used₀ k₀ path out used k =
-    (low ≤ k) × PathKept depth path₀ path × Extending entered next head into last start (marksOf 24 marks) (take depth path₀) low high limit out₀ pos k used out
+extend-Inv-loop graph start marks path₀ depth low high out₀ pos used₀ k₀ path out used k =
+    (low ≤ k) × PathKept depth path₀ path × Extending (enteredOf graph) (nextOf graph) (headOf graph) (intoOf graph) (lastOf graph) start (marksOf 24 marks) (take depth path₀) low high (length out₀) out₀ pos k used out
 
 abbrev extend-μ-loop : extend-lts.MeasureT-loop
-extend-μ-loop entered next head into last start marks path₀ depth low high out₀ pos limit used₀ k₀ path out used k =
+extend-μ-loop graph start marks path₀ depth low high out₀ pos used₀ k₀ path out used k =
     high - k
 
 -- Row k is one of the linked rows,
-row-in : (t : ℕ) (c : extend-lts.In-loop (claims t) (extend-at t) extend.Post extend-Inv-loop extend-μ-loop) → (c .before .before .before .pre .1 .first ≤ c .before .loop .k) × (c .before .loop .k < c .before .before .before .args .last)
+row-in : (t : ℕ) (c : extend-lts.In-loop (claims t) (extend-at t) extend.Post extend-Inv-loop extend-μ-loop) → (c .before .before .before .pre .1 .first ≤ c .before .loop .k) × (c .before .loop .k < lastOf (c .before .before .before .args .graph .now))
 row-in t c =
     let p = c .before .before .before .pre .1 in
     (omega (arith, p .low-in, c .before .loop .inv .0), omega (arith, p .high-in, c .loop-test .taken))
 
 -- and so it enters a state below 24.
-state-in : (t : ℕ) (c : extend-lts.In-loop (claims t) (extend-at t) extend.Post extend-Inv-loop extend-μ-loop) → column (c .before .before .before .args .entered .now) (c .before .loop .k) < 24
+state-in : (t : ℕ) (c : extend-lts.In-loop (claims t) (extend-at t) extend.Post extend-Inv-loop extend-μ-loop) → column (enteredOf (c .before .before .before .args .graph .now)) (c .before .loop .k) < 24
 state-in t c = let r = row-in t c in c .before .before .before .pre .1 .enter .below-24 (c .before .loop .k) (r .0) (r .1)
 
 -- The list is as long as it was, and the count at most one above the limit.
-so-far : (t : ℕ) (c : extend-lts.At-loop (claims t) (extend-at t) extend.Post extend-Inv-loop extend-μ-loop) → (length (c .loop .out) ≡ length (c .before .before .args .out .now)) × (c .loop .used ≤ suc (c .before .before .args .limit))
+so-far : (t : ℕ) (c : extend-lts.At-loop (claims t) (extend-at t) extend.Post extend-Inv-loop extend-μ-loop) → (length (c .loop .out) ≡ length (c .before .before .args .out .now)) × (c .loop .used ≤ suc (length (c .before .before .args .out .now)))
 so-far t c =
     let p = c .before .before .pre .1 in
     let g = c .loop .inv .2 .adds (p .left) (p .first) (p .links) (p .from) (p .low-in) in
@@ -74,7 +77,7 @@ extend-same-length : (t : ℕ) → extend-lts.Need-same-length (claims t) (exten
 extend-same-length t c = so-far t (c .before .before) .0
 
 extend-returns : (t : ℕ) → extend-lts.Need-returns (claims t) (extend-at t) extend.Post extend-Inv-loop extend-μ-loop
-extend-returns t c = (c .before .before .loop .inv .1, extending-stops (c .before .before .loop .inv .2) (omega (arith, c .if1 .taken)))
+extend-returns t c = (c .before .before .loop .inv .1, extending-stops (c .before .before .loop .inv .2) (omega (arith, c .if1 .taken, so-far t (c .before .before) .0)))
 
 extend-step-of-requires : (t : ℕ) → extend-lts.Need-step-of-requires (claims t) (extend-at t) extend.Post extend-Inv-loop extend-μ-loop
 extend-step-of-requires t c κs =
@@ -94,14 +97,14 @@ extend-add-cycle-requires : (t : ℕ) → extend-lts.Need-add-cycle-requires (cl
 extend-add-cycle-requires t c κs =
     let p = c .before .before .before .before .before .before .before .before .before .pre .1 in
     let g = so-far t (c .before .before .before .before .before .before .before) in
-    (omega (arith, p .fits), c .before .before .before .before .before .before .before .loop .inv .1 .path-room, g .1, omega (arith, g .0, p .room-in), p .limit-in)
+    (omega (arith, p .fits), c .before .before .before .before .before .before .before .loop .inv .1 .path-room, omega (arith, g .0, g .1), omega (arith, g .0, p .limit-in))
 
 extend-enum-known-step : (t : ℕ) → extend-lts.Need-enum-known-step (claims t) (extend-at t) extend.Post extend-Inv-loop extend-μ-loop
 extend-enum-known-step t c = search needs
 
 -- A state that is entered is the row's, and not yet left;
-enters : (t : ℕ) (c : extend-lts.After-known-told (claims t) (extend-at t) extend.Post extend-Inv-loop extend-μ-loop) → (c .before .step .given .0 .0 ≡ column (c .before .before .before .before .before .before .before .before .args .entered .now) (c .before .before .before .before .before .before .loop .k)) × (getD (marksOf 24 (c .before .before .before .before .before .before .before .before .args .marks)) (c .before .step .given .0 .0) 0 ≡ 0)
-enters t c = let a = c .before .before .before .before .before .before .before .before .args in enter-unleft (a .entered .now) (a .start) (marksOf 24 (a .marks)) _ _ (c .before .before .before .step-of .ensures) _ (c .before .step .given .1)
+enters : (t : ℕ) (c : extend-lts.After-known-told (claims t) (extend-at t) extend.Post extend-Inv-loop extend-μ-loop) → (c .before .step .given .0 .0 ≡ column (enteredOf (c .before .before .before .before .before .before .before .before .args .graph .now)) (c .before .before .before .before .before .before .loop .k)) × (getD (marksOf 24 (c .before .before .before .before .before .before .before .before .args .marks)) (c .before .step .given .0 .0) 0 ≡ 0)
+enters t c = let a = c .before .before .before .before .before .before .before .before .args in enter-unleft (enteredOf (a .graph .now)) (a .start) (marksOf 24 (a .marks)) _ _ (c .before .before .before .step-of .ensures) _ (c .before .step .given .1)
 
 -- so it is below 24, and once it is left, one state less is not.
 entering : (t : ℕ) (c : extend-lts.After-known-told (claims t) (extend-at t) extend.Post extend-Inv-loop extend-μ-loop)
@@ -111,17 +114,11 @@ entering t c =
     let l : c .before .step .given .0 .0 < 24 = omega (arith, e .0, state-in t (c .before .before .before .before .before)) in
     (l, unleft-falls _ _ (omega (arith, l, marks-length 24 (c .before .before .before .before .before .before .before .before .args .marks))) (e .1))
 
-extend-cast-index-u16 : (t : ℕ) → extend-lts.Need-cast-index-u16 (claims t) (extend-at t) extend.Post extend-Inv-loop extend-μ-loop
-extend-cast-index-u16 t c = omega (arith, entering t c .0)
+extend-head-of-requires : (t : ℕ) → extend-lts.Need-head-of-requires (claims t) (extend-at t) extend.Post extend-Inv-loop extend-μ-loop
+extend-head-of-requires t c κs = entering t c .0
 
-extend-mul-index-u16 : (t : ℕ) → extend-lts.Need-mul-index-u16 (claims t) (extend-at t) extend.Post extend-Inv-loop extend-μ-loop
-extend-mul-index-u16 t c = omega (arith, entering t c .0)
-
-extend-element-copy-out-index-u16 : (t : ℕ) → extend-lts.Need-element-copy-out-index-u16 (claims t) (extend-at t) extend.Post extend-Inv-loop extend-μ-loop
-extend-element-copy-out-index-u16 t c = entering t c .0
-
-extend-index-u16-requires : (t : ℕ) → extend-lts.Need-index-u16-requires (claims t) (extend-at t) extend.Post extend-Inv-loop extend-μ-loop
-extend-index-u16-requires t c κs = search needs
+extend-last-of-requires : (t : ℕ) → extend-lts.Need-last-of-requires (claims t) (extend-at t) extend.Post extend-Inv-loop extend-μ-loop
+extend-last-of-requires t c κs = search needs
 
 extend-with-left-requires : (t : ℕ) → extend-lts.Need-with-left-requires (claims t) (extend-at t) extend.Post extend-Inv-loop extend-μ-loop
 extend-with-left-requires t c κs = entering t (c .before .before) .0
@@ -148,7 +145,8 @@ extend-extend-requires t c κs =
     let g = so-far t (c .before .before .before .before .before .before .before .before .before .before .before .before) in
     let f = entering t (c .before .before .before .before .before .before) .1 in
     let h = p .links .head-in (c .before .before .before .before .before .before .before .step .given .0 .0) (entering t (c .before .before .before .before .before .before) .0) in
-    let e = c .before .before .before .before .index-u16 .ensures in
+    let e = c .before .before .before .before .before .head-of .ensures in
+    let last = c .before .before .before .before .last-of .ensures in
     let marked = ap unleft (c .before .before .before .with-left .ensures) in
     let closed = closed-unleft _ _ (c .before .before .before .with-left .result) (c .before .before .after-leaving .result) (c .before .before .after-leaving .ensures) in (
       omega (arith, b .pre .0, f, marked, closed),
@@ -160,42 +158,37 @@ extend-extend-requires t c κs =
         from = p .from;
         start-in = p .start-in;
         low-in = omega (arith, e, h .0);
-        ordered = omega (arith, e, h .1);
-        high-in = omega arith;
+        ordered = omega (arith, e, h .1, last);
+        high-in = omega (arith, last);
         path-room = rw length-set (c .before .before .before .before .before .before .before .before .before .before .before .before .loop .inv .1 .path-room);
         fits = omega (arith, p .fits, f, marked, closed);
-        room-in = omega (arith, g .0, p .room-in);
-        pos-in = g .1;
-        limit-in = p .limit-in;
+        room-in = omega arith;
+        pos-in = omega (arith, g .0, g .1);
+        limit-in = omega (arith, g .0, p .limit-in);
       },
     )
 
-extend-mul-index-u16-2 : (t : ℕ) → extend-lts.Need-mul-index-u16-2 (claims t) (extend-at t) extend.Post extend-Inv-loop extend-μ-loop
-extend-mul-index-u16-2 t c = omega (arith, row-in t (c .before .before .before) .1, c .before .before .before .before .before .before .pre .1 .enter .few)
-
-extend-element-copy-out-index-u16-2 : (t : ℕ) → extend-lts.Need-element-copy-out-index-u16-2 (claims t) (extend-at t) extend.Post extend-Inv-loop extend-μ-loop
-extend-element-copy-out-index-u16-2 t c = omega (arith, row-in t (c .before .before .before) .1, c .before .before .before .before .before .before .pre .1 .enter .few)
-
-extend-index-u16-requires-2 : (t : ℕ) → extend-lts.Need-index-u16-requires-2 (claims t) (extend-at t) extend.Post extend-Inv-loop extend-μ-loop
-extend-index-u16-requires-2 t c κs = search needs
+extend-next-of-requires : (t : ℕ) → extend-lts.Need-next-of-requires (claims t) (extend-at t) extend.Post extend-Inv-loop extend-μ-loop
+extend-next-of-requires t c κs = omega (arith, row-in t (c .before .before .before) .1, c .before .before .before .before .before .before .pre .1 .enter .few)
 
 extend-loop-less : (t : ℕ) → extend-lts.Need-loop-less (claims t) (extend-at t) extend.Post extend-Inv-loop extend-μ-loop
 extend-loop-less t c =
-    let r = row-in t (c .before .before .before .before .before) in
-    omega (arith, c .index-u162 .ensures, c .before .before .before .before .before .loop-test .taken, c .before .before .before .before .before .before .before .before .pre .1 .links .next-later _ (r .0) (r .1))
+    let r = row-in t (c .before .before .before .before) in
+    omega (arith, c .next-of .ensures, c .before .before .before .before .loop-test .taken, c .before .before .before .before .before .before .before .pre .1 .links .next-later _ (r .0) (r .1))
 
 extend-loop-again : (t : ℕ) → extend-lts.Need-loop-again (claims t) (extend-at t) extend.Post extend-Inv-loop extend-μ-loop
 extend-loop-again t c =
-    let b = c .before .before .before .before .before .before .before .before in
+    let b = c .before .before .before .before .before .before .before in
     let a = b .args in
     let p = b .pre .1 in
-    let l = c .before .before .before .before .before .before .loop in
+    let l = c .before .before .before .before .before .loop in
     let kept = l .inv .1 in
-    let h = c .before .before .before .before .before .loop-test .taken in
-    let step = c .before .before .before .step-of .ensures in
-    let next = c .index-u162 .ensures in
-    let r = row-in t (c .before .before .before .before .before) in
-    let low : a .low ≤ c .index-u162 .result = omega (arith, l .inv .0, next, p .links .next-later (l .k) (r .0) (r .1)) in
+    let h = c .before .before .before .before .loop-test .taken in
+    let step = c .before .before .step-of .ensures in
+    let next = c .next-of .ensures in
+    let r = row-in t (c .before .before .before .before) in
+    let g = so-far t (c .before .before .before .before .before) .0 in
+    let low : a .low ≤ c .next-of .result = omega (arith, l .inv .0, next, p .links .next-later (l .k) (r .0) (r .1)) in
     ⊎-elim
     (λ w. (
       low,
@@ -206,16 +199,16 @@ extend-loop-again t c =
     (λ w. (
       low,
       subst (PathKept (a .depth) (a .path .now)) (sym (w .7)) kept,
-      extending-named _ _ (w .9) (w .8) (extending-close (l .inv .2) (l .inv .0) h (p .high-in) step next (w .5 .given) (w .1 .given .1) (l .path) (a .depth) (kept .same-rows) (w .4 .ensures)),
+      extending-named _ _ (w .9) (w .8) (extending-close (l .inv .2) (l .inv .0) h (p .high-in) step next (w .5 .given) (w .1 .given .1) (l .path) (a .depth) (kept .same-rows) (added-in g (w .4 .ensures))),
     ))
     (λ w.
-    let g = entering t (record { before = record { before = record { before = c .before .before .before; match = w .0 }; step = w .1 }; known-told = w .2 }) in
-    let deep : a .depth < 24 = omega (arith, p .fits, g .1) in (
+    let s = entering t (record { before = record { before = record { before = c .before .before; match = w .0 }; step = w .1 }; known-told = w .2 }) in
+    let deep : a .depth < 24 = omega (arith, p .fits, s .1) in (
       low,
       subst (PathKept (a .depth) (a .path .now)) (sym (w .12)) (path-kept (a .depth) (l .k) (a .path .now) (l .path) _ kept (w .9 .ensures .0)),
-      extending-named _ _ (w .14) (w .13) (extending-enter (l .inv .2) (l .inv .0) h (p .high-in) step next (w .10 .given) (w .1 .given .0 .0) (w .1 .given .1) (g .0) (g .1) (l .path) (a .depth) (kept .same-rows) (omega (arith, deep, kept .path-room)) (w .4 .result) (w .4 .ensures) (marksOf 24 (w .5 .result)) (marksOf 24 (w .6 .result)) (w .5 .ensures) (marks-length 24 (w .5 .result)) (marks-length 24 (w .6 .result)) (w .6 .ensures) (w .9 .ensures .1)),
+      extending-named _ _ (w .14) (w .13) (extending-enter (l .inv .2) (l .inv .0) h (p .high-in) step next (w .10 .given) (w .1 .given .0 .0) (w .1 .given .1) (s .0) (s .1) (l .path) (a .depth) (kept .same-rows) (omega (arith, deep, kept .path-room)) (w .3 .result) (w .3 .ensures) (marksOf 24 (w .5 .result)) (marksOf 24 (w .6 .result)) (w .5 .ensures) (marks-length 24 (w .5 .result)) (marks-length 24 (w .6 .result)) (w .6 .ensures) _ _ (w .4 .ensures) g (w .9 .ensures .1)),
     )))
-    (c .before .before .match .came)
+    (c .before .match .came)
 
 extend-same-length-2 : (t : ℕ) → extend-lts.Need-same-length-2 (claims t) (extend-at t) extend.Post extend-Inv-loop extend-μ-loop
 extend-same-length-2 t c = so-far t (c .before) .0
@@ -238,10 +231,8 @@ pub +extend-spec : {M : Type 1} → statement M
     (extend-cast-add-cycle t)
     (extend-add-cycle-requires t)
     (extend-enum-known-step t)
-    (extend-cast-index-u16 t)
-    (extend-mul-index-u16 t)
-    (extend-element-copy-out-index-u16 t)
-    (extend-index-u16-requires t)
+    (extend-head-of-requires t)
+    (extend-last-of-requires t)
     (extend-with-left-requires t)
     (extend-after-leaving-requires t)
     (extend-cast-path t)
@@ -249,9 +240,7 @@ pub +extend-spec : {M : Type 1} → statement M
     (extend-element-write-path t)
     (extend-add-extend t)
     (extend-extend-requires t)
-    (extend-mul-index-u16-2 t)
-    (extend-element-copy-out-index-u16-2 t)
-    (extend-index-u16-requires-2 t)
+    (extend-next-of-requires t)
     (extend-loop-less t)
     (extend-loop-again t)
     (extend-same-length-2 t)

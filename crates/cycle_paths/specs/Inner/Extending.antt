@@ -5,6 +5,7 @@ use mathlib.Core.List.{List, _++_, map}
 use Prim.Native.Nat.{ℕ, suc, _+_, _-_, _≤_, _<_, _^_}
 use lib.ListN.{length, getD, take}
 use lib.Dec.{eqb, ltb}
+use Rattle.graphs.specs.Graphs.{enteredOf, nextOf, headOf, intoOf, lastOf}
 use Rattle.state_marks.specs.Marks.{column, RowsBelow, Sources}
 use Rattle.cycle_paths.specs.declared.Step.{Step}
 use Rattle.cycle_paths.specs.declared.Step.the-variants as Steps
@@ -58,3 +59,8 @@ abbrev pub Extended : List ℕ → List ℕ → List ℕ → List ℕ → ℕ �
 Extended entered next head into last start marks rows low high limit before pos used after =
     (left : List ℕ) (first : ℕ) → Linked left next head first last → Sources left entered into first last → first ≤ low
     → Added limit before pos (extensions left entered first last start marks rows (column left low) low (high - low)) used after
+
+-- The same of a graph, where the list's length is the limit.
+abbrev pub ExtendedIn : List ℕ → ℕ → List ℕ → List ℕ → ℕ → ℕ → List ℕ → ℕ → ℕ → List ℕ → Type 0
+ExtendedIn graph start marks rows low high before pos used after =
+    Extended (enteredOf graph) (nextOf graph) (headOf graph) (intoOf graph) (lastOf graph) start marks rows low high (length before) before pos used after

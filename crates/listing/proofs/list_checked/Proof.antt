@@ -91,7 +91,7 @@ list-between-requires c κs =
     let m = b .args .machine in
     let within : m < s .machines = omega (arith, c .before .before .before .before .before .before .before .before .if1 .left) in
     let few : stateCount (plantOf s t) m ≤ 24 = omega (arith, c .before .before .before .before .before .before .if2 .left, states-at s t m within) in
-    machine-listable s t (b .pre .0) (b .pre .1) m within few _ _ (c .before .before .before .before .index-u16 .ensures) (c .before .before .index-u162 .ensures)
+    machine-listable s t (b .pre .0) (b .pre .1) m within few _ _ (c .before .before .before .before .index-u16 .ensures) (c .before .before .index-u162 .ensures) (omega (arith, c .before .if3 .left))
 
 same-length : tie.Need-same-length
 same-length c = search needs

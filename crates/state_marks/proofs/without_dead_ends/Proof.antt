@@ -5,16 +5,16 @@ use Prim.Native.Nat.{_-_, _<_, _≤_, _^_}
 use native.Mathlib.Omega.{arith}
 use lib.Bits.{bitAnd, bitXor, and-le-r, or-lt, xor-lt}
 use lib.Count.{trailingZeros}
-use Rattle.state_marks.specs.Marks.{column}
+use Rattle.graphs.specs.Graphs.{intoOf}
 use Rattle.state_marks.proofs.BitLaws.{Growing, growing-begins, growing-step, growing-ends, closed-same, trailing-below}
 use Rattle.state_marks.proofs.without_dead_ends.Statement.{statement}
 use Rattle.state_marks.proofs.without_dead_ends.Tie as tie
 
 abbrev Inv-loop : tie.InvT-loop
-Inv-loop into start marks free live₀ todo₀ turns₀ live todo turns = (turns ≤ 24) × (todo < 2 ^ 32) × (live < 2 ^ 32) × Growing into start free live todo
+Inv-loop graph start marks free live₀ todo₀ turns₀ live todo turns = (turns ≤ 24) × (todo < 2 ^ 32) × (live < 2 ^ 32) × Growing (intoOf graph) start free live todo
 
 abbrev μ-loop : tie.MeasureT-loop
-μ-loop into start marks free live₀ todo₀ turns₀ live todo turns = 24 - turns
+μ-loop graph start marks free live₀ todo₀ turns₀ live todo turns = 24 - turns
 
 -- The lowest bit of those to do is one of 32.
 state-in : (c : tie.Else1 Inv-loop μ-loop) → trailingZeros 32 (c .before .before .loop .todo) < 32
@@ -24,36 +24,29 @@ state-in c = trailing-below 32 (c .before .before .loop .todo) (c .before .befor
 free-below : (c : tie.Start Inv-loop μ-loop) → bitXor (c .args .marks) 16777215 < 4294967296
 free-below c = let m : c .args .marks < 4294967296 = search needs in xor-lt 32 (c .args .marks) 16777215 m (omega arith)
 
-first-below : (c : tie.After-live Inv-loop μ-loop) → bitAnd (column (c .before .args .into .now) (c .before .args .start)) (bitXor (c .before .args .marks) 16777215) < 4294967296
-first-below c = omega (arith, and-le-r (column (c .before .args .into .now) (c .before .args .start)) (bitXor (c .before .args .marks) 16777215), free-below (c .before))
+first-below : (c : tie.After-into-of Inv-loop μ-loop) → bitAnd (c .into-of .result) (bitXor (c .before .args .marks) 16777215) < 4294967296
+first-below c = omega (arith, and-le-r (c .into-of .result) (bitXor (c .before .args .marks) 16777215), free-below (c .before))
 
-more-below : (c : tie.After-more Inv-loop μ-loop)
-    → bitAnd (column (c .before .before .before .before .before .args .into .now) (trailingZeros 32 (c .before .before .before .loop .todo))) (bitXor (bitXor (c .before .before .before .before .before .args .marks) 16777215) (c .before .before .before .loop .live)) < 4294967296
+more-below : (c : tie.After-into-of2 Inv-loop μ-loop) → bitAnd (c .into-of2 .result) (bitXor (bitXor (c .before .before .before .before .before .args .marks) 16777215) (c .before .before .before .loop .live)) < 4294967296
 more-below c =
     let a = c .before .before .before .before .before .args in
     let l = c .before .before .before .loop in
-    omega (arith, and-le-r (column (a .into .now) (trailingZeros 32 (l .todo))) (bitXor (bitXor (a .marks) 16777215) (l .live)), xor-lt 32 (bitXor (a .marks) 16777215) (l .live) (free-below (c .before .before .before .before .before)) (l .inv .2))
+    omega (arith, and-le-r (c .into-of2 .result) (bitXor (bitXor (a .marks) 16777215) (l .live)), xor-lt 32 (bitXor (a .marks) 16777215) (l .live) (free-below (c .before .before .before .before .before)) (l .inv .2))
 
-mul-live : tie.Need-mul-live Inv-loop μ-loop
-mul-live c = search needs
-
-element-copy-out-live : tie.Need-element-copy-out-live Inv-loop μ-loop
-element-copy-out-live c = search needs
+into-of-requires : tie.Need-into-of-requires Inv-loop μ-loop
+into-of-requires c κs = search needs
 
 loop-holds : tie.Need-loop-holds Inv-loop μ-loop
-loop-holds c = (omega arith, first-below c, first-below c, growing-begins (c .before .args .into .now) (c .before .args .start) (bitXor (c .before .args .marks) 16777215))
+loop-holds c = (omega arith, first-below c, first-below c, rw (c .into-of .ensures) (growing-begins (intoOf (c .before .args .graph .now)) (c .before .args .start) (bitXor (c .before .args .marks) 16777215)))
 
 returns : tie.Need-returns Inv-loop μ-loop
 returns c = closed-same _ _ _
 
-cast-more : tie.Need-cast-more Inv-loop μ-loop
-cast-more c = record { fits = omega (arith, state-in c) }
+cast-into-of : tie.Need-cast-into-of Inv-loop μ-loop
+cast-into-of c = record { fits = omega (arith, state-in c) }
 
-mul-more : tie.Need-mul-more Inv-loop μ-loop
-mul-more c = record { fits = omega (arith, state-in c) }
-
-element-copy-out-more : tie.Need-element-copy-out-more Inv-loop μ-loop
-element-copy-out-more c = state-in c
+into-of-requires-2 : tie.Need-into-of-requires-2 Inv-loop μ-loop
+into-of-requires-2 c κs = state-in c
 
 turned-requires : tie.Need-turned-requires Inv-loop μ-loop
 turned-requires c κs = state-in (c .before)
@@ -71,14 +64,14 @@ loop-again c =
       omega (arith, l .inv .0, c .before .before .if1 .left),
       or-lt 32 (c .turned .result) _ (c .turned .ok) (more-below (c .before)),
       or-lt 32 (l .live) _ (l .inv .2) (more-below (c .before)),
-      growing-step (a .into .now) (a .start) (bitXor (a .marks) 16777215) (l .live) (l .todo) (trailingZeros 32 (l .todo)) (c .turned .result) (l .inv .3) (c .turned .ensures),
+      rw (c .before .into-of2 .ensures) (growing-step (intoOf (a .graph .now)) (a .start) (bitXor (a .marks) 16777215) (l .live) (l .todo) (trailingZeros 32 (l .todo)) (c .turned .result) (l .inv .3) (c .turned .ensures)),
     )
 
 returns-2 : tie.Need-returns-2 Inv-loop μ-loop
 returns-2 c =
     let l = c .before .loop in
     let a = c .before .before .before .args in
-    growing-ends (a .into .now) (a .start) (bitXor (a .marks) 16777215) (a .marks) (l .live) (l .todo) refl (l .inv .3) (c .loop-test .left)
+    growing-ends (intoOf (a .graph .now)) (a .start) (bitXor (a .marks) 16777215) (a .marks) (l .live) (l .todo) refl (l .inv .3) (c .loop-test .left)
 
 pub without-dead-ends-spec : {M : Type 1} → statement M
 without-dead-ends-spec =
@@ -86,13 +79,11 @@ without-dead-ends-spec =
     (tie.spec
     Inv-loop
     μ-loop
-    mul-live
-    element-copy-out-live
+    into-of-requires
     loop-holds
     returns
-    cast-more
-    mul-more
-    element-copy-out-more
+    cast-into-of
+    into-of-requires-2
     turned-requires
     add-turns
     loop-less

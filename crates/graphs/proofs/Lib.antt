@@ -1,0 +1,3 @@
+-- Laws of a graph in one list of numbers.
+pub mod PartLaws
+pub mod RowLaws

@@ -1,0 +1,175 @@
+-- Laws of a graph without rows, and of a row that is added: six stores, one behind the other.
+use mathlib.Core.Path.{_≡_, refl, sym, ap, _∙_}
+use mathlib.Core.List.{List}
+use Prim.Native.Nat.{ℕ, _+_, _*_, _%_, _≤_, _<_, _^_}
+use native.Mathlib.Nat.{zero-add}
+use native.Mathlib.Decide.{ℕ-discrete}
+use native.Mathlib.Omega.{arith}
+use lib.ListN.{length, getD, set, take, drop, length-set, length-drop}
+use lib.Seq.{length-take-le, getD-set-same, getD-set-other}
+use lib.Bits.{bitOr}
+use Rattle.graphs.specs.Graphs.{rowsAt, leftOf, enteredOf, nextOf, headOf, intoOf, betweenOf, lastOf, NoRows, RowAdded}
+use Rattle.graphs.proofs.PartLaws.{row-at, rows-long, part-at, part-in, part-after, part-before}
+
+-- The 63 numbers after a number have another rest by 64.
+apart : (k j : ℕ) → k < j → j < k + 64 → j % 64 ≡ k % 64 → ⊥
+apart k j l h e = omega arith
+
+-- ---- where each number stands
+
+pub left-stands : (g : List ℕ) (k : ℕ) → k < 1024 → getD (leftOf g) k 0 ≡ getD g (k % 64) 0
+unfolding leftOf
+left-stands g k l = row-at 0 g k l ∙ ap (λ (i : ℕ). getD g i 0) (zero-add (k % 64))
+
+pub entered-stands : (g : List ℕ) (k : ℕ) → k < 1024 → getD (enteredOf g) k 0 ≡ getD g (64 + k % 64) 0
+unfolding enteredOf
+entered-stands g k l = row-at 64 g k l
+
+pub next-stands : (g : List ℕ) (k : ℕ) → k < 1024 → getD (nextOf g) k 0 ≡ getD g (128 + k % 64) 0
+unfolding nextOf
+next-stands g k l = row-at 128 g k l
+
+pub head-stands : (g : List ℕ) (s : ℕ) → s < 24 → getD (headOf g) s 0 ≡ getD g (192 + s) 0
+unfolding headOf
+head-stands g s l = part-at 24 192 g s l
+
+pub into-stands : (g : List ℕ) (s : ℕ) → s < 32 → getD (intoOf g) s 0 ≡ getD g (224 + s) 0
+unfolding intoOf
+into-stands g s l = part-at 32 224 g s l
+
+pub between-stands : (g : List ℕ) (i : ℕ) → i < 768 → getD (betweenOf g) i 0 ≡ getD g (256 + i) 0
+unfolding betweenOf
+between-stands g i l = part-at 768 256 g i l
+
+-- ---- how long the parts are
+
+pub next-long : (g : List ℕ) → length (nextOf g) ≡ 1024
+unfolding nextOf
+next-long g = rows-long 128 g
+
+pub head-long : (g : List ℕ) → length g ≡ 1024 → length (headOf g) ≡ 24
+unfolding headOf
+head-long g e = length-take-le 24 (drop 192 g) (omega (arith, e, length-drop 192 g))
+
+pub into-long : (g : List ℕ) → length g ≡ 1024 → length (intoOf g) ≡ 32
+unfolding intoOf
+into-long g e = length-take-le 32 (drop 224 g) (omega (arith, e, length-drop 224 g))
+
+pub between-long : (g : List ℕ) → length g ≡ 1024 → length (betweenOf g) ≡ 768
+unfolding betweenOf
+between-long g e = length-take-le 768 (drop 256 g) (omega (arith, e, length-drop 256 g))
+
+-- ---- no rows
+
+-- Links to no row, and no pair of states with a row.
+pub no-rows : (last : ℕ) (graph : List ℕ) → length graph ≡ 1024 → ((s : ℕ) → s < 25 → getD graph (192 + s) 0 ≡ last) → ((i : ℕ) → 217 ≤ i → getD graph i 0 ≡ 0)
+    → NoRows last graph
+unfolding headOf betweenOf lastOf
+no-rows last graph long ends none =
+    record {
+      long = long;
+      no-head = λ s l. part-at 24 192 graph s l ∙ ends s (omega arith);
+      no-pair = λ i l. part-at 768 256 graph i l ∙ none (256 + i) (omega arith);
+      last-is = ends 24 (omega arith);
+    }
+
+-- One state more has no row.
+pub ends-more : (last state : ℕ) (graph : List ℕ) → 192 + state < length graph → ((s : ℕ) → s < state → getD graph (192 + s) 0 ≡ last)
+    → (s : ℕ) → s < state + 1 → getD (set graph (192 + state) last) (192 + s) 0 ≡ last
+ends-more last state graph room h s l = go (ℕ-discrete s state)
+  where
+    go : Dec (s ≡ state) → getD (set graph (192 + state) last) (192 + s) 0 ≡ last
+    go (yes e) = rw e (getD-set-same graph (192 + state) last 0 room)
+    go (no e) = getD-set-other graph (192 + state) (192 + s) last 0 (λ q. e (omega arith)) ∙ h s (omega arith)
+
+-- ---- one row more
+
+module _ (g : List ℕ) (k left entered later into rows : ℕ) where
+  abbrev pair : ℕ
+  pair = left * 32 + entered
+
+  abbrev g1 : List ℕ
+  g1 = set g (k % 64) left
+
+  abbrev g2 : List ℕ
+  g2 = set g1 (64 + k % 64) entered
+
+  abbrev g3 : List ℕ
+  g3 = set g2 (128 + k % 64) later
+
+  abbrev g4 : List ℕ
+  g4 = set g3 (192 + left) k
+
+  abbrev g5 : List ℕ
+  g5 = set g4 (224 + entered) into
+
+  abbrev pub six : List ℕ
+  six = set g5 (256 + pair) rows
+
+  module _ (low : left < 24) (high : entered < 24) where
+    rest-in : k % 64 < 64
+    rest-in = omega arith
+
+    -- The stores behind the rows leave the numbers of rows.
+    behind : (i : ℕ) → i < 192 → getD six i 0 ≡ getD g3 i 0
+    behind i l =
+        getD-set-other g5 (256 + pair) i rows 0 (λ q. omega arith)
+        ∙ (getD-set-other g4 (224 + entered) i into 0 (λ q. omega arith) ∙ getD-set-other g3 (192 + left) i k 0 (λ q. omega arith))
+
+    -- A number of a row that is not stored is kept.
+    kept : (i : ℕ) → i < 192 → (i ≡ k % 64 → ⊥) → (i ≡ 64 + k % 64 → ⊥) → (i ≡ 128 + k % 64 → ⊥) → getD six i 0 ≡ getD g i 0
+    kept i l a b c =
+        behind i l
+        ∙ (getD-set-other g2 (128 + k % 64) i later 0 c ∙ (getD-set-other g1 (64 + k % 64) i entered 0 b ∙ getD-set-other g (k % 64) i left 0 a))
+
+    module _ (long : length g ≡ 1024) (few : k < 1024) where
+      stored-1 : getD six (0 + k % 64) 0 ≡ left
+      stored-1 =
+          ap (λ (i : ℕ). getD six i 0) (zero-add (k % 64))
+          ∙ (behind (k % 64) (omega (arith, rest-in))
+          ∙ (getD-set-other g2 (128 + k % 64) (k % 64) later 0 (λ q. omega arith)
+          ∙ (getD-set-other g1 (64 + k % 64) (k % 64) entered 0 (λ q. omega arith) ∙ getD-set-same g (k % 64) left 0 (omega (arith, rest-in, long)))))
+
+      stored-2 : getD six (64 + k % 64) 0 ≡ entered
+      stored-2 =
+          behind (64 + k % 64) (omega (arith, rest-in))
+          ∙ (getD-set-other g2 (128 + k % 64) (64 + k % 64) later 0 (λ q. omega arith)
+          ∙ getD-set-same g1 (64 + k % 64) entered 0 (omega (arith, rest-in, long, length-set g (k % 64) left)))
+
+      stored-3 : getD six (128 + k % 64) 0 ≡ later
+      stored-3 =
+          behind (128 + k % 64) (omega (arith, rest-in))
+          ∙ getD-set-same g2 (128 + k % 64) later 0 (omega (arith, rest-in, long, length-set g (k % 64) left, length-set g1 (64 + k % 64) entered))
+
+      pub row-added : later ≡ getD g (192 + left) 0 → into ≡ bitOr (getD g (224 + entered) 0) (2 ^ left) → rows ≡ getD g (256 + pair) 0 + 1 → RowAdded k left entered g six
+      unfolding leftOf enteredOf nextOf headOf intoOf betweenOf lastOf
+      row-added e f h =
+          record {
+            long = simp length-set long;
+            left-at = row-at 0 six k few ∙ stored-1;
+            entered-at = row-at 64 six k few ∙ stored-2;
+            next-at = row-at 128 six k few ∙ (stored-3 ∙ (e ∙ sym (part-at 24 192 g left low)));
+            left-else = λ j a b l. row-at 0 six j l ∙ (kept (0 + j % 64) (omega arith) (λ q. apart k j a b (omega arith)) (λ q. omega arith) (λ q. omega arith) ∙ sym (row-at 0 g j l));
+            entered-else = λ j a b l. row-at 64 six j l ∙ (kept (64 + j % 64) (omega arith) (λ q. omega arith) (λ q. apart k j a b (omega arith)) (λ q. omega arith) ∙ sym (row-at 64 g j l));
+            next-else = λ j a b l. row-at 128 six j l ∙ (kept (128 + j % 64) (omega arith) (λ q. omega arith) (λ q. omega arith) (λ q. apart k j a b (omega arith)) ∙ sym (row-at 128 g j l));
+            head-is =
+                part-before 24 192 g5 (256 + pair) rows (64 + pair) (omega arith) (omega arith)
+                ∙ (part-before 24 192 g4 (224 + entered) into (32 + entered) (omega arith) (omega arith)
+                ∙ (part-in 24 192 g3 (192 + left) k left refl
+                ∙ ap (λ (z : List ℕ). set z left k) (part-after 24 192 g2 (128 + k % 64) later (omega (arith, rest-in)) ∙ (part-after 24 192 g1 (64 + k % 64) entered (omega (arith, rest-in)) ∙ part-after 24 192 g (k % 64) left (omega (arith, rest-in))))));
+            into-is =
+                part-before 32 224 g5 (256 + pair) rows (32 + pair) (omega arith) (omega arith)
+                ∙ (part-in 32 224 g4 (224 + entered) into entered refl
+                ∙ (ap (λ (z : List ℕ). set z entered into) (part-after 32 224 g3 (192 + left) k (omega arith) ∙ (part-after 32 224 g2 (128 + k % 64) later (omega (arith, rest-in)) ∙ (part-after 32 224 g1 (64 + k % 64) entered (omega (arith, rest-in)) ∙ part-after 32 224 g (k % 64) left (omega (arith, rest-in)))))
+                ∙ ap (λ (z : ℕ). set (take 32 (drop 224 g)) entered z) (f ∙ ap (λ (z : ℕ). bitOr z (2 ^ left)) (sym (part-at 32 224 g entered (omega arith))))));
+            between-is =
+                part-in 768 256 g5 (256 + pair) rows pair refl
+                ∙ (ap (λ (z : List ℕ). set z pair rows) (part-after 768 256 g4 (224 + entered) into (omega arith) ∙ (part-after 768 256 g3 (192 + left) k (omega arith) ∙ (part-after 768 256 g2 (128 + k % 64) later (omega (arith, rest-in)) ∙ (part-after 768 256 g1 (64 + k % 64) entered (omega (arith, rest-in)) ∙ part-after 768 256 g (k % 64) left (omega (arith, rest-in))))))
+                ∙ ap (λ (z : ℕ). set (take 768 (drop 256 g)) pair z) (h ∙ ap (λ (z : ℕ). z + 1) (sym (part-at 768 256 g pair (omega arith)))));
+            last-same =
+                getD-set-other g5 (256 + pair) 216 rows 0 (λ q. omega arith)
+                ∙ (getD-set-other g4 (224 + entered) 216 into 0 (λ q. omega arith)
+                ∙ (getD-set-other g3 (192 + left) 216 k 0 (λ q. omega arith)
+                ∙ (getD-set-other g2 (128 + k % 64) 216 later 0 (λ q. omega (arith, rest-in))
+                ∙ (getD-set-other g1 (64 + k % 64) 216 entered 0 (λ q. omega (arith, rest-in)) ∙ getD-set-other g (k % 64) 216 left 0 (λ q. omega (arith, rest-in))))));
+          }
