@@ -55,7 +55,8 @@ fn add_cycle(out: &mut [u16], pos: usize, path: &[u16; 24], depth: usize, row: u
     requires { ⌜ (depth ≤ 24) × (length (now path) ≡ 24) × (pos ≤ suc (length (now out))) × (length (now out) < 2 ^ 63) ⌝ }
     ensures { λ r. ⌜ Added (length (now (out .entry))) (now (out .entry)) pos (entryOf (take depth (now (path .entry))) row) r (now (out .exit)) ⌝ }
 {
-    if pos + depth + 2 <= out.len() {
+    let end = pos + depth + 2;
+    if end <= out.len() {
         return write_cycle(out, pos, path, depth, row);
     }
     out.len() + 1

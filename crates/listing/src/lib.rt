@@ -3,6 +3,7 @@ ghost use mathlib.Core.Path.{_≡_};
 ghost use Prim.Native.Nat.{min};
 ghost use lib.ListN.{length};
 ghost use Rattle.plant.specs.Limits.{WithinLimits};
+ghost use Rattle.graphs.specs.Graphs.{NoRows};
 ghost use Rattle.tables.specs.Tables.{RoomFor};
 ghost use Rattle.decoding.specs.Tables.{plantOf, Ready};
 ghost use Rattle.listing.specs.Answers.{answerOf, refused};
@@ -25,20 +26,19 @@ fn refused(number: u8) -> Listed
     Listed::Refused(Fault { number, place: 0 })
 }
 
-// The graph of the rows from `first` up to, and not including, `last`; from the last row to the first, so that each is put before those that it has.
-fn graph_of(table: &[u8], first: usize, last: usize) -> [u32; 1024]
-    requires { ⌜ Listable (now table) first last ⌝ }
-    ensures { λ r. ⌜ Graphed (now (table .entry)) first last r ⌝ }
+// Adds the rows from `first` up to, and not including, `last` to a graph without rows; from the last row to the first, as `add_row` puts each before those that
+// are there.
+fn add_rows(table: &[u8], first: usize, last: usize, graph: &mut [u32; 1024])
+    requires { ⌜ Listable (now table) first last × NoRows last (now graph) ⌝ }
+    ensures { λ r. ⌜ Graphed (now (table .entry)) first last (now (graph .exit)) ⌝ }
 {
-    let mut graph = graphs::without_rows(last);
     let mut k = last;
     while k > first {
         k -= 1;
         let left = tables::left_of(table, k);
         let entered = tables::entered_of(table, k);
-        graphs::add_row(&mut graph, k, left, entered);
+        graphs::add_row(graph, k, left, entered);
     }
-    graph
 }
 
 // Lists the cycles of the rows from `first` up to, and not including, `last`: counts their entries first, then stores them if the list has room.
@@ -46,7 +46,8 @@ fn list_between(table: &[u8], first: usize, last: usize, out: &mut [u16]) -> Lis
     requires { ⌜ Listable (now table) first last ⌝ }
     ensures { λ r. ⌜ AnswersRows (now (table .entry)) first last (now (out .entry)) (now (out .exit)) r ⌝ }
 {
-    let graph = graph_of(table, first, last);
+    let mut graph = graphs::without_rows(last);
+    add_rows(table, first, last, &mut graph);
     let room = out.len();
     let needed = cycle_counts::count_rows(&graph, first, last, room);
     if needed > room {

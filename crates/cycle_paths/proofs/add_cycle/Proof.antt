@@ -6,11 +6,11 @@ use Rattle.cycle_paths.proofs.FillingLaws.{added-stored, added-counted}
 use Rattle.cycle_paths.proofs.add_cycle.Statement.{statement}
 use Rattle.cycle_paths.proofs.add_cycle.Tie as tie
 
-add-if1 : tie.Need-add-if1
-add-if1 c = search needs
+add-end : tie.Need-add-end
+add-end c = search needs
 
-add-if1-2 : tie.Need-add-if1-2
-add-if1-2 c = search needs
+add-end-2 : tie.Need-add-end-2
+add-end-2 c = search needs
 
 write-cycle-requires : tie.Need-write-cycle-requires
 write-cycle-requires c κs = search needs
@@ -38,8 +38,8 @@ pub add-cycle-spec : {M : Type 1} → statement M
 add-cycle-spec =
     tie.close
     (tie.spec
-    add-if1
-    add-if1-2
+    add-end
+    add-end-2
     write-cycle-requires
     same-length
     returns
