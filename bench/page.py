@@ -3,10 +3,6 @@ import textwrap
 
 # Why a goal is missed: for keys of bench/run that begin with the first word. The evidence is from `perf` and from the machine
 # code (`objdump -d dist/libhemtaluq.a`) of the library at the time of writing; look again when the crates have changed.
-# How far whole runs lie apart. Look again when the crates have changed.
-RUNS = """Three full runs of the code of this writing, one after the other, of which this page first had the last: weighing that passes on plant A 2.62, 2.09 and 2.26, that shows a cycle 3.27, 3.13
-and 2.99, quoting 2.38, 1.95 and 2.08; showing a cycle of ten machines 1.20, missed by less than a hundredth, 1.08 and 1.05, of the machine at the limits 0.89, 0.81 and 0.78; listing the ring of 16 1.92, 1.69 and 1.53. The other rows differ by a tenth at most."""
-
 DECIDING = (
     'The decision works out the length 1 + n × weight of a row in each pass, the peer has a list of lengths: its loop has 12 instructions, 44 bytes. Where these '
     'bytes lie across a line of 64, the loop takes a third longer. With a list of lengths the proved code was no faster at the limits, and slower in small plants, for the list has to be cleared.')
@@ -14,17 +10,16 @@ CAUSES = [
     ('read', 'Reading',
      'Nothing is stored, and on the largest file the call executes as many instructions as the peer, within a hundredth (callgrind).'),
     ('weigh-a', 'Weighing small plants',
-     'Half of the call that passes, and four tenths of the one that shows a cycle, is spent in `memset` (perf), which clears 10 KB and 5 KB more; what is left of the first takes about as long '
-     'as the peer. The arrays have room for the limits, and a call does not know what it will need before it has read the file. The kit\'s compiler gives an array of bytes no alignment: they '
-     'lie at 40 past a line of 64 bytes, and six columns take 66 ns to clear there, 34 ns at the start of a line. C with the same arrays, which gcc aligns: see the next table. Where a cycle is shown, the '
-     'rounds take a fourth of the call: each clears its table of two states by a call of `memset`, and those from the start that was found are made twice (DECISIONS.md, 23).'),
+     'A table of 512 bytes, a list of edges of 512 bytes and the heights of 8 states are cleared at each call, and the rows are stored before they are weighed; the peer leaves its arrays as '
+     'they are. Where a cycle is shown, each start clears 1 KB of walks, and the rounds from the start that was found are made once more (DECISIONS.md, 23). Walks that are lent and not cleared '
+     'by a call of `memset` gained a fiftieth. C with the same arrays: see the next table.'),
     ('weigh', 'Weighing', DECIDING),
     ('quote-fails', 'Quoting weights that do not pass', 'All the work is deciding. ' + DECIDING),
     ('quote-a', 'Quoting for small plants',
-     'As for weighing: the arrays are cleared. Besides, the price class compares edge after edge of the constant table that document 01 asks for, where the peer counts leading zeros.'),
+     'As for weighing. Besides, the price class compares edge after edge of the constant table that document 01 asks for, where the peer counts leading zeros.'),
     ('quote', 'Quoting', 'Quoting is deciding and a few sums; what deciding loses, quoting loses.'),
     ('list', 'Listing',
-     'Each row of a path is a call with 14 arguments, since columns are lent one by one; the peer keeps what does not change in one struct.'),
+     'Each row of a path is a call with 9 arguments, 7 where entries are only counted; the peer keeps what does not change in one struct.'),
     ('confirm', 'Confirming',
      'The rows of an entry are gone through three times (number by number, as a cycle, and for the sums), by the peer once; the third loop branches at each row, and its time depends on the address it is linked at.'),
 ]
@@ -144,17 +139,15 @@ work: a ratio moves by a tenth from run to run, on plant A and the ring of 16 by
 
 ## Against C
 
-`bench/peer.c` has the five calls in plain C, with the best algorithms we know: tables filled in place and never cleared, Bellman–Ford
+`bench/peer.c` has the five calls in plain C, with the best algorithms we know: tables filled in place and, but for the numbers of rows between states, never cleared, Bellman–Ford
 relaxation in place in 32 bits, the same search for a cycle by exact lengths, depth-first listing over adjacency lists with bits for the states left and for dead ends, price classes by leading
 zeros. Before measuring, both gave the same answers and left the same in the lent lists on {cases} random inputs, whole and damaged, and on
-every input below. The files are in the cache; no buffer is cleared between two calls. Below 1 the proved call is faster.
+every input below. The files are in the cache; no buffer is cleared between two calls. Below 1 the proved call is faster. The goal is 1.2; 1.4 on plant A where weights pass, 2 where a cycle is shown, and 2 for listing.
 Both show a cycle with the fewest rows; a program that may show any cycle could take it from the predecessors of the last round, without a search, and this was not measured.
 
 {calls}
 
 {causes}
-
-{runs}
 
 In Rattle every array has contents from the start, so a call clears its tables where C leaves them as they are. `bench/floor.c` is weighing in C with
 the arrays and the algorithms of the proved call, each array cleared by `memset` as there.
@@ -186,7 +179,7 @@ The stack was painted, the call was run on it, and the deepest byte that changed
 
 {stack}
 
-`weigh` and `quote` have the columns of the plant, 6.2 KB, in the frame of `judge_file`, and the edges of a machine, 3 KB, in their own; to show a cycle takes 5 KB more. `list` and `confirm` have the columns and the table that is put together of them, and hand the table on by value, which copies it.
+The table of a plant has 8 KB and its edges 2 KB, for a file of at most 64 bytes 512 bytes each; to show a cycle takes 5 KB more. `list` has the table and the graph of a machine's rows, 4 KB, and a frame for each row of a path; `confirm` has the table and the sums.
 
 {sizes}
 """
@@ -209,6 +202,6 @@ def folded(text):
 def page(found):
     return folded(PAGE.format(
         fast=found['reps'][0], slow=found['reps'][1], gcc=found['gcc'], spin=found['spin'], glpsol=found['glpsol'].split(',')[0],
-        cases='{:,}'.format(found['cases']), calls=calls_table(found), causes=causes(found), runs=RUNS, floors=floors_table(found), tools=tools_table(found), tool_goals=tool_goals(found),
+        cases='{:,}'.format(found['cases']), calls=calls_table(found), causes=causes(found), floors=floors_table(found), tools=tools_table(found), tool_goals=tool_goals(found),
         capacities=', '.join('%s: %d' % (r['name'], r['capacity']) for r in found['tools']),
         growth=growth_table(found), stack=stack_table(found), sizes=sizes_table(found)))
