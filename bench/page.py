@@ -142,7 +142,7 @@ work: a ratio moves by a tenth from run to run, on plant A and the ring of 16 by
 `bench/peer.c` has the five calls in plain C, with the best algorithms we know: tables filled in place and, but for the numbers of rows between states, never cleared, Bellman–Ford
 relaxation in place in 32 bits, the same search for a cycle by exact lengths, depth-first listing over adjacency lists with bits for the states left and for dead ends, price classes by leading
 zeros. Before measuring, both gave the same answers and left the same in the lent lists on {cases} random inputs, whole and damaged, and on
-every input below. The files are in the cache; no buffer is cleared between two calls. Below 1 the proved call is faster. The goal is 1.2; 1.4 on plant A where weights pass, 2 where a cycle is shown, and 2 for listing.
+every input below. The files are in the cache; no buffer is cleared between two calls. Below 1 the proved call is faster. The goal is 1.2; 1.4 on plant A where weights pass, 2 where a cycle is shown, and 2 for listing. Plant A would miss 1.2, which was its goal before tables were short for short files.
 Both show a cycle with the fewest rows; a program that may show any cycle could take it from the predecessors of the last round, without a search, and this was not measured.
 
 {calls}
