@@ -76,11 +76,20 @@ static size_t relax(const int16_t *edges, size_t count, int64_t n, int64_t *heig
     return last;
 }
 
-static int decide(const int16_t *edges, size_t count, unsigned states, int64_t n) {
-    int64_t heights[64] = {0};
+static int decide_from(const int16_t *edges, size_t count, unsigned states, int64_t n, int64_t *heights) {
+    needed(heights);
     for (unsigned k = 0; k < states; k++)
         if (relax(edges, count, n, heights) == count) return 1;
     return 0;
+}
+
+static int decide(const int16_t *edges, size_t count, unsigned states, int64_t n) {
+    if (states <= 8) {
+        int64_t heights[8] = {0};
+        return decide_from(edges, count, states, n, heights);
+    }
+    int64_t heights[64] = {0};
+    return decide_from(edges, count, states, n, heights);
 }
 
 #define ORIGIN ((int64_t)1 << 40)

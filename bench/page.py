@@ -1,6 +1,13 @@
 """The page docs/benchmarks.md, from what bench/run measured. A cause is printed only where its goal is missed."""
 import textwrap
 
+# How far whole runs lie apart. Look again when the crates have changed.
+RUNS = (
+    'Two full runs, one after the other, of which this page has the second; between them only `bench/floor.c` changed. The first had, for plant A, 1.34 '
+    'where weights pass, 1.91 where a cycle is shown and 1.23 for quoting; at the limits 1.14 for weighing that passes and for quoting, 1.13 for a refusal '
+    'with 22. The other rows against C differ by a sixth at most. The goal on plant A was 1.2 before tables were short for short files: the first run '
+    'misses it in all three rows, the second where a cycle is shown.')
+
 # Why a goal is missed: for keys of bench/run that begin with the first word. The evidence is from `perf` and from the machine
 # code (`objdump -d dist/libhemtaluq.a`) of the library at the time of writing; look again when the crates have changed.
 DECIDING = (
@@ -142,12 +149,14 @@ work: a ratio moves by a tenth from run to run, on plant A and the ring of 16 by
 `bench/peer.c` has the five calls in plain C, with the best algorithms we know: tables filled in place and, but for the numbers of rows between states, never cleared, Bellman–Ford
 relaxation in place in 32 bits, the same search for a cycle by exact lengths, depth-first listing over adjacency lists with bits for the states left and for dead ends, price classes by leading
 zeros. Before measuring, both gave the same answers and left the same in the lent lists on {cases} random inputs, whole and damaged, and on
-every input below. The files are in the cache; no buffer is cleared between two calls. Below 1 the proved call is faster. The goal is 1.2; 1.4 on plant A where weights pass, 2 where a cycle is shown, and 2 for listing. Plant A would miss 1.2, which was its goal before tables were short for short files.
+every input below. The files are in the cache; no buffer is cleared between two calls. Below 1 the proved call is faster. The goal is 1.2; 1.4 on plant A where weights pass, 2 where a cycle is shown, and 2 for listing.
 Both show a cycle with the fewest rows; a program that may show any cycle could take it from the predecessors of the last round, without a search, and this was not measured.
 
 {calls}
 
 {causes}
+
+{runs}
 
 In Rattle every array has contents from the start, so a call clears its tables where C leaves them as they are. `bench/floor.c` is weighing in C with
 the arrays and the algorithms of the proved call, each array cleared by `memset` as there.
@@ -202,6 +211,6 @@ def folded(text):
 def page(found):
     return folded(PAGE.format(
         fast=found['reps'][0], slow=found['reps'][1], gcc=found['gcc'], spin=found['spin'], glpsol=found['glpsol'].split(',')[0],
-        cases='{:,}'.format(found['cases']), calls=calls_table(found), causes=causes(found), floors=floors_table(found), tools=tools_table(found), tool_goals=tool_goals(found),
+        cases='{:,}'.format(found['cases']), calls=calls_table(found), causes=causes(found), runs=RUNS, floors=floors_table(found), tools=tools_table(found), tool_goals=tool_goals(found),
         capacities=', '.join('%s: %d' % (r['name'], r['capacity']) for r in found['tools']),
         growth=growth_table(found), stack=stack_table(found), sizes=sizes_table(found)))
