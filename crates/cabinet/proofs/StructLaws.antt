@@ -28,7 +28,7 @@ use Rattle.cycle_sets.specs.Answers as ConfirmingAnswers
 use Rattle.cycle_sets.specs.Confirming.{owed, ReadsBalanced}
 use Rattle.cycle_sets.specs.declared.Confirmation.{Confirmation}
 use Rattle.cycle_sets.specs.declared.Confirmation.the-variants as Variants
-use Rattle.cycle_sets.proofs.SizeLaws.{size-fits}
+use Rattle.set_sums.proofs.SizeLaws.{size-fits}
 use Rattle.cycle_sets.proofs.AnswerLaws.{negative-bounded}
 use Rattle.cabinet.specs.Structs.{readStruct, weighStruct, quoteStruct, listStruct, confirmStruct, WeighedAs, QuotedAs}
 

@@ -11,7 +11,8 @@ use Rattle.livelock.proofs.BasicExamples.{panelAndProbe, plantA, plantB}
 use Rattle.plant.specs.Reading.{byteAt, byteThat, byteIn, mapByte, stateField, typeField, readRow, readRows, rowsByte, readMachine, readMachines, readPlant}
 use Rattle.plant.proofs.BasicExamples.{panelAndProbeFile}
 use Rattle.cycle_sets.specs.Answers.{Answer, confirmed, negative, refused}
-use Rattle.set_entries.specs.Sets.{numberIn, rowsAt, entryEnds, entryAt, entryBegins, entriesAt, readSet}
+use Rattle.set_numbers.specs.Numbers.{numberIn, rowsAt, entryBegins}
+use Rattle.set_entries.specs.Sets.{entryEnds, entryAt, entriesAt, readSet}
 use Rattle.cycle_sets.specs.Confirming.{lowestNegative, setAnswer, owed}
 
 -- The answer that is owed for a plant and a list.

@@ -2,8 +2,6 @@
 pub mod BasicExamples
 pub mod TableLaws
 pub mod SetLaws
-pub mod SizeLaws
-pub mod AddingLaws
 pub mod LowestLaws
 pub mod ConfirmingLaws
 pub mod AnswerLaws

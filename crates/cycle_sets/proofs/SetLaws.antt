@@ -1,6 +1,6 @@
 -- Laws of a set: the entries one after the other, with their sums.
 use mathlib.Core.Path.{_≡_, refl, sym, ap, _∙_, subst}
-use mathlib.Core.Bool.{cond}
+use mathlib.Core.Bool.{_&&_, cond}
 use mathlib.Core.List.{List, [], _∷_, _++_}
 use Prim.Native.Nat.{ℕ, zero, suc, _+_, _-_, _*_, _≤_, _<_}
 use native.Mathlib.Omega.{arith}
@@ -14,6 +14,7 @@ use Rattle.livelock.specs.Cycles.{messagesSent, messagesTaken}
 use Rattle.livelock.specs.CycleSets.{Entry, setEffect}
 use Rattle.livelock.proofs.ListLaws.{getD-replicate-default}
 use Rattle.livelock.proofs.SumLaws.{sum-append}
+use Rattle.livelock.proofs.Tests.{both-iff, less-iff}
 use Rattle.livelock.proofs.Differences.{Difference, difference-shift}
 use Rattle.livelock.proofs.CycleSetLaws.{setSent, setTaken, set-difference}
 use Rattle.plant.specs.Found.{found, fault, andThen}
@@ -22,10 +23,13 @@ use Rattle.decoding.specs.declared.Shape.{Shape}
 use Rattle.plant.specs.declared.Fault.{Fault}
 use Rattle.plant.specs.declared.End.the-variants as Ends
 use Rattle.decoding.proofs.TableLaws.{rows-counted}
-use Rattle.set_entries.specs.Sets.{entryAt, entryBegins, entriesAt, readSet}
-use Rattle.set_entries.specs.Entries.{part, RowsThere, entryIn}
-use Rattle.cycle_sets.specs.Inner.Sums.{Within, having, Added, SumsOf, JudgedAs, entries-read, fault-met}
-use Rattle.set_entries.proofs.NumberLaws.{begins-within, part-length, part-below}
+use Rattle.set_numbers.specs.Numbers.{entryBegins, part}
+use Rattle.set_entries.specs.Sets.{entryAt, entriesAt, readSet}
+use Rattle.set_entries.specs.Entries.{RowsThere, entryIn}
+use Rattle.set_sums.specs.Sums.{Within, having, Added}
+use Rattle.cycle_sets.specs.Inner.Judging.{SumsOf, JudgedAs, entries-read, fault-met}
+use Rattle.set_numbers.proofs.FoundLaws.{tested, place-same}
+use Rattle.set_entries.proofs.PartLaws.{part-length, part-below}
 use Rattle.set_entries.proofs.EntryLaws.{EntryRead, entry-read}
 use Rattle.cycle_sets.proofs.TableLaws.{sent-is, taken-is}
 
@@ -44,6 +48,14 @@ unfolding sum
 entry-added f es e = omega (arith, sum-append (λ x. x .repeats * f (x .cycle)) es (e ∷ []))
 
 -- ---- the entries one after the other
+
+-- Where an entry begins, the list has its first number and entries may come.
+pub begins-within : (n : ℕ) (set : List ℕ) (at next : ℕ) → entryBegins n set at ≡ found tt next → (at < length set) × (0 < n) × (next ≡ at)
+unfolding entryBegins
+begins-within n set at next e =
+    let t = tested (ltb at (length set) && ltb 0 n) (found tt at) 18 at tt next e in
+    let b = both-iff _ _ (less-iff at (length set)) (less-iff 0 n) .0 (t .0) in
+    (b .0, b .1, sym (place-same (t .1)))
 
 module _ (P : Plant) (set : List ℕ) (es : List Entry) (at : ℕ) where
   -- No entry begins.

@@ -16,7 +16,7 @@ use Rattle.decoding.specs.Tables.{plantOf, Ready}
 use Rattle.decoding.specs.declared.Shape.{Shape}
 use Rattle.decoding.proofs.TableLaws.{rows-counted, machines-counted, plant-row-is}
 use Rattle.set_entries.specs.Entries.{TableOf}
-use Rattle.cycle_sets.specs.Inner.Sums.{having}
+use Rattle.set_sums.specs.Sums.{having}
 
 -- The states of a row are bytes: a machine has at most 64.
 left-byte : (P : Plant) → WithinLimits P → (k : ℕ) → k < rowCount P → rowAt P k .left < 256

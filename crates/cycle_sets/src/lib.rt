@@ -1,9 +1,9 @@
 // Confirming cycle sets: the entries are judged one by one, and their effects are added.
 ghost use mathlib.Core.Path.{_≡_};
 ghost use mathlib.Core.Logic.{_↔_};
-ghost use Prim.Native.Nat.{_+_, _-_, _^_, _≤_, _<_, min};
+ghost use Prim.Native.Nat.{_≤_, min};
 ghost use lib.ListN.{length, getD};
-ghost use lib.IntN.{pos, natAbs};
+ghost use lib.IntN.{pos};
 ghost use Rattle.plant.specs.Reading.{readPlant};
 ghost use Rattle.plant.specs.Limits.{WithinLimits};
 ghost use Rattle.tables.specs.Tables.{RoomFor};
@@ -11,8 +11,7 @@ ghost use Rattle.decoding.specs.Tables.{plantOf, Ready};
 ghost use Rattle.set_entries.specs.Sets.{readSet};
 ghost use Rattle.cycle_sets.specs.Answers.{answerOf, confirmed};
 ghost use Rattle.cycle_sets.specs.Confirming.{lowestNegative, owed, ReadsBalanced};
-ghost use Rattle.set_entries.specs.Entries.{part, RowsThere};
-ghost use Rattle.cycle_sets.specs.Inner.Sums.{raised, Within, Added, JudgedAs};
+ghost use Rattle.cycle_sets.specs.Inner.Judging.{JudgedAs};
 use decoding::Shape;
 use plant::End;
 use plant::Fault;
@@ -28,43 +27,6 @@ pub enum Confirmation {
 struct JudgedSet {
     end: End,
     sums: [i64; 64],
-}
-
-// Adds a number to the sum of a type; 64 stands for no type, and then no sum changes.
-fn add_to(sums: &mut [i64; 64], message: u8, change: i64)
-    requires { ⌜ Within (2 ^ 62) (now sums) × (natAbs change ≤ 1000000) ⌝ }
-    ensures { λ r. ⌜ now (sums .exit) ≡ raised (now (sums .entry)) message change ⌝ }
-{
-    if message >= 64 {
-        return;
-    }
-    let t = message as usize;
-    sums[t] = sums[t] + change;
-}
-
-// The sums with what the rows at `at` up to `end` send, less what they take, added so many times.
-fn add_rows(table: &[u8], set: &[u32], at: usize, end: usize, repeats: u32, sums: &mut [i64; 64])
-    requires { ⌜ (at ≤ end) × RowsThere (now table) (now set) at end × (end ≤ at + 64) × (repeats ≤ 1000000) × Within (2 ^ 61) (now sums) × (length (now sums) ≡ 64) ⌝ }
-    ensures { λ r. ⌜ Added (now (table .entry)) repeats (part (now (set .entry)) at end) (now (sums .entry)) (now (sums .exit)) ⌝ }
-{
-    let times = repeats as i64;
-    let mut i = at;
-    while i < end {
-        let k = set[i] as usize;
-        let sent = tables::sent_of(table, k);
-        let taken = tables::taken_of(table, k);
-        add_to(sums, sent, times);
-        add_to(sums, taken, -times);
-        i += 1;
-    }
-}
-
-// The sums with the effect of the entry at `first` up to `end` added as many times as it says.
-fn add_entry(table: &[u8], set: &[u32], first: usize, end: usize, sums: &mut [i64; 64])
-    requires { ⌜ (first + 3 ≤ end) × RowsThere (now table) (now set) (first + 3) end × (end ≤ first + 67) × (getD (now set) (first + 1) 0 ≤ 1000000) × Within (2 ^ 61) (now sums) × (length (now sums) ≡ 64) ⌝ }
-    ensures { λ r. ⌜ Added (now (table .entry)) (getD (now (set .entry)) (first + 1) 0) (part (now (set .entry)) (first + 3) end) (now (sums .entry)) (now (sums .exit)) ⌝ }
-{
-    add_rows(table, set, first + 3, end, set[first + 1], sums);
 }
 
 // The lowest type with a negative sum, and that sum.
@@ -92,7 +54,7 @@ fn judge_set(table: &[u8], shape: Shape, set: &[u32]) -> JudgedSet
     let mut at = 0;
     let mut before = 0;
     let end = 'entries: loop {
-        let begin = set_entries::entry_begins(set, at, before);
+        let begin = set_numbers::entry_begins(set, at, before);
         match begin {
             End::Fault(fault) => break 'entries End::Fault(fault),
             End::At(_) => {}
@@ -107,7 +69,7 @@ fn judge_set(table: &[u8], shape: Shape, set: &[u32]) -> JudgedSet
         match entry {
             End::Fault(fault) => break 'entries End::Fault(fault),
             End::At(next) => {
-                add_entry(table, set, at, next, &mut sums);
+                set_sums::add_entry(table, set, at, next, &mut sums);
                 at = next;
             }
         }

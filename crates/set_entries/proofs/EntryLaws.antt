@@ -14,11 +14,14 @@ use Rattle.plant.specs.Found.{Found, found, fault, andThen}
 use Rattle.plant.specs.declared.End.{End}
 use Rattle.plant.specs.declared.End.the-variants as Ends
 use Rattle.tables.specs.Tables.{rowIn}
-use Rattle.set_entries.specs.Sets.{numberIn, rowsAt, isQuietCycleOf, entryEnds, entryAt}
-use Rattle.set_entries.specs.Entries.{valueFound, part, NumbersBelow, TableOf, entryIn}
-use Rattle.set_entries.specs.Inner.Steps.{leads, firstNumbers, JudgedEnd}
-use Rattle.set_entries.proofs.FoundLaws.{chained, three-stop, tested, value-same, place-same}
-use Rattle.set_entries.proofs.NumberLaws.{number-read, RowsRead, rows-read, part-length, part-below}
+use Rattle.set_numbers.specs.Numbers.{numberIn, rowsAt, firstNumbers, valueFound, part}
+use Rattle.set_entries.specs.Sets.{isQuietCycleOf, entryEnds, entryAt}
+use Rattle.set_entries.specs.Entries.{NumbersBelow, TableOf, entryIn}
+use Rattle.set_entries.specs.Inner.Steps.{leads, JudgedEnd}
+use Rattle.set_numbers.proofs.FoundLaws.{tested, value-same, place-same}
+use Rattle.set_numbers.proofs.NumberLaws.{number-read, settled}
+use Rattle.set_entries.proofs.ChainLaws.{chained, three-stop}
+use Rattle.set_entries.proofs.PartLaws.{RowsRead, rows-read, part-length, part-below}
 use Rattle.set_entries.proofs.CycleTestLaws.{leads-is}
 
 -- ---- the test of the rows in the list
@@ -60,30 +63,7 @@ module _ (c : List ℕ) (set : List ℕ) (at end : ℕ) (some : at + 3 < end) (b
 abbrev countAt : List ℕ → ℕ → ℕ
 countAt set at = getD set (at + 2) 0
 
--- A number that was read at an index that is known.
-pub settled : (set : List ℕ) (low end i j v n k : ℕ) → numberIn low end set i ≡ found v n → i ≡ j → k ≡ j + 1 → (numberIn low end set j ≡ found (getD set j 0) k) × (n ≡ k)
-settled set low end i j v n k h p q =
-    let r = number-read low end set i v n h in
-    let e : n ≡ k = omega (arith, r .next-is) in
-    (subst (λ (x : ℕ). numberIn low end set x ≡ found (getD set x 0) k) p (h ∙ rw (r .is, e)), e)
-
 module _ (machines : ℕ) (set : List ℕ) (at : ℕ) where
-  -- A fault at the machine is the fault of the first three numbers,
-  pub no-machine : (number place : ℕ) → numberIn 0 machines set at ≡ fault number place → fault number place ≡ firstNumbers machines set at
-  unfolding firstNumbers
-  no-machine number place h = rw h
-
-  module _ (first : numberIn 0 machines set at ≡ found (getD set at 0) (at + 1)) where
-    -- so is one at the repeats,
-    pub no-repeats : (number place : ℕ) → numberIn 1 1000001 set (at + 1) ≡ fault number place → fault number place ≡ firstNumbers machines set at
-    unfolding firstNumbers
-    no-repeats number place h = rw (first, h)
-
-    -- and behind both stands the row count.
-    pub count-next : numberIn 1 1000001 set (at + 1) ≡ found (getD set (at + 1) 0) (at + 2) → numberIn 1 65 set (at + 2) ≡ firstNumbers machines set at
-    unfolding firstNumbers
-    count-next second = rw (first, second)
-
   -- The first three numbers, once they are read.
   pub record ThreeRead : Type 0 where
     pub first : numberIn 0 machines set at ≡ found (getD set at 0) (at + 1)

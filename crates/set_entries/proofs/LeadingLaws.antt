@@ -8,9 +8,10 @@ use lib.Dec.{eqb}
 use lib.ListN as Cells
 use lib.ListN.{length, getD}
 use Rattle.tables.specs.Tables.{rowIn}
-use Rattle.set_entries.specs.Entries.{part}
+use Rattle.set_numbers.specs.Numbers.{part}
 use Rattle.set_entries.specs.Inner.Steps.{goesOn, leads}
-use Rattle.set_entries.proofs.NumberLaws.{part-first, part-empty}
+use Rattle.set_numbers.proofs.NumberLaws.{part-empty}
+use Rattle.set_entries.proofs.PartLaws.{part-first}
 
 module _ (c : List ℕ) (set : List ℕ) (m goal s : ℕ) (seen : List Bool) (i end : ℕ) (x : Bool) (rest : leads c m goal s seen (part set i end) ≡ x) where
   module _ (more : i < end) (there : end ≤ length set) (b : Bool) (is : b ≡ goesOn (rowIn c (getD set i 0)) m s seen) where

@@ -1,6 +1,6 @@
 -- Laws of the entries of a cycle set.
-pub mod FoundLaws
-pub mod NumberLaws
+pub mod ChainLaws
+pub mod PartLaws
 pub mod LeadingLaws
 pub mod CycleTestLaws
 pub mod EntryLaws

@@ -1,25 +1,14 @@
--- The numbers of an entry, the table that its rows are judged by, and what judging it gives.
+-- The entry that numbers make up, the table that its rows are judged by, and what judging it gives.
 use mathlib.Core.Path.{_≡_}
 use mathlib.Core.List.{List}
-use Prim.Native.Nat.{ℕ, _+_, _-_, _≤_, _<_}
-use lib.ListN.{length, getD, take, drop}
+use Prim.Native.Nat.{ℕ, _+_, _≤_, _<_}
+use lib.ListN.{length, getD}
 use Rattle.livelock.specs.Plants.{Plant, rowAt, rowCount, machineCount}
 use Rattle.livelock.specs.CycleSets.{Entry}
-use Rattle.plant.specs.Found.{Found, found}
-use Rattle.plant.specs.Steps.{faultFound}
 use Rattle.plant.specs.declared.End.{End}
-use Rattle.plant.specs.declared.End.the-variants as Ends
 use Rattle.tables.specs.Tables.{rowIn, RoomFor}
+use Rattle.set_numbers.specs.Numbers.{valueFound, part}
 use Rattle.set_entries.specs.Sets.{entryAt}
-
--- What an end says of a value: that it was read, up to an index, or the fault.
-abbrev pub valueFound : {A : Type 0} → A → End → Found A
-valueFound a (Ends.At next) = found a next
-valueFound a (Ends.Fault f) = faultFound f
-
--- The numbers of a list from index a up to, and not including, b.
-abbrev pub part : List ℕ → ℕ → ℕ → List ℕ
-part set a b = take (b - a) (drop a set)
 
 -- The list has the numbers from index a up to, and not including, b, and each is below a limit.
 pub record NumbersBelow (limit : ℕ) (set : List ℕ) (a b : ℕ) : Type 0 where

@@ -21,7 +21,8 @@ use Rattle.quoting.specs.Quoting.{checkedAmounts, checkedContents, judged}
 use Rattle.cycle_paths.specs.Listings.{flattened}
 use Rattle.cycle_paths.specs.Cycles.{joined, selected, unleft, paths, cyclesThrough}
 use Rattle.listing.specs.Listing as Listing
-use Rattle.set_entries.specs.Sets.{numberIn, rowsAt, entryEnds, entryAt, entryBegins, entriesAt}
+use Rattle.set_numbers.specs.Numbers.{numberIn, rowsAt, entryBegins}
+use Rattle.set_entries.specs.Sets.{entryEnds, entryAt, entriesAt}
 use Rattle.cycle_sets.specs.Confirming.{lowestNegative}
 use Rattle.worked_examples.specs.Files.{fileA, oneState, oneRow}
 use Rattle.worked_examples.specs.Table.{Examples}

@@ -18,7 +18,8 @@ use Rattle.plant.specs.Found.{found}
 use Rattle.plant.specs.Reading.{byteAt, byteThat, byteIn, mapByte, stateField, typeField, readRow, readRows, rowsByte, readMachine, readMachines, readPlant}
 use Rattle.weighing.specs.Weighing.{firstAbove}
 use Rattle.cycle_sets.specs.Answers.{confirmed}
-use Rattle.set_entries.specs.Sets.{numberIn, rowsAt, entryEnds, entryAt, entryBegins, entriesAt}
+use Rattle.set_numbers.specs.Numbers.{numberIn, rowsAt, entryBegins}
+use Rattle.set_entries.specs.Sets.{entryEnds, entryAt, entriesAt}
 use Rattle.cycle_sets.specs.Confirming.{lowestNegative}
 use Rattle.cycle_sets.proofs.ConfirmingLaws.{confirmed-iff}
 use Rattle.worked_examples.specs.Files.{clients, twoClients, twoClientsInTurn}

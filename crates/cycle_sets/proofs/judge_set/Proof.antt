@@ -5,8 +5,9 @@ use native.Mathlib.Omega.{arith}
 use Rattle.plant.specs.Found.{found}
 use Rattle.decoding.specs.Tables.{plantOf}
 use Rattle.plant.proofs.Told.{told}
-use Rattle.set_entries.specs.Sets.{entryBegins, entryAt}
-use Rattle.set_entries.specs.Entries.{valueFound, entryIn}
+use Rattle.set_numbers.specs.Numbers.{entryBegins, valueFound}
+use Rattle.set_entries.specs.Sets.{entryAt}
+use Rattle.set_entries.specs.Entries.{entryIn}
 use Rattle.cycle_sets.proofs.TableLaws.{table-of, machines-are}
 use Rattle.cycle_sets.proofs.SetLaws.{Going, begun, no-entry, more, entry-stops, read, rows-there, turn, finished}
 use borrow.Author.Needs.{needs}

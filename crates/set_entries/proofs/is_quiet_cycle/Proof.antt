@@ -9,7 +9,7 @@ use lib.ListN.{length, getD, replicate, length-set}
 use borrow.Author.Tests.{not-true, not-false}
 use Rattle.livelock.specs.Plants.{Row}
 use Rattle.tables.specs.Tables.{RoomFor}
-use Rattle.set_entries.specs.Entries.{part}
+use Rattle.set_numbers.specs.Numbers.{part}
 use Rattle.set_entries.specs.Inner.Steps.{goesOn, leads}
 use Rattle.set_entries.proofs.LeadingLaws.{row-fails, row-passes, rows-done}
 use borrow.Author.Needs.{needs}

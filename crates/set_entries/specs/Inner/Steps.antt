@@ -7,11 +7,11 @@ use lib.Dec.{eqb}
 use lib.ListN as Cells
 use lib.ListN.{getD}
 use Rattle.livelock.specs.Plants.{Row, Plant, isQuiet}
-use Rattle.plant.specs.Found.{Found, andThen}
 use Rattle.plant.specs.declared.End.{End}
-use Rattle.set_entries.specs.Sets.{numberIn, entryEnds}
+use Rattle.set_numbers.specs.Numbers.{valueFound}
+use Rattle.set_entries.specs.Sets.{entryEnds}
 use Rattle.tables.specs.Tables.{rowIn}
-use Rattle.set_entries.specs.Entries.{valueFound, NumbersBelow, TableOf, entryUpTo}
+use Rattle.set_entries.specs.Entries.{NumbersBelow, TableOf, entryUpTo}
 
 -- Whether a row is a quiet row of machine m that leaves state s, which is not marked as left.
 abbrev pub goesOn : Row → (m s : ℕ) (seen : List Bool) → Bool
@@ -21,10 +21,6 @@ goesOn r m s seen = eqb (r .machine) m && (isQuiet r && (eqb (r .left) s && not 
 unfoldable pub leads : List ℕ → (m end s : ℕ) (seen : List Bool) (rows : List ℕ) → Bool
 leads table m end s seen [] = eqb s end
 leads table m end s seen (k ∷ ks) = goesOn (rowIn table k) m s seen && leads table m end (rowIn table k .entered) (Cells.set seen s true) ks
-
--- "machine, repeats (1 to 1,000,000), row count (1 to 64)": the first three numbers of the entry at an index, of which the row count is handed on.
-unfoldable pub firstNumbers : ℕ → List ℕ → ℕ → Found ℕ
-firstNumbers machines set at = andThen (numberIn 0 machines set at) (λ m a. andThen (numberIn 1 1000001 set a) (λ repeats b. numberIn 1 65 set b))
 
 -- The end r is what is judged where that entry ends, in every plant with this table that has its rows.
 abbrev pub JudgedEnd : List ℕ → List ℕ → (at end : ℕ) → End → Type 0

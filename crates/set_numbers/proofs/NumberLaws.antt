@@ -1,22 +1,17 @@
--- Laws of the numbers of a set: where an entry begins, one number, and the row numbers one after the other.
+-- Laws of the numbers of a set: where an entry begins, one number, the row numbers one after the other, and the first three of an entry.
 use mathlib.Core.Path.{_≡_, refl, sym, ap, _∙_, subst}
-use mathlib.Core.Bool.{_&&_}
 use mathlib.Core.List.{List, [], _∷_, _++_, append-assoc, append-nil}
-use Prim.Native.Nat.{ℕ, zero, suc, _+_, _-_, _≤_, _<_}
-use native.Mathlib.Decide.{ℕ-discrete}
-use native.Mathlib.Numerals.{add-one}
+use Prim.Native.Nat.{ℕ, suc, _+_, _-_, _≤_, _<_}
 use native.Mathlib.Omega.{arith}
 use lib.Dec.{ltb}
-use lib.ListN.{length, getD, drop, length-take, length-drop}
-use lib.Seq.{drop-cons, take-suc, getD-drop}
+use lib.ListN.{length, getD, drop, length-drop}
+use lib.Seq.{take-suc, getD-drop}
 use borrow.Author.Tests.{lt-ltb, le-ltb, le-leb, lt-leb}
-use Rattle.livelock.specs.Lists.{All}
 use Rattle.livelock.proofs.Tests.{both-iff, at-most-iff, less-iff}
 use Rattle.plant.specs.Found.{Found, found, fault, andThen}
 use Rattle.plant.specs.Reading.{inRange}
-use Rattle.set_entries.specs.Sets.{numberIn, rowsAt, entryBegins}
-use Rattle.set_entries.specs.Entries.{part, NumbersBelow}
-use Rattle.set_entries.proofs.FoundLaws.{Chained, chained, tested, value-same, place-same, read-on}
+use Rattle.set_numbers.specs.Numbers.{numberIn, rowsAt, firstNumbers, entryBegins, part}
+use Rattle.set_numbers.proofs.FoundLaws.{tested, value-same, place-same, read-on}
 
 -- ---- where an entry begins
 
@@ -35,14 +30,6 @@ module _ (n : ℕ) (set : List ℕ) (at : ℕ) where
   pub entry-comes : at < length set → 0 < n → found tt at ≡ entryBegins n set at
   unfolding entryBegins
   entry-comes h l = rw (lt-ltb at (length set) h, lt-ltb 0 n l)
-
-  -- Where an entry begins, the list has its first number and entries may come.
-  pub begins-within : (next : ℕ) → entryBegins n set at ≡ found tt next → (at < length set) × (0 < n) × (next ≡ at)
-  unfolding entryBegins
-  begins-within next e =
-      let t = tested (ltb at (length set) && ltb 0 n) (found tt at) 18 at tt next e in
-      let b = both-iff _ _ (less-iff at (length set)) (less-iff 0 n) .0 (t .0) in
-      (b .0, b .1, sym (place-same (t .1)))
 
 -- ---- one number
 
@@ -89,7 +76,7 @@ number-read low end set at v next e =
 
 -- ---- parts of the list
 
--- One number more, as a loop that counts upwards takes it,
+-- One number more, as a loop that counts upwards takes it.
 pub part-next : (set : List ℕ) (a i : ℕ) → a ≤ i → i < length set → part set a (i + 1) ≡ part set a i ++ (getD set i 0 ∷ [])
 part-next set a i h l =
     let n : i + 1 - a ≡ suc (i - a) = omega arith in
@@ -97,29 +84,9 @@ part-next set a i h l =
     let e : a + (i - a) ≡ i = omega arith in
     rw (n, take-suc (drop a set) (i - a) 0 b, getD-drop a set (i - a) 0, e)
 
--- and the first number of a part.
-pub part-first : (set : List ℕ) (i end : ℕ) → i < end → i < length set → part set i end ≡ getD set i 0 ∷ part set (i + 1) end
-part-first set i end h l =
-    let n : end - i ≡ suc (end - (i + 1)) = omega arith in
-    rw (n, add-one i, drop-cons set i 0 l)
-
--- A part up to its first index is empty,
+-- A part up to its first index is empty.
 pub part-empty : (set : List ℕ) (a b : ℕ) → b ≤ a → part set a b ≡ []
 part-empty set a b h = let e : b - a ≡ 0 = omega arith in rw e
-
--- and one that the list has is as long as its indices say.
-pub part-length : (set : List ℕ) (a b : ℕ) → b ≤ length set → length (part set a b) ≡ b - a
-part-length set a b h = omega (arith, length-take (b - a) (drop a set), length-drop a set)
-
--- The numbers of a part are below the limit.
-pub part-below : (limit : ℕ) (set : List ℕ) (n a b : ℕ) → a + n ≡ b → NumbersBelow limit set a b → All (λ k. k < limit) (part set a b)
-unfolding All
-part-below limit set zero a b e h = rw (part-empty set a b (omega arith)) tt
-part-below limit set (suc n) a b e h =
-    rw (part-first set a b (omega arith) (omega (arith, h .there))) (
-      h .small a (omega arith) (omega arith),
-      part-below limit set n (a + 1) b (omega arith) (record { there = h .there; small = λ i p q. h .small i (omega arith) q }),
-    )
 
 -- ---- row numbers
 
@@ -162,41 +129,28 @@ module _ (rows : ℕ) (set : List ℕ) (at end : ℕ) where
     unfolding rowsAt
     rows-end e = let z : end - i ≡ 0 = omega arith in subst (λ (x : ℕ). found (part set at x) i ≡ rowsAt (end - at) rows set at) e (rw (z, append-nil (part set at i)) at h)
 
--- What row numbers that were found are.
-pub record RowsRead (n rows : ℕ) (set : List ℕ) (at : ℕ) (ks : List ℕ) (next : ℕ) : Type 0 where
-  pub next-is : next ≡ at + n
-  pub are : ks ≡ part set at (at + n)
-  pub below : NumbersBelow rows set at (at + n)
+-- ---- the first three numbers of an entry
 
--- One number and the rest.
-rows-joined : (n rows : ℕ) (set : List ℕ) (at : ℕ) (ks : List ℕ) (next : ℕ)
-    → Chained (numberIn 0 rows set at) (λ k a. andThen (rowsAt n rows set a) (λ js last. found (k ∷ js) last)) ks next
-    → ((js : List ℕ) (last : ℕ) → at + 1 ≤ length set → rowsAt n rows set (at + 1) ≡ found js last → RowsRead n rows set (at + 1) js last)
-    → RowsRead (suc n) rows set at ks next
-rows-joined n rows set at ks next c rest =
-    let k = number-read 0 rows set at (c .value) (c .next) (c .first) in
-    let d = chained (rowsAt n rows set (c .next)) (λ js last. found (c .value ∷ js) last) ks next (c .second) in
-    let r = rest (d .value) (d .next) (omega (arith, k .there)) (subst (λ (a : ℕ). rowsAt n rows set a ≡ found (d .value) (d .next)) (k .next-is) (d .first)) in
-    record {
-      next-is = omega (arith, place-same (d .second), r .next-is);
-      are = sym (value-same (d .second)) ∙ one-and-rest (k .there) (k .is) (r .are);
-      below = record { there = omega (arith, r .below .there); small = λ i p q. each i p q (k .is) (k .below-end) (r .below) (ℕ-discrete i at) };
-    }
-  where
-    one-and-rest : {v : ℕ} {js : List ℕ} → at < length set → v ≡ getD set at 0 → js ≡ part set (at + 1) (at + 1 + n) → v ∷ js ≡ part set at (at + suc n)
-    one-and-rest l e q = let same : at + suc n ≡ at + 1 + n = omega arith in rw (e, q, same, part-first set at (at + 1 + n) (omega arith) l)
+-- A number that was read at an index that is known.
+pub settled : (set : List ℕ) (low end i j v n k : ℕ) → numberIn low end set i ≡ found v n → i ≡ j → k ≡ j + 1 → (numberIn low end set j ≡ found (getD set j 0) k) × (n ≡ k)
+settled set low end i j v n k h p q =
+    let r = number-read low end set i v n h in
+    let e : n ≡ k = omega (arith, r .next-is) in
+    (subst (λ (x : ℕ). numberIn low end set x ≡ found (getD set x 0) k) p (h ∙ rw (r .is, e)), e)
 
-    each : (i : ℕ) → at ≤ i → i < at + suc n → {v : ℕ} → v ≡ getD set at 0 → v < rows → NumbersBelow rows set (at + 1) (at + 1 + n) → Dec (i ≡ at) → getD set i 0 < rows
-    each i p q e l h (yes z) = rw z (omega (arith, e, l))
-    each i p q e l h (no z) = h .small i (omega arith) (omega arith)
+module _ (machines : ℕ) (set : List ℕ) (at : ℕ) where
+  -- A fault at the machine is the fault of the first three numbers,
+  pub no-machine : (number place : ℕ) → numberIn 0 machines set at ≡ fault number place → fault number place ≡ firstNumbers machines set at
+  unfolding firstNumbers
+  no-machine number place h = rw h
 
--- By induction on how many there are.
-pub rows-read : (n rows : ℕ) (set : List ℕ) (at : ℕ) (ks : List ℕ) (next : ℕ) → at ≤ length set → rowsAt n rows set at ≡ found ks next → RowsRead n rows set at ks next
-unfolding rowsAt
-rows-read zero rows set at ks next l e =
-    record {
-      next-is = omega (arith, place-same e);
-      are = sym (value-same e) ∙ sym (part-empty set at (at + 0) (omega arith));
-      below = record { there = omega arith; small = λ i p q. absurd (omega arith) };
-    }
-rows-read (suc n) rows set at ks next l e = rows-joined n rows set at ks next (chained _ _ ks next e) (λ js last m q. rows-read n rows set (at + 1) js last m q)
+  module _ (first : numberIn 0 machines set at ≡ found (getD set at 0) (at + 1)) where
+    -- so is one at the repeats,
+    pub no-repeats : (number place : ℕ) → numberIn 1 1000001 set (at + 1) ≡ fault number place → fault number place ≡ firstNumbers machines set at
+    unfolding firstNumbers
+    no-repeats number place h = rw (first, h)
+
+    -- and behind both stands the row count.
+    pub count-next : numberIn 1 1000001 set (at + 1) ≡ found (getD set (at + 1) 0) (at + 2) → numberIn 1 65 set (at + 2) ≡ firstNumbers machines set at
+    unfolding firstNumbers
+    count-next second = rw (first, second)

@@ -5,12 +5,11 @@ use native.Mathlib.Omega.{arith}
 use lib.ListN.{getD}
 use Rattle.plant.specs.Found.{found}
 use Rattle.plant.proofs.Told.{told}
-use Rattle.set_entries.specs.Sets.{numberIn}
-use Rattle.set_entries.specs.Entries.{valueFound}
-use Rattle.set_entries.proofs.EntryLaws.{settled, no-machine, no-repeats, count-next}
+use Rattle.set_numbers.specs.Numbers.{numberIn, valueFound}
+use Rattle.set_numbers.proofs.NumberLaws.{settled, no-machine, no-repeats, count-next}
 use borrow.Author.Needs.{needs}
-use Rattle.set_entries.proofs.first_numbers.Statement.{statement}
-use Rattle.set_entries.proofs.first_numbers.Tie as tie
+use Rattle.set_numbers.proofs.first_numbers.Statement.{statement}
+use Rattle.set_numbers.proofs.first_numbers.Tie as tie
 
 -- The machine that was read, and the repeats.
 machine-read : (c : tie.After-enum-told) → numberIn 0 (c .before .before .before .before .args .machines) (c .before .before .before .before .args .set .now) (c .before .before .before .before .args .first) ≡ found (getD (c .before .before .before .before .args .set .now) (c .before .before .before .before .args .first) 0) (c .before .before .before .before .args .first + 1)

@@ -1,8 +1,8 @@
 -- `entry_begins` meets its contract: each return is one case of the definition.
 use native.Mathlib.Omega.{arith}
-use Rattle.set_entries.proofs.NumberLaws.{list-ended, entries-full, entry-comes}
-use Rattle.set_entries.proofs.entry_begins.Statement.{statement}
-use Rattle.set_entries.proofs.entry_begins.Tie as tie
+use Rattle.set_numbers.proofs.NumberLaws.{list-ended, entries-full, entry-comes}
+use Rattle.set_numbers.proofs.entry_begins.Statement.{statement}
+use Rattle.set_numbers.proofs.entry_begins.Tie as tie
 
 returns : tie.Need-returns
 returns c = let a = c .before .args in list-ended _ (a .set .now) (a .at) (c .if1 .taken)

@@ -1,7 +1,7 @@
 -- `repeats_in` meets its contract: the limits are those of repeats.
 use borrow.Author.Needs.{needs}
-use Rattle.set_entries.proofs.repeats_in.Statement.{statement}
-use Rattle.set_entries.proofs.repeats_in.Tie as tie
+use Rattle.set_numbers.proofs.repeats_in.Statement.{statement}
+use Rattle.set_numbers.proofs.repeats_in.Tie as tie
 
 number-in-requires : tie.Need-number-in-requires
 number-in-requires c κs = search needs

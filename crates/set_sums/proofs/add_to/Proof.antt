@@ -3,11 +3,11 @@ use mathlib.Core.Path.{sym}
 use native.Mathlib.Omega.{arith}
 use lib.ListN.{getD}
 use lib.IntN.{pos}
-use Rattle.cycle_sets.proofs.SizeLaws.{sum-fits}
-use Rattle.cycle_sets.proofs.AddingLaws.{raised-none, raised-stored}
+use Rattle.set_sums.proofs.SizeLaws.{sum-fits}
+use Rattle.set_sums.proofs.AddingLaws.{raised-none, raised-stored}
 use borrow.Author.Needs.{needs}
-use Rattle.cycle_sets.proofs.add_to.Statement.{statement}
-use Rattle.cycle_sets.proofs.add_to.Tie as tie
+use Rattle.set_sums.proofs.add_to.Statement.{statement}
+use Rattle.set_sums.proofs.add_to.Tie as tie
 
 returns : tie.Need-returns
 returns c = sym (raised-none (c .before .args .sums .now) (c .before .args .message) (c .before .args .change) (omega (arith, c .if1 .taken)))

@@ -20,8 +20,8 @@ use Rattle.livelock.proofs.SumLaws.{sum-append}
 use Rattle.livelock.proofs.Differences.{Difference, difference-shift, difference-plus, difference-neg}
 use Rattle.plant.specs.Steps.{typeOf}
 use Rattle.tables.specs.Tables.{rowIn}
-use Rattle.cycle_sets.specs.Inner.Sums.{raised, Within, having, Added}
-use Rattle.cycle_sets.proofs.SizeLaws.{size-plus, size-neg, sum-is, times-is, less-is}
+use Rattle.set_sums.specs.Sums.{raised, Within, having, Added}
+use Rattle.set_sums.proofs.SizeLaws.{size-plus, size-neg, sum-is, times-is, less-is}
 
 -- 1 where a byte is type t.
 abbrev one : ℕ → ℕ → ℕ

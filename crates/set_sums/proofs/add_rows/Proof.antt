@@ -6,14 +6,15 @@ use native.Mathlib.Omega.{arith}
 use lib.ListN.{length, getD}
 use lib.IntN.{pos, natAbs}
 use Rattle.tables.specs.Tables.{RoomFor}
-use Rattle.set_entries.specs.Entries.{part}
-use Rattle.cycle_sets.specs.Inner.Sums.{Added}
-use Rattle.set_entries.proofs.NumberLaws.{part-next, part-empty, part-length}
-use Rattle.cycle_sets.proofs.SizeLaws.{size-fits, size-neg, times-is, less-fits, less-is}
-use Rattle.cycle_sets.proofs.AddingLaws.{none-added, sent-small, row-stored}
+use Rattle.set_numbers.specs.Numbers.{part}
+use Rattle.set_sums.specs.Sums.{Added}
+use Rattle.set_numbers.proofs.NumberLaws.{part-next, part-empty}
+use Rattle.set_entries.proofs.PartLaws.{part-length}
+use Rattle.set_sums.proofs.SizeLaws.{size-fits, size-neg, times-is, less-fits, less-is}
+use Rattle.set_sums.proofs.AddingLaws.{none-added, sent-small, row-stored}
 use borrow.Author.Needs.{needs}
-use Rattle.cycle_sets.proofs.add_rows.Statement.{statement}
-use Rattle.cycle_sets.proofs.add_rows.Tie as tie
+use Rattle.set_sums.proofs.add_rows.Statement.{statement}
+use Rattle.set_sums.proofs.add_rows.Tie as tie
 
 abbrev Inv-loop : tie.InvT-loop
 Inv-loop table set at end repeats sums₀ times i₀ sums i = (times ≡ repeats) × (at ≤ i) × (i ≤ end) × Added table repeats (part set at i) sums₀ sums

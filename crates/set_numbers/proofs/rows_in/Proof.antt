@@ -5,11 +5,11 @@ use native.Mathlib.Nat.{le-refl}
 use native.Mathlib.Omega.{arith}
 use lib.ListN.{getD}
 use Rattle.plant.proofs.Told.{told}
-use Rattle.set_entries.specs.Entries.{valueFound}
-use Rattle.set_entries.proofs.NumberLaws.{number-missing, NumberRead, number-read, RowsSoFar, rows-begin, row-stops, row-goes-on, rows-end}
+use Rattle.set_numbers.specs.Numbers.{valueFound}
+use Rattle.set_numbers.proofs.NumberLaws.{number-missing, NumberRead, number-read, RowsSoFar, rows-begin, row-stops, row-goes-on, rows-end}
 use borrow.Author.Needs.{needs}
-use Rattle.set_entries.proofs.rows_in.Statement.{statement}
-use Rattle.set_entries.proofs.rows_in.Tie as tie
+use Rattle.set_numbers.proofs.rows_in.Statement.{statement}
+use Rattle.set_numbers.proofs.rows_in.Tie as tie
 
 abbrev Inv-rows : tie.InvT-rows
 Inv-rows set at end rows length stop i₀ i = (at ≤ i) × (i ≤ end) × RowsSoFar rows set at end i

@@ -1,6 +1,6 @@
--- What follows from what was found: where two parts are read one after the other and a value is found, both were found.
+-- Parts that are read one after the other: where a value is found, each was found, and a fault met first is the fault.
 use mathlib.Core.Path.{_≡_, refl}
-use mathlib.Core.Bool.{Bool, true, false, cond, false≢true}
+use mathlib.Core.Bool.{false≢true}
 use Prim.Native.Nat.{ℕ}
 use Rattle.plant.specs.Found.{Found, found, fault, andThen}
 
@@ -32,20 +32,3 @@ pub three-stop : {A B C D : Type 0} (x : Found A) (f : ℕ → Found B) (g : ℕ
     → andThen x (λ a i. andThen (f i) (λ b j. g j)) ≡ fault number place → fault number place ≡ andThen x (λ a i. andThen (f i) (λ b j. andThen (g j) (k a b)))
 three-stop (found a i) f g k number place e = two-stop (f i) g (k a) number place e
 three-stop (fault n p) f g k number place e = cc
-
--- Where a test decides between a value and a fault and the value was found, the test is true, and it is that value up to that place.
-pub tested : {A : Type 0} (t : Bool) (x : Found A) (number place : ℕ) (b : A) (end : ℕ) → cond t x (fault number place) ≡ found b end → (t ≡ true) × (x ≡ found b end)
-tested true x number place b end e = (refl, e)
-tested false x number place b end e = absurd (false≢true cc)
-
--- Equal finds have equal values and places.
-pub value-same : {A : Type 0} {a b : A} {m n : ℕ} → found a m ≡ found b n → a ≡ b
-value-same e = cc
-
-pub place-same : {A : Type 0} {a b : A} {m n : ℕ} → found a m ≡ found b n → m ≡ n
-place-same e = cc
-
--- Reading on and keeping what was read changes nothing.
-pub read-on : {A : Type 0} (x : Found A) → andThen x found ≡ x
-read-on (found a next) = refl
-read-on (fault number place) = refl

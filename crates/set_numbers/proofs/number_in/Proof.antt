@@ -1,8 +1,8 @@
 -- `number_in` meets its contract: each return is one case of the definition.
-use Rattle.set_entries.proofs.NumberLaws.{number-missing, number-below, number-above, number-good}
+use Rattle.set_numbers.proofs.NumberLaws.{number-missing, number-below, number-above, number-good}
 use borrow.Author.Needs.{needs}
-use Rattle.set_entries.proofs.number_in.Statement.{statement}
-use Rattle.set_entries.proofs.number_in.Tie as tie
+use Rattle.set_numbers.proofs.number_in.Statement.{statement}
+use Rattle.set_numbers.proofs.number_in.Tie as tie
 
 returns : tie.Need-returns
 returns c = let a = c .before .args in number-missing (a .low) (a .end) (a .set .now) (a .at) (c .if1 .taken)

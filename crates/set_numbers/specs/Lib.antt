@@ -1,0 +1,2 @@
+-- The numbers of a cycle set.
+pub mod Numbers

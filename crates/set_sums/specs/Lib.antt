@@ -1,0 +1,2 @@
+-- The sums of a cycle set.
+pub mod Sums
