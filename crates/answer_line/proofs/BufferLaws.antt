@@ -14,10 +14,11 @@ use Rattle.plant.specs.Reading.{readPlant}
 use Rattle.plant.specs.Limits.{longestFile}
 use Rattle.plant.proofs.FileBounds.{within-limits}
 use Rattle.plant.proofs.FirstBytes.{first-bytes}
+use Rattle.weight_files.specs.WeightFiles.{weightsOf}
+use Rattle.weight_files.proofs.WeightLaws.{weights-length}
 use Rattle.weighing.specs.Answers.{Answer}
 use Rattle.weighing.specs.Weighing.{Owed}
-use Rattle.answer_line.specs.Files.{weightsOf, checkedBytes, judgedFiles, Printed, PrintedOf}
-use Rattle.answer_line.proofs.WeightLaws.{weights-length}
+use Rattle.answer_line.specs.Files.{checkedBytes, judgedFiles, Printed, PrintedOf}
 use Rattle.answer_line.proofs.OwedLaws.{too-many, any-weights, both-refused, odd-checked, even-checked}
 
 -- No more bytes of a plant file matter than those of the longest file and one more.

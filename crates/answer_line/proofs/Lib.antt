@@ -1,7 +1,5 @@
--- Laws of the writing, of decimal figures and of the weights file, and examples.
-pub mod WritingLaws
-pub mod DecimalLaws
-pub mod WeightLaws
+-- Laws of the line of an answer, of what is owed and of files longer than their buffers, and examples.
+pub mod LineLaws
 pub mod OwedLaws
 pub mod BasicExamples
 pub mod BufferLaws

@@ -6,7 +6,7 @@ use Prim.Native.Nat.{ℕ, _%_, _≤_, _<_}
 use native.Mathlib.Decide.{decLe}
 use native.Mathlib.Omega.{arith}
 use borrow.Author.Tests.{ne-eqb}
-use lib.ListN.{length, take, replicate}
+use lib.ListN.{length, replicate}
 use lib.Seq.{take-all, length-take-le}
 use lib.Dec.{eqb}
 use Rattle.livelock.specs.Plants.{Plant}
@@ -14,12 +14,14 @@ use Rattle.livelock.specs.Weights.{Passes}
 use Rattle.plant.specs.Found.{Found, found, fault, andThen}
 use Rattle.plant.specs.Reading.{readPlant}
 use Rattle.plant.proofs.FileBounds.{within-limits}
+use Rattle.weight_files.specs.WeightFiles.{weightsOf, handedOver}
+use Rattle.weight_files.proofs.WeightLaws.{odd-handed, even-handed}
 use Rattle.weighing.specs.Answers.{Answer, passed, cycle, refused}
 use Rattle.weighing.specs.Weighing.{checkedWeights, judged, Owed, for-fault, for-plant}
 use Rattle.weighing.proofs.WeighingLaws.{judged-64}
-use Rattle.answer_line.specs.Files.{weightsOf, checkedBytes, judgedFiles, Printed}
+use Rattle.answer_line.specs.Files.{checkedBytes, judgedFiles, Printed}
 use Rattle.answer_line.specs.Lines.{lineOf}
-use Rattle.answer_line.specs.Inner.Steps.{FewRows, handedOver}
+use Rattle.answer_line.specs.Inner.Steps.{FewRows}
 
 -- More weights than types: "9 | not one for each type | 0".
 pub too-many : (ws : List ℕ) (P : Plant) (end : ℕ) → P .types < length ws → checkedWeights ws P end ≡ fault 9 0
@@ -34,18 +36,10 @@ any-weights (for-fault h) = for-fault h
 pub both-refused : {ws vs before after : List ℕ} {a : Answer} {x y : Found Plant} → x ≡ fault 9 0 → y ≡ fault 9 0 → Owed ws before after a x → Owed vs before after a y
 both-refused {ws} {vs} {before} {after} {a} e f owed = subst⁻¹ (λ (z : Found Plant). Owed vs before after a z) f (any-weights (subst (λ (z : Found Plant). Owed ws before after a z) e owed))
 
--- What is handed over, and checked, for a file of odd length and for one of even length.
-pub odd-handed : (weights : List ℕ) → eqb (length weights % 2) 1 ≡ true → handedOver weights ≡ replicate 65 0
-unfolding handedOver
-odd-handed weights e = rw e
-
+-- What is checked for a file of odd length and for one of even length.
 pub odd-checked : (weights : List ℕ) (P : Plant) (end : ℕ) → eqb (length weights % 2) 1 ≡ true → checkedBytes weights P end ≡ fault 9 0
 unfolding checkedBytes
 odd-checked weights P end e = rw e
-
-pub even-handed : (weights : List ℕ) → eqb (length weights % 2) 1 ≡ false → handedOver weights ≡ take 65 (weightsOf weights)
-unfolding handedOver
-even-handed weights e = rw e
 
 pub even-checked : (weights : List ℕ) (P : Plant) (end : ℕ) → eqb (length weights % 2) 1 ≡ false → checkedBytes weights P end ≡ checkedWeights (weightsOf weights) P end
 unfolding checkedBytes

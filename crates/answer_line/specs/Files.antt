@@ -1,22 +1,17 @@
 -- The two files of the program `ceiling`, and what it owes for them (document 01, "The program `ceiling`").
 use mathlib.Core.Path.{_≡_}
 use mathlib.Core.Bool.{cond}
-use mathlib.Core.List.{List, [], _∷_}
-use Prim.Native.Nat.{ℕ, _+_, _*_, _%_}
+use mathlib.Core.List.{List}
+use Prim.Native.Nat.{ℕ, _%_}
 use lib.ListN.{length, take, replicate}
 use lib.Dec.{eqb}
 use Rattle.livelock.specs.Plants.{Plant}
 use Rattle.plant.specs.Found.{Found, fault, andThen}
 use Rattle.plant.specs.Reading.{readPlant}
+use Rattle.weight_files.specs.WeightFiles.{weightsOf}
 use Rattle.weighing.specs.Answers.{Answer}
 use Rattle.weighing.specs.Weighing.{checkedWeights, Owed}
 use Rattle.answer_line.specs.Lines.{lineOf}
-
--- "two bytes a weight, low byte first": a last single byte gives none.
-unfoldable pub weightsOf : List ℕ → List ℕ
-weightsOf [] = []
-weightsOf (low ∷ []) = []
-weightsOf (low ∷ high ∷ bytes) = (low + 256 * high) ∷ weightsOf bytes
 
 -- "an odd length is 9 at place 0", then the checks 9 and 10 of the weights. The program's own list has room for a cycle, so that check 11 finds nothing.
 unfoldable pub checkedBytes : List ℕ → Plant → ℕ → Found Plant

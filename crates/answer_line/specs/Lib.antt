@@ -1,4 +1,4 @@
--- The program `ceiling`: its two files and its line. `Inner` is for the functions that write the line.
+-- The program `ceiling`: its two files and its line. `Inner` is for the function that writes an answer.
 pub mod Lines
 pub mod Files
 pub mod Inner

@@ -1,5 +1,5 @@
 // Whether every simple cycle of an edge list weighs below zero: relaxation in place (Bellman and Ford) with lengths 1 + n × weight. It
-// knows no plant. No entry point: `machines` calls it, and `searching` its relaxation of an edge.
+// knows no plant. No entry point: `machines` calls it, and `closed_walks` its relaxation of an edge.
 ghost use mathlib.Core.Path.{_≡_};
 ghost use Prim.Native.Nat.{_≤_};
 ghost use lib.ListN.{length};

@@ -1,4 +1,4 @@
-// Relaxing one edge. The decision relaxes heights in place, since a height may be the length of any walk; the search (crate searching) goes from table to
+// Relaxing one edge. The decision relaxes heights in place, since a height may be the length of any walk; the search (crate closed_walks) goes from table to
 // table, since it needs walks of exactly k edges.
 ghost use mathlib.Core.Path.{_≡_};
 ghost use Prim.Native.Nat.{_+_, _-_, _≤_, max};

@@ -1,3 +1,2 @@
 -- Laws of the search.
-pub mod RoundLaws
 pub mod SearchLaws

@@ -1,143 +1,28 @@
--- Laws of the search: walks of exactly k edges, shortest closed walks, and the walk that is written.
+-- Laws of the search: shortest closed walks, and the walk that is written.
 use mathlib.Core.Path.{_≡_, refl, sym, ap, _∙_, subst}
-use mathlib.Core.Logic.{_≢_, _↔_, _⊎_, inl, inr}
-use mathlib.Core.Bool.{Bool, true, false, cond}
+use mathlib.Core.Logic.{_≢_, _⊎_, inl, inr}
+use mathlib.Core.Bool.{Bool, true, false}
 use mathlib.Core.List.{List, [], _∷_, _++_, map, map-append, append-assoc}
-use Prim.Native.Nat.{ℕ, zero, suc, _+_, _-_, _*_, _≤_, _<_}
-use native.Mathlib.Nat.{not-suc-le-zero, zero-add}
+use Prim.Native.Nat.{ℕ, suc, _+_, _-_, _*_, _≤_, _<_}
+use native.Mathlib.Nat.{not-suc-le-zero}
 use native.Mathlib.Decide.{ℕ-discrete, decLe, decLt}
 use native.Mathlib.Numerals.{add-one}
 use native.Mathlib.Omega.{arith}
-use lib.ListN.{length, length-map, length-append, length-set, getD, getD-replicate, set, replicate, drop}
-use lib.Seq.{getD-set-same, getD-set-other, set-at, drop-cons}
-use lib.IntN.{ℤ, pos, _-ℤ_}
-use lib.Signed.{leZ, leZ-yes}
+use lib.ListN.{length, length-map, length-append, length-set, getD, set, drop}
+use lib.Seq.{set-at, drop-cons}
 use lib.Dec.{eqb}
-use mir.Syntax.{w64}
-use mir.Val.{SFits, toZ, ofZ}
-use mir.Facts.{toZ-ofZ}
-use borrow.Author.Tests.{eq-eqb, ne-eqb, eqb-true}
-use Rattle.livelock.specs.Lists.{below, sum, All, Distinct}
+use borrow.Author.Tests.{eqb-true}
+use Rattle.livelock.specs.Lists.{sum, All, Distinct}
 use Rattle.livelock.specs.Cycles.{Walk}
-use Rattle.livelock.proofs.ListLaws.{all-append, all-front, all-back, all-below, all-weaken}
-use Rattle.livelock.proofs.SumLaws.{sum-append, greatest-bound, greatest-attained, greatest-equal, greatest-below}
-use Rattle.livelock.proofs.Differences.{Difference, difference-minus, not-negative-iff}
+use Rattle.livelock.proofs.ListLaws.{all-append, all-front, all-back, all-weaken}
+use Rattle.livelock.proofs.SumLaws.{sum-append}
 use Rattle.livelock.proofs.Pigeonhole.{left-once}
 use Rattle.livelock.proofs.Walks.{visited, walk-append, HasCycle, distinct-or-cycle}
-use Rattle.livelock.proofs.Graphs.{Graph, IsEdge, Within, Cycle, via, via-edge, Leads, via-leads, via-bound}
-use Rattle.livelock.proofs.Rounds.{via-equal}
-use Rattle.deciding.specs.Rounds.{edgeGraph, EdgesIn, SomeZeroOrMore}
-use Rattle.searching.specs.Searches.{origin, heaviest, Closes, Halves, entry, Low, Cleared, Round, Exactly, FirstEdge, FirstEdges, LeastFrom, NotedRoom, Noted, Least, Written}
-use Rattle.deciding.proofs.DecisionLaws.{edges-within}
-use Rattle.searching.proofs.RoundLaws.{halves-swap, cleared-other}
-
--- What the search asks of a graph: at most 64 states, and no edge that weighs more than 65,535.
-pub record Searchable (g : Graph) (states : ℕ) : Type 0 where
-  pub within : Within g states
-  pub states-in : states ≤ 64
-  pub light : (e : ℕ) → IsEdge g e → g .plus e ≤ 65535
-
--- An edge list makes such a graph.
-pub edges-searchable : {count states : ℕ} {edges : List ℤ} → EdgesIn states count edges
-    → Searchable (edgeGraph count edges) states
-edges-searchable {count} {states} {edges} ok =
-    record { within = edges-within count states edges ok; states-in = ok .states-in; light = λ e u. ok .rise-in e (u .0) }
-
--- A closed walk of edges, from the state a back to it, that weighs zero or more.
-pub record ClosedWalk (g : Graph) (a : ℕ) (es : List ℕ) : Type 0 where
-  pub edges : All (IsEdge g) es
-  pub closed : Walk (g .src) (g .dst) a es a
-  pub weighs : sum (g .minus) es ≤ sum (g .plus) es
-
--- ---- walks of exactly k edges
-
-module _ (g : Graph) (start : ℕ) where
-  -- No walk to the start with as many edges is heavier:
-  -- the first edge leads to a state from which the rest of the walk is no heavier than the heaviest with one edge less.
-  heaviest-upper : (s : ℕ) (es : List ℕ) → All (IsEdge g) es → Walk (g .src) (g .dst) s es start
-      → origin + sum (g .plus) es ≤ heaviest g start (length es) s + sum (g .minus) es
-  unfolding heaviest sum All Walk
-  heaviest-upper s [] u w = rw (eq-eqb s start w) (omega arith)
-  heaviest-upper s (e ∷ es) u w =
-      omega (
-        arith,
-        heaviest-upper (g .dst e) es (u .1) (w .1),
-        greatest-below (via g (heaviest g start (length es)) s) (g .size) e (u .0 .0),
-        via-edge g (heaviest g start (length es)) s e (u .0 .1) (w .0),
-      )
-
-  -- A walk of exactly k edges from s to the start that weighs as much as the heaviest.
-  pub record ExactWalk (k s : ℕ) : Type 0 where
-    pub walk : List ℕ
-    pub long : length walk ≡ k
-    pub edges : All (IsEdge g) walk
-    pub joined : Walk (g .src) (g .dst) s walk start
-    pub worth : heaviest g start k s + sum (g .minus) walk ≡ origin + sum (g .plus) walk
-
-  module _ (light : (e : ℕ) → IsEdge g e → g .plus e ≤ 65535) where
-    -- Each edge adds 65,535 at most.
-    heaviest-bound : (k s : ℕ) → heaviest g start k s ≤ origin + k * 65535
-    unfolding heaviest
-    heaviest-bound zero s = go (eqb s start)
-      where
-        go : (b : Bool) → cond b origin 0 ≤ origin + zero * 65535
-        go true = omega arith
-        go false = omega arith
-    heaviest-bound (suc k) s =
-        greatest-bound (via g (heaviest g start k) s) (origin + suc k * 65535) (below (g .size)) (all-below _ (g .size) (each (heaviest-bound k)))
-      where
-        each : ((t : ℕ) → heaviest g start k t ≤ origin + k * 65535) → (e : ℕ) → e < g .size → via g (heaviest g start k) s e ≤ origin + suc k * 65535
-        each r e l = via-bound g (heaviest g start k) s e (origin + suc k * 65535) (λ c. omega (arith, light e (l, c), r (g .dst e)))
-
-    -- The number for k edges is low, as what began without a walk and rose along k edges, or a walk of exactly k edges attains it.
-    abbrev LowOrAttained : ℕ → ℕ → Type 0
-    LowOrAttained k s = (heaviest g start k s ≤ k * 65535) ⊎ ExactWalk k s
-
-    -- By induction on k. With one edge more the number is 0, which is low, or that of going along some edge and on from its end.
-    -- If the number at that end is low, so is this one, since the edge adds 65,535 at most;
-    -- if a walk attains the number at that end, the edge and that walk attain this one.
-    low-or-attained : (k s : ℕ) → LowOrAttained k s
-    unfolding heaviest sum All Walk
-    low-or-attained zero s = go (eqb s start) refl
-      where
-        go : (b : Bool) → eqb s start ≡ b → LowOrAttained zero s
-        go true q = inr (record { walk = []; long = refl; edges = tt; joined = eqb-true s start q; worth = rw q (omega arith) })
-        go false q = inl (rw q (omega arith))
-    low-or-attained (suc k) s =
-        go
-        (greatest-attained (λ e. e < g .size) (via g (heaviest g start k) s) (below (g .size)) (all-below _ (g .size) (λ e l. l)))
-        (λ e. low-or-attained k (g .dst e))
-      where
-        along : (e : ℕ) → e < g .size → heaviest g start (suc k) s ≡ via g (heaviest g start k) s e → LowOrAttained k (g .dst e)
-            → (via g (heaviest g start k) s e ≡ 0) ⊎ Leads g (heaviest g start k) s e (via g (heaviest g start k) s e) → LowOrAttained (suc k) s
-        along e l q a (inl z) = inl (omega arith)
-        along e l q (inl low) (inr d) = inl (omega (arith, light e (l, d .counted), d .long))
-        along e l q (inr a) (inr d) =
-            inr (record {
-              walk = e ∷ a .walk;
-              long = ap suc (a .long);
-              edges = ((l, d .counted), a .edges);
-              joined = (d .from, a .joined);
-              worth = omega (arith, a .worth, d .long);
-            })
-
-        go : (heaviest g start (suc k) s ≡ 0) ⊎ ((e : ℕ) × (e < g .size) × (heaviest g start (suc k) s ≡ via g (heaviest g start k) s e))
-            → ((e : ℕ) → LowOrAttained k (g .dst e)) → LowOrAttained (suc k) s
-        go (inl z) next = inl (omega arith)
-        go (inr x) next = along (x .0) (x .1) (x .2) (next (x .0)) (via-leads g (heaviest g start k) s (x .0))
-
--- A closed walk that weighs zero or more closes.
-walk-closes : {g : Graph} {a : ℕ} {es : List ℕ} → ClosedWalk g a es → Closes g a (length es)
-walk-closes {g} {a} {es} w = omega (arith, heaviest-upper g a a es (w .edges) (w .closed), w .weighs)
-
--- So `Closes` says what it is meant to say.
-pub closes-iff : {g : Graph} {states : ℕ} → Searchable g states
-    → (a k : ℕ) → k ≤ 64 → Closes g a k ↔ ((es : List ℕ) × (length es ≡ k) × ClosedWalk g a es)
-closes-iff {g} ok a k few = (λ h. go h (low-or-attained g a (ok .light) k a), λ w. subst (Closes g a) (w .1) (walk-closes (w .2)))
-  where
-    go : Closes g a k → (heaviest g a k a ≤ k * 65535) ⊎ ExactWalk g a k a → (es : List ℕ) × (length es ≡ k) × ClosedWalk g a es
-    go h (inl low) = absurd (omega arith)
-    go h (inr x) = (x .walk, x .long, record { edges = x .edges; closed = x .joined; weighs = omega (arith, x .worth) })
+use Rattle.livelock.proofs.Graphs.{Graph, IsEdge, Cycle}
+use Rattle.deciding.specs.Rounds.{SomeZeroOrMore}
+use Rattle.closed_walks.specs.ClosedWalks.{origin, heaviest, Closes, entry, FirstEdge, LeastFrom, Noted}
+use Rattle.closed_walks.proofs.WalkLaws.{Searchable, ClosedWalk, walk-closes}
+use Rattle.searching.specs.Searches.{Least, Written}
 
 -- ---- a shortest closed walk is simple
 
@@ -247,164 +132,6 @@ module _ (g : Graph) (a e : ℕ) (es : List ℕ) (w : ClosedWalk g a (e ∷ es))
 pub shortest-is-cycle : (g : Graph) (a : ℕ) (es : List ℕ) → 0 < length es → ClosedWalk g a es → NoneShorter g (length es) → Cycle g es
 shortest-is-cycle g a [] l w none = absurd (not-suc-le-zero l)
 shortest-is-cycle g a (e ∷ es) l w none = record { non-empty = l; edges = w .edges; at = a; closed = w .closed; once = leaves-once g a e es w none }
-
--- ---- rounds
-
--- The walks without edges.
-exactly-none : (g : Graph) (states start : ℕ) → states ≤ 64 → start < states → Exactly g states start 0 0 (set (replicate 128 0) start origin)
-unfolding heaviest
-exactly-none g states start few h s l = go (ℕ-discrete s start)
-  where
-    zeros : List ℕ
-    zeros = replicate 128 0
-
-    go : Dec (s ≡ start) → getD (set zeros start origin) (0 + s) 0 ≡ cond (eqb s start) origin 0
-    go (yes q) = rw (eq-eqb s start q, q, zero-add start) (getD-set-same zeros start origin 0 (omega arith))
-    go (no q) = rw (ne-eqb s start q, zero-add s) (getD-set-other zeros start s origin 0 q ∙ getD-replicate 128 s 0 0 (omega arith))
-
--- There is room for one edge more.
-exactly-low : {g : Graph} {states : ℕ} → Searchable g states → (start k at : ℕ) (walks : List ℕ) → Exactly g states start k at walks → k ≤ 64
-    → Low states at walks
-exactly-low {g} ok start k at walks exact few s l = omega (arith, exact s l, heaviest-bound g start (ok .light) k s)
-
-module _ {g : Graph} {states k old new : ℕ} {before after edges-before edges : List ℕ} (ok : Searchable g states) (start : ℕ) (exact : Exactly g states start k old before)
-    (r : Round g (g .size) states old new k before after edges-before edges) where
-  -- One edge, and on as far as the table says: only its entries for the states matter.
-  along-equal : (s e : ℕ) → e < g .size → via g (entry before old) s e ≡ via g (heaviest g start k) s e
-  along-equal s e l = via-equal g (entry before old) (heaviest g start k) s e (λ c. exact (g .dst e) (ok .within e (l, c) .1))
-
-  -- A round leads from the walks of k edges to those of k + 1,
-  exactly-suc : Exactly g states start (suc k) new after
-  unfolding heaviest
-  exactly-suc s l =
-      r .relaxed s l ∙ greatest-equal (via g (entry before old) s) (via g (heaviest g start k) s) (below (g .size)) (all-below _ (g .size) (along-equal s))
-
-  -- that is, of one edge more,
-  exactly-next : Exactly g states start (k + 1) new after
-  exactly-next = rw (add-one k) exactly-suc
-
-  -- and notes their first edges.
-  noted-here : (s : ℕ) → s < states → 0 < heaviest g start (suc k) s → FirstEdge g start k s (entry edges (k * 64) s)
-  noted-here s l m = go (via-leads g (heaviest g start k) s e)
-    where
-      e : ℕ
-      e = entry edges (k * 64) s
-
-      some : 0 < entry after new s
-      some = omega (arith, exactly-suc s l)
-
-      e-in : e < g .size
-      e-in = r .noted-in s l some
-
-      worth : heaviest g start (suc k) s ≡ via g (heaviest g start k) s e
-      worth = sym (exactly-suc s l) ∙ r .attained s l some ∙ along-equal s e e-in
-
-      go : (via g (heaviest g start k) s e ≡ 0) ⊎ Leads g (heaviest g start k) s e (via g (heaviest g start k) s e) → FirstEdge g start k s e
-      go (inl z) = absurd (omega (arith, worth))
-      go (inr d) = record { there = (e-in, d .counted); leaves = d .from; worth = omega (arith, worth, d .long) }
-
-  -- So those of 1 to k + 1 edges are noted: this round's at places of their own, behind those of the rounds before, which it kept.
-  first-edges-next : FirstEdges g states start k edges-before → FirstEdges g states start (k + 1) edges
-  first-edges-next h j s x l m = go (ℕ-discrete j k)
-    where
-      go : Dec (j ≡ k) → FirstEdge g start j s (entry edges (j * 64) s)
-      go (yes e) = rw e (noted-here s l (rw e at m))
-      go (no e) = rw (r .edges-kept (j * 64 + s) (omega (arith, ok .states-in))) (h j s (omega arith) l m)
-
--- After k rounds from `start` the table at `old` has the walks of exactly k edges, and the first edges of the walks of 1 to k edges are noted.
-pub record Searched (g : Graph) (states start k old : ℕ) (walks noted : List ℕ) : Type 0 where
-  pub halves : Halves old (64 - old)
-  pub room : length walks ≡ 128
-  pub edge-room : NotedRoom states noted
-  pub exact : Exactly g states start k old walks
-  pub first-edges : FirstEdges g states start k noted
-
--- Before the first round.
-pub searched-first : (g : Graph) (states start : ℕ) (noted : List ℕ) → states ≤ 64 → start < states → NotedRoom states noted
-    → Searched g states start 0 0 (set (replicate 128 0) start origin) noted
-searched-first g states start noted few h room =
-    record {
-      halves = inl (refl, refl);
-      room = length-set (replicate 128 0) start origin;
-      edge-room = room;
-      exact = exactly-none g states start few h;
-      first-edges = λ j s x l m. absurd (not-suc-le-zero x);
-    }
-
-module _ {g : Graph} {states start k old : ℕ} {walks noted cleared : List ℕ} (ok : Searchable g states) (h : Searched g states start k old walks noted)
-    (c : Cleared states (64 - old) walks cleared) where
-  -- The table for the next round is cleared, and the walks of k edges are kept,
-  exact-kept : Exactly g states start k old cleared
-  exact-kept s l = cleared-other (h .halves) c s (omega (arith, ok .states-in)) ∙ h .exact s l
-
-  -- with room for one edge more.
-  pub searched-low : k ≤ 64 → Low states old cleared
-  searched-low = exactly-low ok start k old cleared exact-kept
-
-  module _ {after edges : List ℕ} (r : Round g (g .size) states old (64 - old) k cleared after noted edges) where
-    -- One round more.
-    pub searched-next : Searched g states start (k + 1) (64 - old) after edges
-    searched-next =
-        record {
-          halves = halves-swap old (h .halves);
-          room = r .same-length ∙ c .same-length ∙ h .room;
-          edge-room = omega (arith, r .same-edges, h .edge-room);
-          exact = exactly-next ok start exact-kept r;
-          first-edges = first-edges-next ok start exact-kept r (h .first-edges);
-        }
-
--- A walk of the table is worth no more than a round takes.
-pub searched-worth : {g : Graph} {states start k old : ℕ} {walks noted : List ℕ} → Searchable g states → Searched g states start k old walks noted
-    → start < states → k ≤ 64 → entry walks old start ≤ 2199023255552
-searched-worth {start = start} {k = k} {old = old} {walks = walks} ok h l few = exactly-low ok start k old walks (h .exact) few start l
-
--- ---- the sign of a walk's weight
-
--- The code's signed number z is the weight of the heaviest closed walk of k edges from the start.
-module _ {g : Graph} {states start k old : ℕ} {walks noted : List ℕ} (h : Searched g states start k old walks noted) (l : start < states)
-    (z : ℤ) (fits : SFits w64 z) (is-weight : z ≡ pos (entry walks old start) -ℤ pos origin) where
-  is-difference : Difference (toZ w64 (ofZ w64 z)) (entry walks old start) origin
-  is-difference = rw (toZ-ofZ fits, is-weight) (difference-minus (entry walks old start) origin)
-
-  -- It is zero or more,
-  pub closed-zero-or-more : leZ (pos 0) (toZ w64 (ofZ w64 z)) ≡ true → Closes g start k
-  closed-zero-or-more test =
-      omega (arith, h .exact start l, not-negative-iff (toZ w64 (ofZ w64 z)) (entry walks old start) origin is-difference .0 (leZ-yes (rw test tt)))
-
-  -- or below zero.
-  pub closed-below-zero : leZ (pos 0) (toZ w64 (ofZ w64 z)) ≡ false → heaviest g start k start < origin
-  closed-below-zero test =
-      elim (decLt (entry walks old start) origin) [
-        | yes less ↦ omega (arith, h .exact start l)
-        | no enough ↦ absurd (rw test at (not-negative-iff (toZ w64 (ofZ w64 z)) (entry walks old start) origin is-difference .1 (omega arith) .le))
-      ]
-
--- ---- the least number of edges from one start
-
--- No number of edges from 1 to k closes.
-abbrev pub NoneUpTo : Graph → ℕ → ℕ → Type 0
-NoneUpTo g start k = (j : ℕ) → 1 ≤ j → j ≤ k → Closes g start j → ⊥
-
--- Up to 0 there is none.
-pub none-at-first : (g : Graph) (start : ℕ) → NoneUpTo g start 0
-none-at-first g start j x y q = omega arith
-
-module _ (g : Graph) (start k : ℕ) (none : NoneUpTo g start k) where
-  -- k + 1 edges close,
-  pub closes-now : (limit : ℕ) → k < limit → Closes g start (k + 1) → LeastFrom g start limit (k + 1)
-  closes-now limit l h = record { some-edge = omega arith; few = omega arith; closes = λ x. h; least = λ j x y q. none j x (omega arith) q }
-
-  -- or they do not either,
-  pub not-yet : heaviest g start (k + 1) start < origin → NoneUpTo g start (k + 1)
-  not-yet h j x y q = go (ℕ-discrete j (k + 1))
-    where
-      go : Dec (j ≡ k + 1) → ⊥
-      go (yes e) = let closes : Closes g start (k + 1) = subst (Closes g start) e q in omega arith
-      go (no e) = none j x (omega arith) q
-
-  -- up to the limit.
-  pub never : (limit : ℕ) → limit ≤ k → LeastFrom g start limit (limit + 1)
-  never limit h = record { some-edge = omega arith; few = omega arith; closes = λ x. absurd (omega arith); least = λ j x y q. none j x (omega arith) q }
 
 -- ---- the least number of edges from any start
 

@@ -1,109 +1,10 @@
 // A cycle of an edge list to show: the closed walk with the fewest edges that weighs zero or more. It knows no plant. No entry point:
 // `weighing` calls it.
-//
-// `walks` has two tables, from 0 and from 64 on: for each state, the greatest weight of a walk of exactly k edges to the start, and of k + 1 edges.
-// `noted` has, from 64 × k on, the first edge of a heaviest walk of k + 1 edges from each state, so that the walk found can be written without a search.
-ghost use mathlib.Core.Path.{_≡_};
-ghost use Prim.Native.Nat.{_-_, _≤_, _<_};
+ghost use Prim.Native.Nat.{_≤_};
 ghost use lib.ListN.{length};
-ghost use lib.IntN.{pos, _-ℤ_};
-ghost use lib.Signed.{leZ};
 ghost use Rattle.deciding.specs.Rounds.{edgeGraph, EdgesIn, SomeZeroOrMore};
-ghost use Rattle.searching.specs.Searches.{origin, Cleared, NotedRoom, RoundReady, Round, Noted, LeastFrom, Least, ShownRows};
-use deciding::relaxing::raised;
-use deciding::relaxing::rises;
-
-// The number that stands for the weight 0 in a table of walks; 0 stands for no walk.
-const ORIGIN: u64 = 1099511627776;
-
-// The weight of a walk of the table.
-fn walk_weight(value: u64) -> i64
-    requires { ⌜ value ≤ 2199023255552 ⌝ }
-    ensures { λ r. ⌜ r ≡ pos value -ℤ pos origin ⌝ }
-{
-    value as i64 - ORIGIN as i64
-}
-
-// Whether a weight is zero or more.
-fn zero_or_more(weight: i64) -> bool
-    ensures { λ r. ⌜ r ≡ leZ (pos 0) weight ⌝ }
-{
-    weight >= 0
-}
-
-// Stores 0 for each state in the table that begins at `at`.
-fn clear(walks: &mut [u64; 128], at: usize, states: usize)
-    requires { ⌜ (length (now walks) ≡ 128) × (at ≤ 64) × (states ≤ 64) ⌝ }
-    ensures { λ r. ⌜ Cleared states at (now (walks .entry)) (now (walks .exit)) ⌝ }
-{
-    let mut s = 0;
-    while s < states {
-        walks[at + s] = 0;
-        s += 1;
-    }
-}
-
-// One edge, and on as far as the table at `old` says, from each state, into the other table; the edge is noted in the first edges from 64 × k on.
-// The number of a is read first: read just before the test, the compiler would store it at every edge, raised or not.
-fn round(
-    edges: &[i16],
-    count: usize,
-    states: usize,
-    walks: &mut [u64; 128],
-    old: usize,
-    noted: &mut [u8],
-    k: usize,
-)
-    requires { ⌜ EdgesIn states count (now edges) × RoundReady states old k (now walks) (now noted) ⌝ }
-    ensures { λ r. ⌜ Round (edgeGraph count (now (edges .entry))) count states old (64 - old) k (now (walks .entry)) (now (walks .exit)) (now (noted .entry)) (now (noted .exit)) ⌝ }
-{
-    let new = 64 - old;
-    let mut i = 0;
-    while i < count {
-        let a = edge_lists::from_of(edges, i);
-        let at = new + a;
-        let here = walks[at];
-        let b = edge_lists::to_of(edges, i);
-        let next = walks[old + b];
-        let w = edge_lists::weight_of(edges, i);
-        if rises(here, next, w) {
-            walks[at] = raised(here, next, w);
-            noted[k * 64 + a] = i as u8;
-        }
-        i += 1;
-    }
-}
-
-// The least number of edges up to `limit` with which a closed walk from the start weighs zero or more, or one more than the limit.
-fn least_from(
-    edges: &[i16],
-    count: usize,
-    states: usize,
-    start: usize,
-    limit: usize,
-    noted: &mut [u8],
-) -> usize
-    requires { ⌜ EdgesIn states count (now edges) × (start < states) × (limit ≤ states) × NotedRoom states (now noted) ⌝ }
-    ensures { λ r. ⌜ LeastFrom (edgeGraph count (now (edges .entry))) start limit r ⌝ }
-    ensures { λ r. ⌜ Noted (edgeGraph count (now (edges .entry))) states start limit r (now (noted .exit)) ⌝ }
-{
-    let mut walks = [0; 128];
-    walks[start] = ORIGIN;
-    let mut old = 0;
-    let mut k = 0;
-    while k < limit {
-        let new = 64 - old;
-        clear(&mut walks, new, states);
-        round(edges, count, states, &mut walks, old, noted, k);
-        old = new;
-        k += 1;
-        let closed = walk_weight(walks[old + start]);
-        if zero_or_more(closed) {
-            return k;
-        }
-    }
-    limit + 1
-}
+ghost use Rattle.closed_walks.specs.ClosedWalks.{NotedRoom};
+ghost use Rattle.searching.specs.Searches.{Least, ShownRows};
 
 // A state, and how many edges a closed walk from it has.
 struct Start {
@@ -120,7 +21,7 @@ fn least(edges: &[i16], count: usize, states: usize, noted: &mut [u8]) -> Start
     let mut length = states + 1;
     let mut s = 0;
     while s < states {
-        let k = least_from(edges, count, states, s, length - 1, noted);
+        let k = closed_walks::least_from(edges, count, states, s, length - 1, noted);
         if k < length {
             start = s;
         }
@@ -144,7 +45,7 @@ fn show_noted(
 {
     let found = least(edges, count, states, noted);
     let start = found.start;
-    let k = least_from(edges, count, states, start, found.length, noted);
+    let k = closed_walks::least_from(edges, count, states, start, found.length, noted);
     let mut s = start;
     let mut i = 0;
     while i < k {

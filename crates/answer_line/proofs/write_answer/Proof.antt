@@ -5,11 +5,11 @@ use mathlib.Core.Path.{_≡_, sym, ap, _∙_}
 use lib.ListN.{length}
 use lib.Seq.{length-take-le}
 use Rattle.livelock.specs.Lists.{All}
+use Rattle.figure_lines.specs.FigureLines.{lineWith}
 use Rattle.weighing.specs.declared.Weighed.{Weighed}
 use Rattle.weighing.specs.Answers.{answerOf}
-use Rattle.answer_line.specs.Lines.{cycleWord, lineWith, lineOf}
-use Rattle.answer_line.proofs.WritingLaws.{line-wrote}
-use Rattle.answer_line.proofs.DecimalLaws.{few-figures, few-rows}
+use Rattle.answer_line.specs.Lines.{cycleWord, lineOf}
+use Rattle.answer_line.proofs.LineLaws.{few-figures, few-rows, line-wrote}
 use Rattle.answer_line.proofs.write_answer.Statement.{statement}
 use Rattle.answer_line.proofs.write_answer.Tie as tie
 

@@ -1,7 +1,7 @@
 -- `write_line` meets its contract: what `weigh` owes for the weights handed over is owed for the files, and the line is its answer's.
 use borrow.Author.Needs.{needs}
 use native.Mathlib.Omega.{arith}
-use Rattle.answer_line.proofs.WritingLaws.{read-back}
+use Rattle.answer_line.proofs.LineLaws.{read-back}
 use Rattle.answer_line.proofs.OwedLaws.{few-rows, printed}
 use Rattle.answer_line.proofs.write_line.Statement.{statement}
 use Rattle.answer_line.proofs.write_line.Tie as tie

@@ -6,7 +6,8 @@ use Prim.Native.Nat.{_-_}
 use native.Mathlib.Omega.{arith}
 use lib.ListN as List
 use Rattle.deciding.specs.Rounds.{edgeGraph}
-use Rattle.searching.proofs.SearchLaws.{edges-searchable, Sought, sought-none, sought-fewer, sought-same, sought-all}
+use Rattle.closed_walks.proofs.WalkLaws.{edges-searchable}
+use Rattle.searching.proofs.SearchLaws.{Sought, sought-none, sought-fewer, sought-same, sought-all}
 use Rattle.searching.proofs.least.Statement.{statement}
 use Rattle.searching.proofs.least.Tie as tie
 

@@ -5,8 +5,10 @@ use Prim.Native.Nat.{_+_, _-_, _*_, _≤_, _<_}
 use native.Mathlib.Omega.{arith}
 use Rattle.edge_lists.specs.EdgeLists.{edgeIn, HasEdge}
 use Rattle.deciding.specs.Rounds.{edgeGraph}
-use Rattle.searching.specs.Searches.{Least, FirstEdge}
-use Rattle.searching.proofs.SearchLaws.{edges-searchable, least-again, Walking, walk-begins, walk-in, walk-leads, walk-goes-on, walk-ends}
+use Rattle.closed_walks.specs.ClosedWalks.{FirstEdge}
+use Rattle.closed_walks.proofs.WalkLaws.{edges-searchable}
+use Rattle.searching.specs.Searches.{Least}
+use Rattle.searching.proofs.SearchLaws.{least-again, Walking, walk-begins, walk-in, walk-leads, walk-goes-on, walk-ends}
 use Rattle.searching.proofs.show_noted.Statement.{statement}
 use Rattle.searching.proofs.show_noted.Tie as tie
 

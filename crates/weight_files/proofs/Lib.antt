@@ -1,0 +1,3 @@
+-- Laws of the weights of a file, and an example.
+pub mod WeightLaws
+pub mod BasicExamples
