@@ -97,7 +97,7 @@ fn read_machine(
     let from = own.next;
     let end = read_rows(&file[from..], n, m as u8, count.value, types, used, table);
     MachineEnd {
-        end: plant::moved(end, from),
+        end: file_ends::moved(end, from),
         states: count.value,
         rows: used + n,
     }
@@ -181,7 +181,7 @@ pub fn decode(file: &[u8], table: &mut [u8]) -> Decoded
     let last = read.end;
     let shape = read.shape;
     Decoded {
-        end: plant::at_file_end(file, last),
+        end: file_ends::at_file_end(file, last),
         shape,
     }
 }

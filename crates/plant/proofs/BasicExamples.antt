@@ -2,10 +2,10 @@
 use mathlib.Core.Path.{_≡_, refl}
 use mathlib.Core.Bool.{true, false}
 use mathlib.Core.Option.{none}
-use mathlib.Core.List.{List, [], _∷_, _++_}
+use mathlib.Core.List.{List, [], _∷_}
 use Prim.Native.Nat.{ℕ}
 use lib.ListN.{replicate}
-use Rattle.livelock.specs.Plants.{rowWith}
+use Rattle.livelock.specs.Plants.{Plant, rowWith}
 use Rattle.livelock.proofs.BasicExamples.{panelAndProbe, plantA, plantB}
 use Rattle.plant.specs.Found.{found, fault}
 use Rattle.plant.specs.Reading.{byteAt, byteThat, byteIn, mapByte, stateField, typeField, readRow, readRows, rowsByte, readMachine, readMachines, readPlant}
@@ -119,21 +119,23 @@ bytes-remain : readPlant (0x01 ∷ 0x00 ∷ 0x01 ∷ 0x00 ∷ 0x00 ∷ []) ≡ f
 unfolding byteAt byteThat byteIn mapByte stateField typeField readRow readRows rowsByte readMachine readMachines readPlant
 bytes-remain = refl
 
--- Number 7: four machines with 255 rows each, and a fifth that announces 5.
-many-rows : List ℕ
-many-rows = 0x05 ∷ 0x00 ∷ (machine ++ machine ++ machine ++ machine ++ (0x01 ∷ 0x05 ∷ []))
-  where
-    machine : List ℕ
-    machine = 0x01 ∷ 0xFF ∷ replicate 255 0x00
+-- Number 7, after 1,020 rows of machine 0: machine 1 has 2, and machine 2 announces 3.
+rows-1020 : Plant
+rows-1020 = record { types = 0; states = 1 ∷ []; rows = replicate 1020 (rowWith 0 0 0 none none false) }
 
-total-of-rows : readPlant many-rows ≡ fault 7 1031
-unfolding many-rows byteAt byteThat byteIn mapByte stateField typeField readRow readRows rowsByte readMachine readMachines readPlant
+total-of-rows : readMachines 2 (0x01 ∷ 0x02 ∷ 0x00 ∷ 0x00 ∷ 0x01 ∷ 0x03 ∷ []) 0 rows-1020 ≡ fault 7 5
+unfolding rows-1020 byteAt byteThat byteIn mapByte stateField typeField readRow readRows rowsByte readMachine readMachines
 total-of-rows = refl
 
--- After 1,020 rows a machine may have 4 and not 5.
+-- After 1,020 rows a machine may have 4 and not 5,
 rows-left : (rowsByte 1020 (0x04 ∷ []) 0 ≡ found 4 1) × (rowsByte 1020 (0x05 ∷ []) 0 ≡ fault 7 0)
 unfolding byteAt byteThat rowsByte
 rows-left = (refl, refl)
+
+-- and 255 while there is room for them.
+most-rows : (rowsByte 769 (0xFF ∷ []) 0 ≡ found 255 1) × (rowsByte 770 (0xFF ∷ []) 0 ≡ fault 7 0)
+unfolding byteAt byteThat rowsByte
+most-rows = (refl, refl)
 
 -- ---- limits and implied states
 

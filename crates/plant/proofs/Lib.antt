@@ -1,4 +1,4 @@
--- Laws of the file format, of its limits and of the decoded table.
+-- Laws of the file format and of its limits.
 pub mod BasicExamples
 pub mod Told
 pub mod ByteLaws
@@ -6,7 +6,6 @@ pub mod Bounds
 pub mod FileBounds
 pub mod FirstBytes
 pub mod FileLaws
-pub mod TypeLaws
 pub mod RowLaws
 pub mod MachineLaws
 pub mod PlantLaws

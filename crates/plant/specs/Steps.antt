@@ -19,14 +19,10 @@ faultFound f = fault (f .number) (f .place)
 abbrev pub typeOf : ℕ → Option ℕ
 typeOf x = cond (ltb x 64) (some x) none
 
--- A byte or what stands for it, as a number and as a type.
+-- A byte, or what stands for it, as a number.
 abbrev pub fieldFound : FieldStep → Found ℕ
 fieldFound (FieldSteps.Value f) = found (f .value) (f .next)
 fieldFound (FieldSteps.Fault f) = faultFound f
-
-abbrev pub typeFound : FieldStep → Found (Option ℕ)
-typeFound (FieldSteps.Value f) = found (typeOf (f .value)) (f .next)
-typeFound (FieldSteps.Fault f) = faultFound f
 
 -- The offset of an end: after what was read, or the fault's place.
 abbrev pub offsetOf : End → ℕ

@@ -5,10 +5,10 @@ ghost use Rattle.plant.specs.Reading.{readRow};
 ghost use Rattle.plant_rows.specs.Rows.{rowFound};
 use plant::Fault;
 use plant::FieldStep;
-use plant::has_bit;
-use plant::map_byte;
-use plant::state_field;
-use plant::type_field;
+use row_fields::has_bit;
+use row_fields::map_byte;
+use row_fields::state_field;
+use row_fields::type_field;
 
 // A row that was read, and the offset after it. 64 stands for no type.
 pub struct RowFields {

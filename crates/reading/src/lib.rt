@@ -80,7 +80,7 @@ fn check_machine(file: &[u8], at: usize, types: u8, used: usize) -> Checked
     let from = count.next;
     let n = count.value as usize;
     let inner = check_rows(&file[from..], n, states.value, types);
-    let end = plant::moved(inner, from);
+    let end = file_ends::moved(inner, from);
     Checked {
         end,
         rows: used + n,
@@ -135,7 +135,7 @@ pub fn read(file: &[u8]) -> Reading
     let n = machines.value as usize;
     let checked = check_machines(file, n, types.next, types.value);
     let last = checked.end;
-    let end = plant::at_file_end(file, last);
+    let end = file_ends::at_file_end(file, last);
     match end {
         End::Fault(fault) => Reading::Refused(fault),
         End::At(_) => Reading::Counts {

@@ -1,8 +1,9 @@
 -- `row_at` meets its contract: each return is `readRow`, rewritten by what the calls before it found.
 use borrow.Author.Needs.{needs}
 use Rattle.plant.specs.Reading.{readRow}
-use Rattle.plant.specs.Steps.{fieldFound, typeFound}
+use Rattle.plant.specs.Steps.{fieldFound}
 use Rattle.plant.proofs.Told.{told}
+use Rattle.row_fields.specs.Fields.{typeFound}
 use Rattle.plant_rows.proofs.row_at.Statement.{statement}
 use Rattle.plant_rows.proofs.row_at.Tie as tie
 

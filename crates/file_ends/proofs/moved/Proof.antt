@@ -2,9 +2,9 @@
 use borrow.Author.Needs.{needs}
 use mathlib.Core.Path.{ap}
 use native.Mathlib.Omega.{arith}
 use Rattle.plant.specs.Steps.{offsetOf}
-use Rattle.plant.proofs.moved.Statement.{statement}
-use Rattle.plant.proofs.moved.Tie as tie
+use Rattle.file_ends.proofs.moved.Statement.{statement}
+use Rattle.file_ends.proofs.moved.Tie as tie
 
 enum-known-end : tie.Need-enum-known-end
 enum-known-end c = search needs

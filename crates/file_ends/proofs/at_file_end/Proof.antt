@@ -3,8 +3,8 @@ use native.Mathlib.Omega.{arith}
 use lib.ListN.{length}
 use borrow.Author.Needs.{needs}
 use borrow.Author.Tests.{lt-ltb, le-ltb}
-use Rattle.plant.proofs.at_file_end.Statement.{statement}
-use Rattle.plant.proofs.at_file_end.Tie as tie
+use Rattle.file_ends.proofs.at_file_end.Statement.{statement}
+use Rattle.file_ends.proofs.at_file_end.Tie as tie
 
 enum-known-end : tie.Need-enum-known-end
 enum-known-end c = search needs

@@ -5,13 +5,13 @@ use mathlib.Core.List.{List}
 use Prim.Native.Nat.{ℕ, _≤_, _<_}
 use native.Mathlib.Omega.{arith}
 use borrow.Author.Tests.{lt-ltb}
 use Rattle.plant.specs.Found.{found, andThen}
 use Rattle.plant.specs.Reading.{byteIn}
-use Rattle.plant.specs.Steps.{typeOf}
-use Rattle.plant.specs.Steps.{fieldFound, typeFound}
+use Rattle.plant.specs.Steps.{typeOf, fieldFound}
 use Rattle.plant.specs.declared.FieldStep.{FieldStep}
 use Rattle.plant.specs.declared.FieldStep.the-variants as FieldSteps
 use Rattle.plant.proofs.Bounds.{byteIn-each, each-found}
+use Rattle.row_fields.specs.Fields.{typeFound}
 
 type-itself : (b : ℕ) → b < 64 → typeOf b ≡ some b
 type-itself b l = simp (lt-ltb b 64 l)

@@ -1,8 +1,8 @@
 -- `state_field` meets its contract: by whether the bit stands.
 use borrow.Author.Needs.{needs}
 use Rattle.plant.specs.Reading.{stateField}
-use Rattle.plant.proofs.state_field.Statement.{statement}
-use Rattle.plant.proofs.state_field.Tie as tie
+use Rattle.row_fields.proofs.state_field.Statement.{statement}
+use Rattle.row_fields.proofs.state_field.Tie as tie
 
 byte-in-requires : tie.Need-byte-in-requires
 byte-in-requires c κs = search needs

@@ -4,8 +4,8 @@ use mathlib.Core.Path.{sym, _∙_}
 use Prim.Native.Nat.{_≤_, _<_}
 use native.Mathlib.Omega.{arith}
 use borrow.Author.Tests.{lt-ltb, le-ltb, not-true, not-false}
-use Rattle.plant.proofs.is_map.Statement.{statement}
-use Rattle.plant.proofs.is_map.Tie as tie
+use Rattle.row_fields.proofs.is_map.Statement.{statement}
+use Rattle.row_fields.proofs.is_map.Tie as tie
 
 returns : tie.Need-returns
 returns c = let high : 32 ≤ c .before .args .map = omega (arith, c .if1 .taken) in rw (le-ltb _ _ high)

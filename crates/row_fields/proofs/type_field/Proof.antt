@@ -1,9 +1,9 @@
 -- `type_field` meets its contract: by whether the bit stands; a type below 64 stands in a column as itself.
 use borrow.Author.Needs.{needs}
 use Rattle.plant.specs.Reading.{typeField}
-use Rattle.plant.proofs.TypeLaws.{type-of-byte}
-use Rattle.plant.proofs.type_field.Statement.{statement}
-use Rattle.plant.proofs.type_field.Tie as tie
+use Rattle.row_fields.proofs.TypeLaws.{type-of-byte}
+use Rattle.row_fields.proofs.type_field.Statement.{statement}
+use Rattle.row_fields.proofs.type_field.Tie as tie
 
 byte-in-requires : tie.Need-byte-in-requires
 byte-in-requires c κs = search needs

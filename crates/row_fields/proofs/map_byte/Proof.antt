@@ -1,12 +1,12 @@
 -- `map_byte` meets its contract: what `byte_at` found, and what `is_map` says of it.
 use borrow.Author.Needs.{needs}
 use mathlib.Core.Path.{sym, _∙_}
 use Rattle.plant.specs.Reading.{mapByte}
 use Rattle.plant.specs.Steps.{fieldFound}
 use Rattle.plant.proofs.Told.{told}
 use Rattle.plant.proofs.ByteLaws.{byte-missing, byte-passes, byte-fails}
-use Rattle.plant.proofs.map_byte.Statement.{statement}
-use Rattle.plant.proofs.map_byte.Tie as tie
+use Rattle.row_fields.proofs.map_byte.Statement.{statement}
+use Rattle.row_fields.proofs.map_byte.Tie as tie
 
 byte-at-requires : tie.Need-byte-at-requires
 byte-at-requires c κs = search needs

@@ -1,0 +1,2 @@
+-- Laws of the type fields.
+pub mod TypeLaws

@@ -1,0 +1,2 @@
+-- A field of a row that was read.
+pub mod Fields
