@@ -5,8 +5,8 @@ use Rattle.plant.specs.Found.{fault}
 use Rattle.plant.specs.Reading.{byteAt, byteThat, byteIn, rowsByte, readRows, readMachine, readMachines, readPlant}
 use Rattle.figure_lines.specs.FigureLines.{decimalWithin, decimal, figure, figures}
 use Rattle.weight_files.specs.WeightFiles.{weightsOf}
+use Rattle.weight_checks.specs.Checks.{checkedWeights}
 use Rattle.weighing.specs.Answers.{passed, cycle, refused}
-use Rattle.weighing.specs.Weighing.{checkedWeights}
 use Rattle.answer_line.specs.Lines.{lineOf}
 use Rattle.answer_line.specs.Files.{checkedBytes, judgedFiles}
 

@@ -16,9 +16,10 @@ use Rattle.plant.specs.Reading.{readPlant}
 use Rattle.plant.proofs.FileBounds.{within-limits}
 use Rattle.weight_files.specs.WeightFiles.{weightsOf, handedOver}
 use Rattle.weight_files.proofs.WeightLaws.{odd-handed, even-handed}
+use Rattle.weight_checks.specs.Checks.{checkedWeights, judged}
+use Rattle.weight_checks.proofs.CheckLaws.{judged-64}
 use Rattle.weighing.specs.Answers.{Answer, passed, cycle, refused}
-use Rattle.weighing.specs.Weighing.{checkedWeights, judged, Owed, for-fault, for-plant}
-use Rattle.weighing.proofs.WeighingLaws.{judged-64}
+use Rattle.weighing.specs.Weighing.{Owed, for-fault, for-plant}
 use Rattle.answer_line.specs.Files.{checkedBytes, judgedFiles, Printed}
 use Rattle.answer_line.specs.Lines.{lineOf}
 use Rattle.answer_line.specs.Inner.Steps.{FewRows}

@@ -9,8 +9,9 @@ use Rattle.livelock.specs.Plants.{Plant}
 use Rattle.plant.specs.Found.{Found, fault, andThen}
 use Rattle.plant.specs.Reading.{readPlant}
 use Rattle.weight_files.specs.WeightFiles.{weightsOf}
+use Rattle.weight_checks.specs.Checks.{checkedWeights}
 use Rattle.weighing.specs.Answers.{Answer}
-use Rattle.weighing.specs.Weighing.{checkedWeights, Owed}
+use Rattle.weighing.specs.Weighing.{Owed}
 use Rattle.answer_line.specs.Lines.{lineOf}
 
 -- "an odd length is 9 at place 0", then the checks 9 and 10 of the weights. The program's own list has room for a cycle, so that check 11 finds nothing.

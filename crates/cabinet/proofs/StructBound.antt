@@ -8,8 +8,9 @@ use Rattle.livelock.specs.Plants.{Plant}
 use Rattle.livelock.specs.Figures.{Figures, BoundedBy}
 use Rattle.plant.specs.Found.{found}
 use Rattle.plant.specs.Reading.{readPlant}
+use Rattle.weight_checks.specs.Checks.{judged}
 use Rattle.weighing.specs.Answers as Weighing
-use Rattle.weighing.specs.Weighing.{judged, Owed}
+use Rattle.weighing.specs.Weighing.{Owed}
 use Rattle.weighing.proofs.PassedLaws.{passed-bound}
 use Rattle.cabinet.specs.declared.WeighAnswer.{WeighAnswer}
 use Rattle.cabinet.specs.Structs.{weighStruct, WeighedAs}

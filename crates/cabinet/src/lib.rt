@@ -6,7 +6,7 @@ ghost use mathlib.Core.Logic.{_↔_};
 ghost use lib.ListN.{length};
 ghost use Rattle.plant.specs.Reading.{readPlant};
 ghost use Rattle.reading.specs.Answers.{countsOf};
-ghost use Rattle.weighing.specs.Weighing as Weighing;
+ghost use Rattle.weight_checks.specs.Checks as WeightChecks;
 ghost use Rattle.quoting.specs.Quoting as Quoting;
 ghost use Rattle.listing.specs.Listing as Listing;
 ghost use Rattle.cycle_sets.specs.Confirming.{owed, ReadsBalanced};
@@ -111,7 +111,7 @@ pub extern "C" fn hemtaluq_read_v1(file: &[u8]) -> ReadAnswer
 
 #[no_mangle]
 pub extern "C" fn hemtaluq_weigh_v1(file: &[u8], weights: &[u16], cycle: &mut [u16]) -> WeighAnswer
-    ensures { λ r. ⌜ WeighedAs (now (weights .entry)) (now (cycle .entry)) (now (cycle .exit)) r (Weighing.judged (now (file .entry)) (now (weights .entry)) (length (now (cycle .entry)))) ⌝ }
+    ensures { λ r. ⌜ WeighedAs (now (weights .entry)) (now (cycle .entry)) (now (cycle .exit)) r (WeightChecks.judged (now (file .entry)) (now (weights .entry)) (length (now (cycle .entry)))) ⌝ }
 {
     let answer = weighing::weigh(file, weights, cycle);
     match answer {

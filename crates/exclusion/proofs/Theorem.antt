@@ -12,11 +12,13 @@ use Rattle.plant.specs.Found.{Found, found, fault}
 use Rattle.plant.specs.declared.Fault.{Fault}
 use Rattle.figures.specs.FigureSums.{figuresIn}
 use Rattle.figures.specs.declared.Figures.{Figures}
+use Rattle.weight_checks.specs.Checks.{judgedWeights, judged}
+use Rattle.weight_checks.proofs.CheckLaws.{judged-64}
 use Rattle.weighing.specs.Answers as Weighing
-use Rattle.weighing.specs.Weighing.{judgedWeights, judged, Owed}
+use Rattle.weighing.specs.Weighing.{Owed}
 use Rattle.weighing.specs.declared.Weighed.{Weighed}
 use Rattle.weighing.specs.declared.Weighed.the-variants as Weigheds
-use Rattle.weighing.proofs.WeighingLaws.{judged-64, passed-iff}
+use Rattle.weighing.proofs.WeighingLaws.{passed-iff}
 use Rattle.weighing.proofs.PassedLaws.{no-figures, passed-owed}
 use Rattle.cycle_sets.specs.Answers as Confirming
 use Rattle.cycle_sets.specs.declared.Confirmation.{Confirmation}

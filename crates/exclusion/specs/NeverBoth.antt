@@ -9,8 +9,9 @@ use Rattle.livelock.specs.Plants.{Plant}
 use Rattle.livelock.specs.Weights.{Passes}
 use Rattle.plant.specs.Found.{found}
 use Rattle.plant.specs.Reading.{readPlant}
+use Rattle.weight_checks.specs.Checks.{judgedWeights, judged}
 use Rattle.weighing.specs.Answers as Weighing
-use Rattle.weighing.specs.Weighing.{judgedWeights, judged, Owed}
+use Rattle.weighing.specs.Weighing.{Owed}
 use Rattle.weighing.specs.declared.Weighed.{Weighed}
 use Rattle.cycle_sets.specs.Answers as Confirming
 use Rattle.cycle_sets.specs.Confirming.{owed, ReadsBalanced}

@@ -1,5 +1,5 @@
 -- Laws of the ceiling: what it means, how large it can be, and the input for which it is the largest.
-use mathlib.Core.Path.{_≡_, refl, ap, _∙_, subst}
+use mathlib.Core.Path.{_≡_, refl, ap, subst}
 use mathlib.Core.List.{List, [], _∷_}
 use Prim.Native.Nat.{ℕ, zero, suc, _*_, _≤_, _<_}
 use native.Mathlib.Nat.{mul-le-mul, mul-le-mul-left, not-suc-le-zero}
@@ -16,14 +16,13 @@ use Rattle.livelock.proofs.SumLaws.{sum-equal}
 use Rattle.plant.specs.Found.{found}
 use Rattle.plant.specs.Limits.{WithinLimits}
 use Rattle.plant.specs.Reading.{byteAt, byteThat, byteIn, readRows, rowsByte, readMachine, readMachines, readPlant}
-use Rattle.weighing.specs.Weighing.{firstAbove, checkedSizes, checkedWeights, judgedWeights}
+use Rattle.weight_checks.specs.Checks.{firstAbove, checkedSizes, checkedWeights, judgedWeights}
 use Rattle.figures.proofs.FigureLaws.{most-limit, base-limit, per-progress-limit}
-use Rattle.weighing.proofs.WeighingLaws.{then-found, judged-weights}
-use Rattle.quoting.specs.Classes.{edges, classOf}
-use Rattle.quoting.specs.Quoting.{content, checkedAmounts, checkedContents, judged, ceilingFor, OpensWith, IsCeiling, largestCeiling}
-use Rattle.quoting.specs.Inner.Checks.{AllAtMost}
-use Rattle.quoting.proofs.EdgeLaws.{edges-limit, class-is}
-use Rattle.quoting.proofs.AmountLaws.{none-above, contents-good, contents-limit}
+use Rattle.weight_checks.proofs.CheckLaws.{none-above, then-found, judged-weights}
+use Rattle.price_classes.specs.Classes.{edges, classOf}
+use Rattle.contents.specs.Contents.{content, checkedAmounts, checkedContents, AllAtMost}
+use Rattle.contents.proofs.AmountLaws.{contents-good, contents-limit}
+use Rattle.quoting.specs.Quoting.{judged, ceilingFor, OpensWith, IsCeiling, largestCeiling}
 
 -- ---- what a ceiling means
 
@@ -75,10 +74,6 @@ ceiling-limit file ws contents g P end e =
       mul-le-mul (most-limit P (w .limits)) (contents-limit ws contents (P .types) (w .limits .few-types) (w .light) (w .small)),
       mul-le-mul (per-progress-limit P (w .limits) ws light) (w .few-progress),
     )
-
--- Every class is at most 43.
-pub class-limit : (ceiling : ℕ) → classOf ceiling ≤ 43
-class-limit ceiling = omega (arith, class-is ceiling, edges-limit 43 ceiling)
 
 -- ---- where it is attained
 

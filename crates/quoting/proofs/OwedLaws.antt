@@ -11,35 +11,28 @@ use Rattle.livelock.specs.Weights.{Passes, FailingCycle}
 use Rattle.livelock.specs.Figures.{Figures, figuresOf, ceilingOf}
 use Rattle.livelock.proofs.Decision.{decision, not-both}
 use Rattle.plant.specs.Found.{Found, found, fault, andThen}
-use Rattle.plant.specs.Reading.{noMachines}
 use Rattle.plant.specs.declared.Fault.{Fault}
 use Rattle.plant.proofs.OneToOne.{same-fault}
-use Rattle.weighing.specs.Weighing.{firstAbove, judgedWeights, OnPassingVerdict, OwedVerdict}
+use Rattle.weight_checks.specs.Checks.{firstAbove, judgedWeights}
+use Rattle.weight_checks.proofs.CheckLaws.{none-above, no-plant, judged-weights}
+use Rattle.weighing.specs.Weighing.{OnPassingVerdict, OwedVerdict}
 use Rattle.weighing.specs.Answers as weighed
 use Rattle.weighing.specs.declared.Verdict.{Verdict}
 use Rattle.figures.proofs.FigureLaws.{most-limit, base-limit, per-progress-limit}
-use Rattle.weighing.proofs.WeighingLaws.{no-plant, then-found, judged-weights, verdict-refused, verdict-fails, verdict-passes}
+use Rattle.weighing.proofs.WeighingLaws.{verdict-refused, verdict-fails, verdict-passes}
+use Rattle.price_classes.specs.Classes.{classOf}
+use Rattle.contents.specs.Contents.{amounts, checkedAmounts, checkedContents, AllAtMost, weightOfContents}
+use Rattle.contents.specs.Checks.{Checks}
+use Rattle.contents.specs.declared.Check.the-variants as CheckVariants
 use Rattle.quoting.specs.Answers.{Answer, quoted, refused, answerOf}
-use Rattle.quoting.specs.Classes.{classOf}
-use Rattle.quoting.specs.Quoting.{amounts, checkedAmounts, checkedContents, judged, ceilingFor, Owed, for-fault, for-plant, largestCeiling}
-use Rattle.quoting.specs.Inner.Checks.{AllAtMost, weightOfContents, Checks, Priced, FiguresFit, quotedFor, OwedChecked}
-use Rattle.quoting.specs.declared.Check.the-variants as CheckVariants
+use Rattle.quoting.specs.Quoting.{judged, ceilingFor, Owed, for-fault, for-plant, largestCeiling}
+use Rattle.quoting.specs.Inner.Pricing.{Priced, FiguresFit, quotedFor, OwedChecked}
 use Rattle.quoting.specs.declared.Quoted.{Quoted}
 use Rattle.quoting.specs.declared.Quoted.the-variants as QuotedVariants
-use Rattle.quoting.proofs.AmountLaws.{none-above, contents-good}
 use Rattle.quoting.proofs.CeilingLaws.{bound-for, judged-within}
 use Rattle.quoting.proofs.CeilingLaws.{largestFile, largestWeights, largestContents, largestPlant, largest-attained}
 
 -- ---- after the checks of the contents and g
-
--- A check without a fault: the numbers are good.
-pub check-good : (types : ℕ) (contents : List ℕ) (g : ℕ) (passes : Bool) → Checks types contents g passes CheckVariants.Good
-    → (length contents ≡ types) × AllAtMost 1000000 contents × (g ≤ 1000000)
-check-good types contents g passes ok =
-    let P : Plant = noMachines types in
-    let x = then-found (checkedContents contents g P 0) (λ Q e. cond passes (found Q e) (fault 22 0)) P 0 (sym (ok P 0 refl)) in
-    let a = contents-good contents g P (x .0) 0 (x .1) (x .2) in
-    (a .one-each, a .small, a .few-progress)
 
 module _ (passes : Bool) (f : Figures) (ws contents : List ℕ) (g : ℕ) where
   -- A fault is handed on,

@@ -1,36 +1,16 @@
--- What quoting owes (document 01, "Quoting" and "Where each fault is found", 9, 10 and 20 to 22).
+-- What quoting owes (document 01, "Quoting" and "Where each fault is found", 22). How its input is judged stands in the crates `weight_checks` and `contents`.
 use mathlib.Core.Path.{_≡_}
-use mathlib.Core.Bool.{cond}
-use mathlib.Core.List.{List, [], _∷_, _++_}
+use mathlib.Core.List.{List}
 use Prim.Native.Nat.{ℕ, _≤_, _<_}
-use lib.ListN.{length, getD}
-use lib.Dec.{eqb, ltb}
 use Rattle.livelock.specs.Plants.{Plant}
 use Rattle.livelock.specs.Runs.{Configuration, Event, quietRows, progressRows}
 use Rattle.livelock.specs.Weights.{Passes}
 use Rattle.livelock.specs.Figures.{figuresOf, contentsWeight, ceilingOf}
 use Rattle.plant.specs.Found.{Found, found, fault, andThen}
-use Rattle.weighing.specs.Weighing.{firstAbove, judgedWeights}
+use Rattle.weight_checks.specs.Checks.{judgedWeights}
+use Rattle.contents.specs.Contents.{content, checkedContents}
 use Rattle.quoting.specs.Answers.{Answer, quoted, refused}
-use Rattle.quoting.specs.Classes.{classOf}
-
--- "contents (one 32-bit number for each type)": the content of type t.
-abbrev pub content : List ℕ → ℕ → ℕ
-content contents t = getD contents t 0
-
--- "contents, g": the numbers given, the last of them behind the contents, so that the index of g is the type count.
-abbrev pub amounts : (contents last : List ℕ) → List ℕ
-amounts contents last = contents ++ last
-
--- "contents, g | 21 | above 1,000,000 | index; for g the type count".
-unfoldable pub checkedAmounts : List ℕ → ℕ → Plant → ℕ → Found Plant
-checkedAmounts contents g P end =
-    let given = amounts contents (g ∷ []) in
-    cond (ltb (firstAbove 1000000 given) (length given)) (fault 21 (firstAbove 1000000 given)) (found P end)
-
--- "contents | 20 | not one for each type | 0", then 21.
-unfoldable pub checkedContents : List ℕ → ℕ → Plant → ℕ → Found Plant
-checkedContents contents g P end = cond (eqb (length contents) (P .types)) (checkedAmounts contents g P end) (fault 20 0)
+use Rattle.price_classes.specs.Classes.{classOf}
 
 -- "quoting 9, 10, 20, 21": the weights are judged as weighing judges them, and then the contents and g. The plant to quote for, or the fault.
 abbrev pub judged : List ℕ → List ℕ → List ℕ → ℕ → Found Plant

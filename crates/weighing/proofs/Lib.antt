@@ -1,4 +1,3 @@
--- Laws of the edge list, the rounds, the search and the figures.
-pub mod BasicExamples
+-- Laws of weighing.
 pub mod WeighingLaws
 pub mod PassedLaws

@@ -10,8 +10,10 @@ use Rattle.livelock.specs.Figures.{Figures, figuresOf, BoundedBy}
 use Rattle.plant.specs.Found.{Found, found, fault}
 use Rattle.plant.specs.Reading.{readPlant}
 use Rattle.weighing.specs.Answers.{Answer, passed, HasFigures}
-use Rattle.weighing.specs.Weighing.{judged, OnPassing, Owed, for-fault, for-plant}
-use Rattle.weighing.proofs.WeighingLaws.{judged-read, passed-iff}
+use Rattle.weight_checks.specs.Checks.{judged}
+use Rattle.weight_checks.proofs.CheckLaws.{judged-read}
+use Rattle.weighing.specs.Weighing.{OnPassing, Owed, for-fault, for-plant}
+use Rattle.weighing.proofs.WeighingLaws.{passed-iff}
 
 -- Figures are not owed for a fault.
 pub no-figures : (ws before after : List ℕ) (a : Answer) (number place : ℕ) → Owed ws before after a (fault number place) → HasFigures a → ⊥

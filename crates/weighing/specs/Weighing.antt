@@ -1,41 +1,13 @@
--- What weighing owes (document 01, "Cycles and weighing" and "Where each fault is found", 9 to 11; demands 2 and 3).
+-- What weighing owes (document 01, "Cycles and weighing"; demands 2 and 3). How its input is judged stands in crate `weight_checks`.
 use mathlib.Core.Path.{_≡_}
-use mathlib.Core.Bool.{cond}
-use mathlib.Core.List.{List, [], _∷_, _++_}
-use Prim.Native.Nat.{ℕ, suc, _≤_}
+use mathlib.Core.List.{List, _++_}
+use Prim.Native.Nat.{ℕ, _≤_}
 use lib.ListN.{length, drop}
-use lib.Dec.{eqb, ltb}
 use Rattle.livelock.specs.Plants.{Plant}
 use Rattle.livelock.specs.Weights.{Passes, FailingCycle}
 use Rattle.livelock.specs.Figures.{figuresOf, Bounded}
-use Rattle.plant.specs.Found.{Found, found, fault, andThen}
-use Rattle.plant.specs.Reading.{readPlant}
+use Rattle.plant.specs.Found.{Found, found, fault}
 use Rattle.weighing.specs.Answers.{Answer, passed, cycle, refused, Judgement, passing, failing, refusing}
-
--- The index of the first number above a limit, or the length if none is.
-unfoldable pub firstAbove : ℕ → List ℕ → ℕ
-firstAbove limit [] = 0
-firstAbove limit (x ∷ xs) = cond (ltb limit x) 0 (suc (firstAbove limit xs))
-
--- "weights | 10 | above 1,000 | index".
-unfoldable pub checkedSizes : List ℕ → Plant → ℕ → Found Plant
-checkedSizes ws P end = cond (ltb (firstAbove 1000 ws) (length ws)) (fault 10 (firstAbove 1000 ws)) (found P end)
-
--- "weights | 9 | not one for each type | 0", then 10: a plant for which the weights are good.
-unfoldable pub checkedWeights : List ℕ → Plant → ℕ → Found Plant
-checkedWeights ws P end = cond (eqb (length ws) (P .types)) (checkedSizes ws P end) (fault 9 0)
-
--- "File first, then downward as each call reads its parts": the plant for which the weights are good, or the fault.
-abbrev pub judgedWeights : List ℕ → List ℕ → Found Plant
-judgedWeights file ws = andThen (readPlant file) (checkedWeights ws)
-
--- "lent cycle list (weighing) | 11 | shorter than 64 | 0".
-unfoldable pub checkedRoom : ℕ → Plant → ℕ → Found Plant
-checkedRoom room P end = cond (ltb room 64) (fault 11 0) (found P end)
-
--- "weighing checks 9, 10, 11": the plant to weigh, or the fault.
-abbrev pub judged : List ℕ → List ℕ → ℕ → Found Plant
-judged file ws room = andThen (judgedWeights file ws) (checkedRoom room)
 
 -- "Passing hands back F, n and G as in the mission"; "On passing, the whole list does" keep its contents; and the bound holds.
 pub record OnPassing (P : Plant) (ws before after : List ℕ) (a : Answer) : Type 0 where

@@ -1,14 +1,13 @@
 // Weighing a plant.
-ghost use Prim.Native.Nat.{_≤_, min};
+ghost use Prim.Native.Nat.{min};
 ghost use mathlib.Core.Path.{_≡_};
 ghost use lib.ListN.{length};
 ghost use Rattle.weighing.specs.Answers.{answerOf, judgementOf};
-ghost use Rattle.weighing.specs.Weighing.{firstAbove, judgedWeights, judged, Owed, OwedVerdict};
-ghost use Rattle.livelock.specs.Figures.{mostStates};
+ghost use Rattle.weighing.specs.Weighing.{Owed, OwedVerdict};
 ghost use Rattle.tables.specs.Tables.{RoomFor};
-ghost use Rattle.decoding.specs.Tables.{plantOf};
 ghost use Rattle.machines.specs.Machines.{Weighable, EdgesBeside};
-ghost use Rattle.weighing.specs.Inner.Checks.{WeightsChecked, RoomChecked, OwedJudged, JudgedFor};
+ghost use Rattle.weight_checks.specs.Checks.{judgedWeights, judged};
+ghost use Rattle.weighing.specs.Inner.Judging.{OwedJudged, JudgedFor};
 use decoding::Shape;
 use figures::Figures;
 use plant::End;
@@ -61,61 +60,6 @@ fn without_edges(verdict: Verdict) -> Judged
     }
 }
 
-// The index of the first weight above 1,000, or the length if none is.
-fn first_above(weights: &[u16]) -> usize
-    ensures { λ r. ⌜ r ≡ firstAbove 1000 (now (weights .entry)) ⌝ }
-{
-    let mut i = 0;
-    while i < weights.len() {
-        if weights[i] > 1000 {
-            return i;
-        }
-        i += 1;
-    }
-    i
-}
-
-// Where reading ended, or the first fault: that of the file, 9 or 10.
-fn check_weights(end: End, types: usize, weights: &[u16]) -> End
-    ensures { λ r. ⌜ WeightsChecked types (now (weights .entry)) end r ⌝ }
-{
-    match end {
-        End::Fault(fault) => End::Fault(fault),
-        End::At(next) => {
-            if weights.len() != types {
-                return End::Fault(Fault {
-                    number: 9,
-                    place: 0,
-                });
-            }
-            let above = first_above(weights);
-            if above < weights.len() {
-                return End::Fault(Fault {
-                    number: 10,
-                    place: above,
-                });
-            }
-            End::At(next)
-        }
-    }
-}
-
-// Where reading ended, or the first fault: an earlier one, or 11.
-fn check_room(end: End, room: usize) -> End
-    ensures { λ r. ⌜ RoomChecked room end r ⌝ }
-{
-    if room >= 64 {
-        return end;
-    }
-    match end {
-        End::Fault(earlier) => End::Fault(earlier),
-        End::At(_) => End::Fault(Fault {
-            number: 11,
-            place: 0,
-        }),
-    }
-}
-
 // Decides whether the weights pass the machines of a table. Where they do not, the edges of the first machine that fails stay in the list.
 fn judge_table(table: &[u8], shape: Shape, weights: &[u16], edges: &mut [i16]) -> Judged
     requires { ⌜ Weighable shape (now table) (now weights) × EdgesBeside (now table) (now edges) ⌝ }
@@ -149,7 +93,10 @@ fn judge_in(
     let decoded = decoding::decode(file, table);
     let read = decoded.end;
     let shape = decoded.shape;
-    let end = check_room(check_weights(read, shape.types as usize, weights), room);
+    let end = weight_checks::check_room(
+        weight_checks::check_weights(read, shape.types as usize, weights),
+        room,
+    );
     match end {
         End::Fault(fault) => without_edges(Verdict::Refused(fault)),
         End::At(_) => judge_table(table, shape, weights, edges),

@@ -1,5 +1,5 @@
 -- What the contracts of weighing and quoting leave to an answer for weights that pass.
-use mathlib.Core.Path.{_≡_, sym, _∙_, subst}
+use mathlib.Core.Path.{_≡_, sym, subst}
 use mathlib.Core.List.{List}
 use Prim.Native.Nat.{ℕ, _≤_}
 use lib.ListN.{length}
@@ -8,11 +8,13 @@ use Rattle.livelock.specs.Weights.{Passes}
 use Rattle.livelock.specs.Figures.{figuresOf}
 use Rattle.plant.specs.Found.{Found, found}
 use Rattle.plant.specs.Reading.{readPlant}
+use Rattle.weight_checks.specs.Checks.{firstAbove, judged}
+use Rattle.weight_checks.proofs.CheckLaws.{refuse-none}
 use Rattle.weighing.specs.Answers.{Answer, passed}
-use Rattle.weighing.specs.Weighing.{firstAbove, judged, OnFailing, Owed, for-plant}
-use Rattle.weighing.proofs.WeighingLaws.{owed-same, refuse-none}
+use Rattle.weighing.specs.Weighing.{OnFailing, Owed, for-plant}
+use Rattle.weighing.proofs.WeighingLaws.{owed-same}
+use Rattle.price_classes.specs.Classes.{classOf}
 use Rattle.quoting.specs.Answers as QuotingAnswers
-use Rattle.quoting.specs.Classes.{classOf}
 use Rattle.quoting.specs.Quoting as Quoting
 
 -- An answer of weighing that is owed for a plant in which the weights pass has their figures.

@@ -15,9 +15,10 @@ use Rattle.livelock.proofs.Decision.{not-both}
 use Rattle.livelock.proofs.BasicExamples.{panelAndProbe, plantA, plantB, probe-cycle, probe-quiet}
 use Rattle.livelock.proofs.PassingExamples.{passes-2-1, shown-1-1, none-pass-in-B}
 use Rattle.plant.specs.Found.{found}
-use Rattle.weighing.specs.Weighing.{firstAbove, checkedSizes, checkedWeights}
-use Rattle.quoting.specs.Classes.{edges, classOf}
-use Rattle.quoting.specs.Quoting.{checkedAmounts, checkedContents, judged}
+use Rattle.weight_checks.specs.Checks.{firstAbove, checkedSizes, checkedWeights}
+use Rattle.price_classes.specs.Classes.{edges, classOf}
+use Rattle.contents.specs.Contents.{checkedAmounts, checkedContents}
+use Rattle.quoting.specs.Quoting.{judged}
 use Rattle.cycle_paths.specs.Listings.{flattened}
 use Rattle.cycle_paths.specs.Cycles.{joined, selected, unleft, paths, cyclesThrough}
 use Rattle.listing.specs.Listing as Listing

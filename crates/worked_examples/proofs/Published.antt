@@ -16,7 +16,7 @@ use Rattle.livelock.proofs.Decision.{statePotential, passing-iff}
 use Rattle.livelock.proofs.Exclusion.{exclusion}
 use Rattle.plant.specs.Found.{found}
 use Rattle.plant.specs.Reading.{byteAt, byteThat, byteIn, mapByte, stateField, typeField, readRow, readRows, rowsByte, readMachine, readMachines, readPlant}
-use Rattle.weighing.specs.Weighing.{firstAbove}
+use Rattle.weight_checks.specs.Checks.{firstAbove}
 use Rattle.cycle_sets.specs.Answers.{confirmed}
 use Rattle.set_numbers.specs.Numbers.{numberIn, rowsAt, entryBegins}
 use Rattle.set_entries.specs.Sets.{entryEnds, entryAt, entriesAt}

@@ -10,8 +10,10 @@ use Rattle.livelock.specs.Weights.{cycleWeight, Passes, FailingCycle}
 use Rattle.livelock.specs.Figures.{contentsWeight}
 use Rattle.plant.specs.Found.{found}
 use Rattle.plant.specs.Reading.{readPlant}
+use Rattle.weight_checks.specs.Checks as WeightChecks
 use Rattle.weighing.specs.Answers as WeighingAnswers
 use Rattle.weighing.specs.Weighing as Weighing
+use Rattle.contents.specs.Contents.{content}
 use Rattle.quoting.specs.Answers as QuotingAnswers
 use Rattle.quoting.specs.Quoting as Quoting
 use Rattle.listing.specs.Answers as ListingAnswers
@@ -23,7 +25,7 @@ use Rattle.worked_examples.specs.Files.{fileA, fileB, oneState, oneRow, 
 -- Every answer that meets the contract of `weigh`, for a lent list of 64 entries or more, has these figures.
 abbrev pub PassedWith : List ℕ → List ℕ → ℕ → ℕ → ℕ → Type 0
 PassedWith file ws F n G =
-    (before after : List ℕ) (a : WeighingAnswers.Answer) → 64 ≤ length before → Weighing.Owed ws before after a (Weighing.judged file ws (length before))
+    (before after : List ℕ) (a : WeighingAnswers.Answer) → 64 ≤ length before → Weighing.Owed ws before after a (WeightChecks.judged file ws (length before))
     → a ≡ WeighingAnswers.passed (record { base = F; «most_states» = n; «per_progress» = G })
 
 -- A quiet simple cycle of a machine of the plant of a file, and its weight.
@@ -44,7 +46,7 @@ pub record Shown (file ws rows : List ℕ) (z : ℤ) : Type 0 where
   pub rightful : FailingCycle plant ws rows
   pub weighs : cycleWeight plant ws rows ≡ z
   pub not-passing : Passes plant ws → ⊥
-  pub answer : (before after : List ℕ) (a : WeighingAnswers.Answer) → 64 ≤ length before → Weighing.Owed ws before after a (Weighing.judged file ws (length before))
+  pub answer : (before after : List ℕ) (a : WeighingAnswers.Answer) → 64 ≤ length before → Weighing.Owed ws before after a (WeightChecks.judged file ws (length before))
       → Weighing.OnFailing plant ws before after a
 
 -- "no weights pass": none of the right count.
@@ -66,7 +68,7 @@ pub record QuotedAs (file ws contents : List ℕ) (g weight ceiling class : ℕ)
   pub plant : Plant
   pub end : ℕ
   pub reads : readPlant file ≡ found plant end
-  pub contents-weigh : contentsWeight plant ws (Quoting.content contents) ≡ weight
+  pub contents-weigh : contentsWeight plant ws (content contents) ≡ weight
   pub answer : (a : QuotingAnswers.Answer) → Quoting.Owed ws contents g a (Quoting.judged file ws contents g) → a ≡ QuotingAnswers.quoted ceiling class
 
 -- The listing of a machine of the plant of a file, in a lent list with as many entries.

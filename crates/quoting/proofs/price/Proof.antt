@@ -3,7 +3,7 @@ use borrow.Author.Needs.{needs}
 use mathlib.Core.Path.{ap}
 use native.Mathlib.Nat.{mul-le-mul}
 use native.Mathlib.Omega.{arith}
-use Prim.Native.Nat.{_+_, _*_, _≤_}
+use Prim.Native.Nat.{_*_, _≤_}
 use Rattle.livelock.specs.Figures.{ceilingOf}
 use Rattle.figures.specs.FigureSums.{figuresIn}
 use Rattle.quoting.specs.Answers.{quoted}

@@ -4,10 +4,10 @@ use mathlib.Core.Path.{subst}
 use native.Mathlib.Omega.{arith}
 use lib.ListN.{length}
 use Rattle.figures.specs.FigureSums.{figuresIn}
-use Rattle.quoting.specs.Inner.Checks.{Checks}
-use Rattle.quoting.specs.declared.Check.the-variants.{Good}
-use Rattle.quoting.proofs.AmountLaws.{contents-limit}
-use Rattle.quoting.proofs.OwedLaws.{check-good, check-refused, check-priced}
+use Rattle.contents.specs.Checks.{Checks}
+use Rattle.contents.specs.declared.Check.the-variants.{Good}
+use Rattle.contents.proofs.AmountLaws.{check-good, contents-limit}
+use Rattle.quoting.proofs.OwedLaws.{check-refused, check-priced}
 use Rattle.quoting.proofs.quote_weighed.Statement.{statement}
 use Rattle.quoting.proofs.quote_weighed.Tie as tie
 

@@ -2,7 +2,7 @@
 use borrow.Author.Needs.{needs}
 use mathlib.Core.Path.{subst}
 use native.Mathlib.Omega.{arith}
-use Rattle.weighing.specs.Inner.Checks.{OwedJudged}
+use Rattle.weighing.specs.Inner.Judging.{OwedJudged}
 use Rattle.weighing.proofs.WeighingLaws.{checks-judged, judged-weighable, verdict-refusal, refusing-other}
 use Rattle.weighing.proofs.judge_in.Statement.{statement}
 use Rattle.weighing.proofs.judge_in.Tie as tie

@@ -2,7 +2,7 @@
 use borrow.Author.Needs.{needs}
 use mathlib.Core.Path.{subst}
 use Rattle.weighing.specs.Weighing.{OwedVerdict}
-use Rattle.weighing.proofs.WeighingLaws.{judged-64}
+use Rattle.weight_checks.proofs.CheckLaws.{judged-64}
 use Rattle.weighing.proofs.verdict_in.Statement.{statement}
 use Rattle.weighing.proofs.verdict_in.Tie as tie
 

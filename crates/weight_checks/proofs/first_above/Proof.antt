@@ -4,10 +4,10 @@ use mathlib.Core.Path.{_≡_}
 use Prim.Native.Nat.{_+_, _-_, _≤_}
 use native.Mathlib.Omega.{arith}
 use lib.ListN.{length, drop}
-use Rattle.weighing.specs.Weighing.{firstAbove}
-use Rattle.weighing.proofs.WeighingLaws.{above-stops, above-goes-on, above-ends}
-use Rattle.weighing.proofs.first_above.Statement.{statement}
-use Rattle.weighing.proofs.first_above.Tie as tie
+use Rattle.weight_checks.specs.Checks.{firstAbove}
+use Rattle.weight_checks.proofs.CheckLaws.{above-stops, above-goes-on, above-ends}
+use Rattle.weight_checks.proofs.first_above.Statement.{statement}
+use Rattle.weight_checks.proofs.first_above.Tie as tie
 
 abbrev Inv-loop : tie.InvT-loop
 Inv-loop weights i₀ i = (i ≤ length weights) × (i + firstAbove 1000 (drop i weights) ≡ firstAbove 1000 weights)

@@ -2,9 +2,9 @@
 use borrow.Author.Needs.{needs}
 use Prim.Native.Nat.{ℕ, _-_, _^_, _≤_, _<_}
 use native.Mathlib.Omega.{arith}
-use Rattle.quoting.proofs.EdgeLaws.{table, edge-is, none-before, first-is-class}
-use Rattle.quoting.proofs.price_class.Statement.{statement}
-use Rattle.quoting.proofs.price_class.Tie as tie
+use Rattle.price_classes.proofs.EdgeLaws.{table, edge-is, none-before, first-is-class}
+use Rattle.price_classes.proofs.price_class.Statement.{statement}
+use Rattle.price_classes.proofs.price_class.Tie as tie
 
 abbrev Inv-loop : tie.InvT-loop
 Inv-loop ceiling edges class₀ class = (class ≤ 43) × ((i : ℕ) → i < class → 2 ^ i ≤ ceiling)

@@ -5,7 +5,7 @@ use Prim.Native.Nat.{ℕ}
 use Rattle.livelock.specs.Plants.{Plant}
 use Rattle.livelock.proofs.BasicExamples.{panelAndProbe, plantA}
 use Rattle.plant.specs.Found.{Found, found, fault, andThen}
-use Rattle.weighing.specs.Weighing.{firstAbove, checkedSizes, checkedWeights, checkedRoom}
+use Rattle.weight_checks.specs.Checks.{firstAbove, checkedSizes, checkedWeights, checkedRoom}
 
 -- The checks of plant A, whose file has 20 bytes.
 abbrev checkedA : List ℕ → ℕ → Found Plant

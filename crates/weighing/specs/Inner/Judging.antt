@@ -5,23 +5,13 @@ use Prim.Native.Nat.{ℕ}
 use lib.IntN.{ℤ}
 use Rattle.livelock.specs.Plants.{Plant}
 use Rattle.decoding.specs.Tables.{plantOf}
-use Rattle.plant.specs.Steps.{endFound}
-use Rattle.plant.specs.Found.{Found, found, andThen}
-use Rattle.plant.specs.declared.End.{End}
+use Rattle.plant.specs.Found.{Found, found}
 use Rattle.decoding.specs.declared.Shape.{Shape}
 use Rattle.weighing.specs.Answers.{cycle, failing, judgementOf}
-use Rattle.weighing.specs.Weighing.{checkedWeights, checkedRoom, Owed, OwedVerdict}
+use Rattle.weighing.specs.Weighing.{Owed, OwedVerdict}
 use Rattle.deciding.specs.Rounds.{edgeGraph, EdgesIn, SomeZeroOrMore}
 use Rattle.searching.specs.Searches.{ShownRows}
 use Rattle.weighing.specs.declared.Judged.{Judged}
-
--- For every plant with so many types: where reading ended, the checks 9 and 10 follow.
-abbrev pub WeightsChecked : ℕ → List ℕ → End → End → Type 0
-WeightsChecked types ws end r = (P : Plant) → P .types ≡ types → endFound r P ≡ andThen (endFound end P) (checkedWeights ws)
-
--- For every plant: where no fault was found, check 11 follows.
-abbrev pub RoomChecked : ℕ → End → End → Type 0
-RoomChecked room end r = (P : Plant) → endFound r P ≡ andThen (endFound end P) (checkedRoom room)
 
 -- The edges of a machine with a cycle that weighs zero or more: the search can begin, and whatever rows it shows are owed.
 pub record Shows (ws : List ℕ) (edges : List ℤ) (count states : ℕ) (x : Found Plant) : Type 0 where

@@ -5,11 +5,11 @@ use mathlib.Core.List.{[], _∷_}
 use Prim.Native.Nat.{_+_, _-_, _≤_}
 use native.Mathlib.Omega.{arith}
 use lib.ListN.{length, drop}
-use Rattle.weighing.specs.Weighing.{firstAbove}
-use Rattle.quoting.specs.Quoting.{amounts}
-use Rattle.quoting.proofs.AmountLaws.{content-stops, content-goes-on, g-stops, none-stops}
-use Rattle.quoting.proofs.first_above.Statement.{statement}
-use Rattle.quoting.proofs.first_above.Tie as tie
+use Rattle.weight_checks.specs.Checks.{firstAbove}
+use Rattle.contents.specs.Contents.{amounts}
+use Rattle.contents.proofs.AmountLaws.{content-stops, content-goes-on, g-stops, none-stops}
+use Rattle.contents.proofs.first_above.Statement.{statement}
+use Rattle.contents.proofs.first_above.Tie as tie
 
 abbrev Inv-loop : tie.InvT-loop
 Inv-loop contents g i₀ i = (i ≤ length contents) × (i + firstAbove 1000000 (drop i (amounts contents (g ∷ []))) ≡ firstAbove 1000000 (amounts contents (g ∷ [])))

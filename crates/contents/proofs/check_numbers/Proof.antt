@@ -6,11 +6,11 @@ use Prim.Native.Nat.{_≤_, _<_}
 use native.Mathlib.Omega.{arith}
 use borrow.Author.Tests.{not-true, not-false}
 use lib.ListN.{length}
-use Rattle.weighing.specs.Weighing.{firstAbove}
-use Rattle.quoting.specs.Quoting.{amounts}
-use Rattle.quoting.proofs.AmountLaws.{amounts-length, refuse-20, refuse-21, refuse-22, refuse-none}
-use Rattle.quoting.proofs.check_numbers.Statement.{statement}
-use Rattle.quoting.proofs.check_numbers.Tie as tie
+use Rattle.weight_checks.specs.Checks.{firstAbove}
+use Rattle.contents.specs.Contents.{amounts}
+use Rattle.contents.proofs.AmountLaws.{amounts-length, refuse-20, refuse-21, refuse-22, refuse-none}
+use Rattle.contents.proofs.check_numbers.Statement.{statement}
+use Rattle.contents.proofs.check_numbers.Tie as tie
 
 refused-requires : tie.Need-refused-requires
 refused-requires c κs = search needs

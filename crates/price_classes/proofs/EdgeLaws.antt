@@ -14,7 +14,7 @@ use Rattle.livelock.specs.Lists.{below, count}
 use Rattle.livelock.proofs.SumLaws.{sum-map, sum-next}
 use Rattle.livelock.proofs.Tests.{and-iff}
 use Rattle.figures.proofs.FigureLaws.{sum-none, sum-limit}
-use Rattle.quoting.specs.Classes.{edges, classOf}
+use Rattle.price_classes.specs.Classes.{edges, classOf}
 
 -- ---- the doubling rule
 
@@ -66,6 +66,10 @@ edges-limit n ceiling = omega (arith, sum-limit (λ k. cond (leb (2 ^ k) ceiling
 pub class-is : (ceiling : ℕ) → classOf ceiling ≡ edgesNotAbove 43 ceiling
 unfolding classOf edges
 class-is ceiling = sum-map (λ edge. cond (leb edge ceiling) 1 0) (λ k. 2 ^ k) (below 43)
+
+-- So every class is at most 43.
+pub class-limit : (ceiling : ℕ) → classOf ceiling ≤ 43
+class-limit ceiling = omega (arith, class-is ceiling, edges-limit 43 ceiling)
 
 -- ---- the first edge above the ceiling
 

@@ -8,10 +8,10 @@ use lib.ListN.{length}
 use Rattle.livelock.specs.Lists.{below, sum}
 use Rattle.livelock.specs.Weights.{weight}
 use Rattle.figures.proofs.FigureLaws.{sum-none, sum-turn}
-use Rattle.quoting.specs.Quoting.{content}
-use Rattle.quoting.proofs.AmountLaws.{contents-limit}
-use Rattle.quoting.proofs.contents_weight.Statement.{statement}
-use Rattle.quoting.proofs.contents_weight.Tie as tie
+use Rattle.contents.specs.Contents.{content}
+use Rattle.contents.proofs.AmountLaws.{contents-limit}
+use Rattle.contents.proofs.contents_weight.Statement.{statement}
+use Rattle.contents.proofs.contents_weight.Tie as tie
 
 abbrev Inv-loop : tie.InvT-loop
 Inv-loop weights contents sum₀ t₀ total t = (t ≤ length weights) × (total ≡ sum (λ i. weight weights i * content contents i) (below t))

@@ -2,10 +2,10 @@
 use borrow.Author.Needs.{needs}
 use mathlib.Core.Path.{refl}
 use native.Mathlib.Omega.{arith}
-use Rattle.weighing.specs.Weighing.{checkedWeights}
-use Rattle.weighing.proofs.WeighingLaws.{end-told, refuse-9, refuse-10, accept-weights}
-use Rattle.weighing.proofs.check_weights.Statement.{statement}
-use Rattle.weighing.proofs.check_weights.Tie as tie
+use Rattle.weight_checks.specs.Checks.{checkedWeights}
+use Rattle.weight_checks.proofs.CheckLaws.{end-told, refuse-9, refuse-10, accept-weights}
+use Rattle.weight_checks.proofs.check_weights.Statement.{statement}
+use Rattle.weight_checks.proofs.check_weights.Tie as tie
 
 enum-known-end : tie.Need-enum-known-end
 enum-known-end c = search needs

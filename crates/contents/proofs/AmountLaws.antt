@@ -4,7 +4,7 @@ use mathlib.Core.Logic.{_≢_}
 use mathlib.Core.Bool.{Bool, true, false, cond}
 use mathlib.Core.List.{List, [], _∷_}
 use Prim.Native.Nat.{ℕ, zero, suc, _+_, _*_, _≤_, _<_, zero-le}
-use native.Mathlib.Nat.{le-of-suc-le-suc, not-suc-le-zero, mul-le-mul}
+use native.Mathlib.Nat.{mul-le-mul}
 use native.Mathlib.Omega.{arith}
 use borrow.Author.Tests.{eq-eqb, ne-eqb, lt-ltb, le-ltb, eqb-true, ltb-false}
 use lib.Dec.{eqb, ltb}
@@ -14,24 +14,15 @@ use Rattle.livelock.specs.Plants.{Plant}
 use Rattle.livelock.specs.Lists.{below, sum}
 use Rattle.livelock.specs.Weights.{weight}
 use Rattle.plant.specs.Found.{found, fault}
-use Rattle.weighing.specs.Weighing.{firstAbove}
+use Rattle.plant.specs.Reading.{noMachines}
+use Rattle.weight_checks.specs.Checks.{firstAbove}
 use Rattle.figures.proofs.FigureLaws.{sum-limit}
-use Rattle.weighing.proofs.WeighingLaws.{above-stops, above-goes-on, above-ends, no-plant}
-use Rattle.quoting.specs.Quoting.{content, amounts, checkedAmounts, checkedContents}
-use Rattle.quoting.specs.Inner.Checks.{AllAtMost, checkedPassing}
+use Rattle.weight_checks.proofs.CheckLaws.{above-stops, above-goes-on, above-ends, none-above, no-plant, then-found}
+use Rattle.contents.specs.Contents.{content, amounts, checkedAmounts, checkedContents, AllAtMost}
+use Rattle.contents.specs.Checks.{checkedPassing, Checks}
+use Rattle.contents.specs.declared.Check.the-variants as CheckVariants
 
 -- ---- the first number above a limit
-
--- Where the first is not among the numbers, none is above.
-pub none-above : (limit : ℕ) (xs : List ℕ) → length xs ≤ firstAbove limit xs → AllAtMost limit xs
-unfolding firstAbove
-none-above limit [] h i = zero-le
-none-above limit (x ∷ xs) h i = go (ltb limit x) refl h (none-above limit xs) i
-  where
-    go : (b : Bool) → ltb limit x ≡ b → suc (length xs) ≤ cond b 0 (suc (firstAbove limit xs)) → (length xs ≤ firstAbove limit xs → AllAtMost limit xs) → AllAtMost limit (x ∷ xs)
-    go true q l rest i = absurd (not-suc-le-zero l)
-    go false q l rest zero = ltb-false limit x q
-    go false q l rest (suc i) = rest (le-of-suc-le-suc l) i
 
 module _ (contents last : List ℕ) where
   -- The last numbers stand behind the contents: there are so many more,
@@ -125,6 +116,15 @@ contents-good contents g Q P k end =
         let r = amounts-limit contents g (none-above 1000000 (amounts contents (g ∷ [])) (ltb-false _ _ q)) in
         record { same = cc; one-each = eqb-true _ _ p; small = r .0; few-progress = r .1 }
     go false b p q e = no-plant _ _ P end e
+
+-- A check without a fault: the numbers are good.
+pub check-good : (types : ℕ) (contents : List ℕ) (g : ℕ) (passes : Bool) → Checks types contents g passes CheckVariants.Good
+    → (length contents ≡ types) × AllAtMost 1000000 contents × (g ≤ 1000000)
+check-good types contents g passes ok =
+    let P : Plant = noMachines types in
+    let x = then-found (checkedContents contents g P 0) (λ Q e. cond passes (found Q e) (fault 22 0)) P 0 (sym (ok P 0 refl)) in
+    let a = contents-good contents g P (x .0) 0 (x .1) (x .2) in
+    (a .one-each, a .small, a .few-progress)
 
 -- ---- the weight of the contents
 

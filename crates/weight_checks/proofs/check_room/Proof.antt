@@ -3,10 +3,10 @@ use borrow.Author.Needs.{needs}
 use mathlib.Core.Path.{refl}
 use native.Mathlib.Omega.{arith}
 use Rattle.plant.specs.Steps.{endFound}
-use Rattle.weighing.specs.Weighing.{checkedRoom}
-use Rattle.weighing.proofs.WeighingLaws.{end-told, refuse-11, accept-room}
-use Rattle.weighing.proofs.check_room.Statement.{statement}
-use Rattle.weighing.proofs.check_room.Tie as tie
+use Rattle.weight_checks.specs.Checks.{checkedRoom}
+use Rattle.weight_checks.proofs.CheckLaws.{end-told, refuse-11, accept-room}
+use Rattle.weight_checks.proofs.check_room.Statement.{statement}
+use Rattle.weight_checks.proofs.check_room.Tie as tie
 
 returns : tie.Need-returns
 returns c = λ P. accept-room _ (endFound (c .before .args .end) P) (omega (arith, c .if1 .taken))

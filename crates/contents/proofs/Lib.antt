@@ -1,0 +1,3 @@
+-- Laws of the contents and g.
+pub mod BasicExamples
+pub mod AmountLaws

@@ -1,0 +1,3 @@
+-- Laws of the edges and classes.
+pub mod BasicExamples
+pub mod EdgeLaws

@@ -1,0 +1,2 @@
+-- What a price class is.
+pub mod Classes

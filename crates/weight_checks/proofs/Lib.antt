@@ -1,0 +1,3 @@
+-- Laws of the checks.
+pub mod BasicExamples
+pub mod CheckLaws

@@ -1,0 +1,2 @@
+-- How the input of weighing is judged.
+pub mod Checks
