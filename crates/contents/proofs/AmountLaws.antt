@@ -16,7 +16,7 @@ use Rattle.livelock.specs.Weights.{weight}
 use Rattle.plant.specs.Found.{found, fault}
 use Rattle.plant.specs.Reading.{noMachines}
 use Rattle.weight_checks.specs.Checks.{firstAbove}
-use Rattle.figures.proofs.FigureLaws.{sum-limit}
+use Rattle.livelock.proofs.SumLaws.{sum-limit}
 use Rattle.weight_checks.proofs.CheckLaws.{above-stops, above-goes-on, above-ends, none-above, no-plant, then-found}
 use Rattle.contents.specs.Contents.{content, amounts, checkedAmounts, checkedContents, AllAtMost}
 use Rattle.contents.specs.Checks.{checkedPassing, Checks}

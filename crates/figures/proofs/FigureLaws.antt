@@ -11,40 +11,10 @@ use Rattle.livelock.specs.Plants.{Plant, machineCount, stateCount}
 use Rattle.livelock.specs.Weights.{weight}
 use Rattle.livelock.specs.Figures.{statesLessOne, mostStates, largestWeight, base, perProgress}
 use Rattle.livelock.proofs.ListLaws.{all-at, all-below}
-use Rattle.livelock.proofs.SumLaws.{sum-next, greatest-next, greatest-bound}
+use Rattle.livelock.proofs.SumLaws.{sum-limit, greatest-limit}
 use Rattle.plant.specs.Limits.{WithinLimits}
 use Rattle.figures.specs.FigureSums.{figuresIn, FiguresOf}
 use Rattle.figures.specs.declared.Figures.{Figures}
-
--- ---- loops that count upwards
-
--- Before the first turn the sum and the greatest value are 0.
-pub sum-none : (f : ℕ → ℕ) → sum f (below 0) ≡ 0
-unfolding below sum
-sum-none f = refl
-
-pub greatest-none : (f : ℕ → ℕ) → greatest f (below 0) ≡ 0
-unfolding below greatest
-greatest-none f = refl
-
--- The turn at k adds the value at k to the sum,
-pub sum-turn : (f : ℕ → ℕ) (k : ℕ) → sum f (below (k + 1)) ≡ sum f (below k) + f k
-sum-turn f k = rw (add-one k) (sum-next f k)
-
--- and takes the larger of the greatest value so far and the value at k.
-pub greatest-turn : (f : ℕ → ℕ) (k : ℕ) → greatest f (below (k + 1)) ≡ max (greatest f (below k)) (f k)
-greatest-turn f k = rw (add-one k) (greatest-next f k)
-
--- ---- values with a limit
-
--- Where each of n values is at most b, their sum is at most n times b,
-pub sum-limit : (f : ℕ → ℕ) (b n : ℕ) → ((k : ℕ) → k < n → f k ≤ b) → sum f (below n) ≤ n * b
-sum-limit f b zero h = omega (arith, sum-none f)
-sum-limit f b (suc n) h = omega (arith, sum-next f n, h n (omega arith), sum-limit f b n (λ k l. h k (omega arith)))
-
--- and their greatest is at most b.
-pub greatest-limit : (f : ℕ → ℕ) (b n : ℕ) → ((k : ℕ) → k < n → f k ≤ b) → greatest f (below n) ≤ b
-greatest-limit f b n h = greatest-bound f b (below n) (all-below (λ k. f k ≤ b) n h)
 
 -- ---- the figures of a plant
 

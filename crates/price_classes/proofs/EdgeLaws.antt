@@ -13,7 +13,7 @@ use lib.Pow.{pow-mono}
 use Rattle.livelock.specs.Lists.{below, count}
 use Rattle.livelock.proofs.SumLaws.{sum-map, sum-next}
 use Rattle.livelock.proofs.Tests.{and-iff}
-use Rattle.figures.proofs.FigureLaws.{sum-none, sum-limit}
+use Rattle.livelock.proofs.SumLaws.{sum-none, sum-limit}
 use Rattle.price_classes.specs.Classes.{edges, classOf}
 
 -- ---- the doubling rule

@@ -10,12 +10,8 @@ use lib.ListN.{length, getD, set, take, replicate}
 use lib.Seq.{take-suc, take-suc-set, take-all, length-take-le}
 use lib.Dec.{eqb}
 use Rattle.io.specs.Counts.{Counts}
+use Rattle.livelock.proofs.StoreLaws.{stored-next}
 use Rattle.weight_files.specs.WeightFiles.{weightsOf, handedOver}
-
--- One number more, where those before it stand at the front of a list.
-pub stored-next : (numbers list : List ℕ) (i n : ℕ) → i < length numbers → i < length list → n ≡ getD numbers i 0
-    → take i list ≡ take i numbers → take (i + 1) (set list i n) ≡ take (i + 1) numbers
-stored-next numbers list i n h l e t = rw (add-one i, take-suc-set list i n l, take-suc numbers i 0 h, t, e)
 
 -- Two bytes a weight.
 pub weights-length : (s : List ℕ) → length (weightsOf s) ≡ length s / 2

@@ -4,8 +4,8 @@ use mathlib.Core.Path.{_≡_, subst}
 use Prim.Native.Nat.{ℕ, _*_, _-_, _≤_}
 use native.Mathlib.Omega.{arith}
 use lib.ListN.{length, take, length-set}
+use Rattle.livelock.proofs.StoreLaws.{stored-next}
 use Rattle.figure_lines.specs.FigureLines.{figures}
-use Rattle.weight_files.proofs.WeightLaws.{stored-next}
 use Rattle.answer_line.proofs.LineLaws.{rows-short}
 use Rattle.answer_line.proofs.widened.Statement.{statement}
 use Rattle.answer_line.proofs.widened.Tie as tie

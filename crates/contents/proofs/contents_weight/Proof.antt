@@ -7,7 +7,7 @@ use native.Mathlib.Omega.{arith}
 use lib.ListN.{length}
 use Rattle.livelock.specs.Lists.{below, sum}
 use Rattle.livelock.specs.Weights.{weight}
-use Rattle.figures.proofs.FigureLaws.{sum-none, sum-turn}
+use Rattle.livelock.proofs.SumLaws.{sum-none, sum-turn}
 use Rattle.contents.specs.Contents.{content}
 use Rattle.contents.proofs.AmountLaws.{contents-limit}
 use Rattle.contents.proofs.contents_weight.Statement.{statement}

@@ -5,7 +5,8 @@ use native.Mathlib.Nat.{mul-le-mul}
 use native.Mathlib.Omega.{arith}
 use lib.ListN.{length, getD}
 use Rattle.livelock.proofs.SumLaws.{greatest-below}
-use Rattle.figures.proofs.FigureLaws.{sum-limit, greatest-limit, figures-are}
+use Rattle.livelock.proofs.SumLaws.{sum-limit, greatest-limit}
+use Rattle.figures.proofs.FigureLaws.{figures-are}
 use Rattle.figures.proofs.figures_of.Statement.{statement}
 use Rattle.figures.proofs.figures_of.Tie as tie
 

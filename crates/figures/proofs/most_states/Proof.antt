@@ -5,7 +5,7 @@ use Prim.Native.Nat.{ℕ, _-_, _≤_, zero-le}
 use native.Mathlib.Omega.{arith}
 use lib.ListN.{length, getD}
 use Rattle.livelock.specs.Lists.{below, greatest}
-use Rattle.figures.proofs.FigureLaws.{greatest-none, greatest-turn}
+use Rattle.livelock.proofs.SumLaws.{greatest-none, greatest-turn}
 use Rattle.figures.proofs.most_states.Statement.{statement}
 use Rattle.figures.proofs.most_states.Tie as tie
 

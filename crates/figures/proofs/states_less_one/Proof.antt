@@ -5,7 +5,7 @@ use Prim.Native.Nat.{ℕ, _-_, _*_, _≤_, zero-le}
 use native.Mathlib.Omega.{arith}
 use lib.ListN.{length, getD}
 use Rattle.livelock.specs.Lists.{below, sum}
-use Rattle.figures.proofs.FigureLaws.{sum-none, sum-turn}
+use Rattle.livelock.proofs.SumLaws.{sum-none, sum-turn}
 use Rattle.figures.proofs.states_less_one.Statement.{statement}
 use Rattle.figures.proofs.states_less_one.Tie as tie
 
