@@ -15,11 +15,12 @@ use Rattle.cycle_paths.specs.Cycles.{unleft}
 use Rattle.state_marks.specs.Marks.{column}
 use Rattle.cycle_paths.specs.Rows.{Linked}
 use Rattle.state_marks.specs.Marks.{Closed}
-use Rattle.cycle_paths.specs.Inner.Extending.{stepOf, extensions}
-use Rattle.cycle_paths.specs.Entries.{entryOf}
+use Rattle.cycle_entries.specs.Entries.{entryOf}
+use Rattle.cycle_paths.specs.Extensions.{stepOf, extensions}
 use Rattle.cycle_paths.proofs.ExtensionLaws.{rest, rest-none, rest-to, rest-at, Turn, turn-leaves, turn-skip, turn-close, turn-enter, extensions-closed}
 use Rattle.cycle_counts.proofs.BetweenLaws.{rest-closing}
-use Rattle.cycle_counts.specs.Inner.Counting.{rowsBetween, Tables, Counted}
+use Rattle.cycle_counts.specs.Pairs.{rowsBetween}
+use Rattle.cycle_counts.specs.Inner.Counting.{Tables, Counted}
 
 -- ---- part after part
 

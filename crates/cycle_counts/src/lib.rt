@@ -7,7 +7,8 @@ ghost use Rattle.graphs.specs.Graphs.{leftOf, enteredOf, nextOf, headOf, intoOf
 ghost use Rattle.state_marks.specs.Marks.{column, marksOf};
 ghost use Rattle.cycle_paths.specs.Rows.{Searchable};
 ghost use Rattle.cycle_paths.specs.Entries.{allEntries};
-ghost use Rattle.cycle_counts.specs.Inner.Counting.{Between, Countable, CountedIn};
+ghost use Rattle.cycle_counts.specs.Pairs.{Between};
+ghost use Rattle.cycle_counts.specs.Inner.Counting.{Countable, CountedIn};
 use cycle_paths::Step;
 
 // The bits of 24 states.

@@ -21,12 +21,12 @@ use Rattle.cycle_paths.specs.declared.Step.{Step}
 use Rattle.cycle_paths.specs.declared.Step.the-variants as Steps
 use Rattle.cycle_paths.specs.Cycles.{unleft, joined, pathsBy, paths, leftOnly, cyclesBy}
 use Rattle.cycle_paths.specs.Listings.{In, flattened}
-use Rattle.cycle_paths.specs.Rows.{upFrom}
-use Rattle.state_marks.specs.Marks.{column}
-use Rattle.cycle_paths.specs.Rows.{Linked}
-use Rattle.state_marks.specs.Marks.{Sources, BelowOnly, Closed, marksOf}
-use Rattle.cycle_paths.specs.Inner.Extending.{stepOf, entriesWith, extensions, PathKept, Extended}
-use Rattle.cycle_paths.specs.Entries.{entryOf, Added}
+use Rattle.cycle_paths.specs.Rows.{upFrom, Linked, Searchable}
+use Rattle.graphs.specs.Graphs.{lastOf}
+use Rattle.state_marks.specs.Marks.{column, Sources, BelowOnly, Closed, marksOf}
+use Rattle.cycle_entries.specs.Entries.{entryOf, Added}
+use Rattle.cycle_paths.specs.Extensions.{stepOf, entriesWith, extensions}
+use Rattle.cycle_paths.specs.Inner.Extending.{PathKept, Extended}
 use Rattle.cycle_paths.proofs.ElementLaws.{up-from-in, in-up-from}
 use Rattle.cycle_paths.proofs.OrderLaws.{increasing-up-from}
 use Rattle.state_marks.proofs.MarkLaws.{marks-length}
@@ -378,6 +378,10 @@ path-kept depth k path₀ path path′ p q =
     }
 
 -- ---- the first rows of the cycles, one after the other
+
+-- A graph that has its rows has them up to the number that it keeps.
+pub searchable-last : {graph : List ℕ} {first last : ℕ} → Searchable graph first last → Searchable graph first (lastOf graph)
+searchable-last {graph} {first} s = subst (Searchable graph first) (sym (s .last-is)) s
 
 -- No more states are not yet left than there are.
 pub unleft-few : (marks : List ℕ) → unleft marks ≤ length marks

@@ -4,6 +4,5 @@ pub mod OrderLaws
 pub mod MarkLaws
 pub mod PathLaws
 pub mod CycleLaws
-pub mod LinkLaws
 pub mod FillingLaws
 pub mod ExtensionLaws

@@ -1,14 +1,12 @@
 -- Laws of the marks of states that are left.
-use mathlib.Core.Path.{_≡_, refl, sym, ap, ap₂, _∙_}
+use mathlib.Core.Path.{_≡_, refl, sym, ap, _∙_}
 use mathlib.Core.Logic.{_≢_}
 use mathlib.Core.List.{List, [], _∷_}
-use Prim.Native.Nat.{ℕ, zero, suc, _*_, _/_, _%_, _^_, _<_, _≤_, max}
-use native.Mathlib.Nat.{not-suc-le-zero, le-of-suc-le-suc, div-one, div-div-eq-div-mul, mul-comm, pow-suc, zero-lt-suc, max-zero, mod-lt}
+use Prim.Native.Nat.{ℕ, zero, suc, _<_, _≤_}
+use native.Mathlib.Nat.{not-suc-le-zero, le-of-suc-le-suc}
 use native.Mathlib.Decide.{ℕ-discrete, decLt}
 use native.Mathlib.Omega.{arith}
 use lib.ListN.{length, getD, set, replicate, length-set, length-replicate}
-use lib.Arith.{digits-div, digits-mod}
-use lib.Bits.{bitOr, or-step, or-zero-r, shifted-half, shifted-even}
 use lib.Seq.{set-out, getD-set-same, getD-set-other}
 use Rattle.livelock.proofs.ListLaws.{getD-replicate-default}
 use Rattle.cycle_paths.specs.Cycles.{unleft, leftOnly}

@@ -1,23 +1,11 @@
--- The entries of cycles, and what it is to add entries to a lent list.
-use mathlib.Core.Path.{_≡_}
-use mathlib.Core.List.{List, [], _∷_, _++_}
-use Prim.Native.Nat.{ℕ, suc, _+_, _-_, _≤_, min}
-use lib.ListN.{length}
-use lib.Seq.{sets}
+-- The entries of the cycles of some rows.
+use mathlib.Core.List.{List}
+use Prim.Native.Nat.{ℕ, _-_}
 use Rattle.state_marks.specs.Marks.{column}
 use Rattle.cycle_paths.specs.Cycles.{cyclesThrough}
 use Rattle.cycle_paths.specs.Listings.{flattened}
 use Rattle.cycle_paths.specs.Rows.{upFrom}
 
--- "each cycle's row count, then its rows", for the rows of a path and one row more.
-abbrev pub entryOf : List ℕ → ℕ → List ℕ
-entryOf rows k = (length rows + 1) ∷ (rows ++ (k ∷ []))
-
 -- The entries of all cycles of the rows from `first` up to `last`.
 abbrev pub allEntries : List ℕ → List ℕ → ℕ → ℕ → List ℕ
 allEntries left entered first last = flattened (cyclesThrough 24 (column left) (column entered) (upFrom first (last - first)))
-
--- Entries are stored from `pos` on if the list has room for them all, and counted up to one above the limit in any case.
-pub record Added (limit : ℕ) (before : List ℕ) (pos : ℕ) (entries : List ℕ) (used : ℕ) (after : List ℕ) : Type 0 where
-  pub counted : used ≡ min (suc limit) (pos + length entries)
-  pub stored : pos + length entries ≤ length before → after ≡ sets before pos entries

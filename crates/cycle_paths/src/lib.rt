@@ -1,14 +1,15 @@
 // The simple cycles of some rows, by depth-first extension of a path. It knows no plant. No entry point: `cycle_counts` and
 // `listing` call it.
 ghost use mathlib.Core.Path.{_≡_};
-ghost use Prim.Native.Nat.{suc, _+_, _≤_, _<_, _^_};
+ghost use Prim.Native.Nat.{_<_, _^_};
 ghost use lib.ListN.{length, take};
-ghost use lib.Seq.{sets};
 ghost use Rattle.graphs.specs.Graphs.{leftOf, enteredOf, nextOf, headOf, intoOf, lastOf};
 ghost use Rattle.state_marks.specs.Marks.{column, marksOf};
+ghost use Rattle.cycle_entries.specs.Entries.{Added};
 ghost use Rattle.cycle_paths.specs.Rows.{Searchable};
-ghost use Rattle.cycle_paths.specs.Entries.{entryOf, Added, allEntries};
-ghost use Rattle.cycle_paths.specs.Inner.Extending.{stepOf, Extendable, PathKept, ExtendedIn};
+ghost use Rattle.cycle_paths.specs.Entries.{allEntries};
+ghost use Rattle.cycle_paths.specs.Extensions.{stepOf};
+ghost use Rattle.cycle_paths.specs.Inner.Extending.{Extendable, PathKept, ExtendedIn};
 
 // What a row does for a path: nothing, it closes the cycle, or it enters a state not yet left.
 pub enum Step {
@@ -33,33 +34,6 @@ pub fn step_of(graph: &[u32; 1024], start: u8, marks: u32, k: usize) -> Step
         return Step::Enter(state);
     }
     Step::Skip
-}
-
-// Stores the row count and the rows of a cycle from `pos` on: the first `depth` rows of a path, and the row that closes it. Hands back where they end.
-fn write_cycle(out: &mut [u16], pos: usize, path: &[u16; 24], depth: usize, row: u16) -> usize
-    requires { ⌜ (depth ≤ 24) × (length (now path) ≡ 24) × (pos + depth + 2 ≤ length (now out)) ⌝ }
-    ensures { λ r. ⌜ (r ≡ pos + depth + 2) × (now (out .exit) ≡ sets (now (out .entry)) pos (entryOf (take depth (now (path .entry))) row)) ⌝ }
-{
-    out[pos] = (depth + 1) as u16;
-    let mut i = 0;
-    while i < depth {
-        out[pos + 1 + i] = path[i];
-        i += 1;
-    }
-    out[pos + 1 + depth] = row;
-    pos + depth + 2
-}
-
-// Adds a cycle to the entries that end at `pos`: stores it if the list has room, and hands back where it ends, or one above the list's length if that is too far.
-fn add_cycle(out: &mut [u16], pos: usize, path: &[u16; 24], depth: usize, row: u16) -> usize
-    requires { ⌜ (depth ≤ 24) × (length (now path) ≡ 24) × (pos ≤ suc (length (now out))) × (length (now out) < 2 ^ 63) ⌝ }
-    ensures { λ r. ⌜ Added (length (now (out .entry))) (now (out .entry)) pos (entryOf (take depth (now (path .entry))) row) r (now (out .exit)) ⌝ }
-{
-    let end = pos + depth + 2;
-    if end <= out.len() {
-        return write_cycle(out, pos, path, depth, row);
-    }
-    out.len() + 1
 }
 
 // Adds the cycles that begin with the first `depth` rows of a path and go on by one of the linked rows from `low` up to, and not
@@ -90,7 +64,7 @@ fn extend(
         match step {
             Step::Skip => {}
             Step::Close => {
-                used = add_cycle(out, used, path, depth, k as u16);
+                used = cycle_entries::add_cycle(out, used, path, depth, k as u16);
             }
             Step::Enter(state) => {
                 let begin = graphs::head_of(graph, state);

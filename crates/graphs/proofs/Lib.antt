@@ -1,3 +1,2 @@
 -- Laws of a graph in one list of numbers.
 pub mod PartLaws
-pub mod RowLaws

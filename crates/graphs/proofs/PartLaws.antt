@@ -1,17 +1,15 @@
--- Laws of the parts of a list: what stands in them, and what a store leaves of them.
-use mathlib.Core.Path.{_≡_, refl, sym, ap, _∙_}
+-- Laws of the parts of a graph: what stands in them.
+use mathlib.Core.Path.{_≡_, ap, _∙_}
 use mathlib.Core.List.{List, [], _∷_, _++_, map, map-append}
-use Prim.Native.Nat.{ℕ, zero, suc, _+_, _%_, _≤_, _<_}
-use native.Mathlib.Nat.{not-suc-le-zero, zero-add, suc-add}
+use Prim.Native.Nat.{ℕ, zero, suc, _+_, _%_, _<_}
+use native.Mathlib.Nat.{not-suc-le-zero, zero-add}
 use native.Mathlib.Decide.{ℕ-discrete}
 use native.Mathlib.Omega.{arith}
-use lib.ListN.{length, getD, set, take, drop, length-map, List·getD-append}
-use lib.Seq.{getD-at, getD-take, getD-drop, getD-set-same, getD-set-other}
+use lib.ListN.{length, getD, take, drop, length-map, List·getD-append}
+use lib.Seq.{getD-at, getD-take, getD-drop}
 use Rattle.livelock.specs.Lists.{below}
 use Rattle.livelock.proofs.Pigeonhole.{below-length}
-use Rattle.graphs.specs.Graphs.{rowsAt}
-
--- ---- what stands in a part
+use Rattle.graphs.specs.Graphs.{rowsAt, leftOf, enteredOf, nextOf, headOf, intoOf, betweenOf}
 
 -- The numbers below n, each under f.
 pub map-below : (f : ℕ → ℕ) (n k : ℕ) → k < n → getD (map f (below n)) k 0 ≡ f k
@@ -32,48 +30,32 @@ map-below f (suc n) k l = rw (map-append f (below n) (n ∷ [])) (go (ℕ-discre
 pub row-at : (from : ℕ) (graph : List ℕ) (k : ℕ) → k < 1024 → getD (rowsAt from graph) k 0 ≡ getD graph (from + k % 64) 0
 row-at from graph k l = map-below (λ i. getD graph (from + i % 64) 0) 1024 k l
 
--- There are 1,024 of them.
-pub rows-long : (from : ℕ) (graph : List ℕ) → length (rowsAt from graph) ≡ 1024
-rows-long from graph = length-map (below 1024) (λ i. getD graph (from + i % 64) 0) ∙ below-length 1024
-
 -- A number of a part.
 pub part-at : (n from : ℕ) (graph : List ℕ) (i : ℕ) → i < n → getD (take n (drop from graph)) i 0 ≡ getD graph (from + i) 0
 part-at n from graph i l = getD-take n (drop from graph) i 0 l ∙ getD-drop from graph i 0
 
--- ---- what a store leaves of a part
+-- ---- where each number stands
 
-take-set : (n : ℕ) (l : List ℕ) (i v : ℕ) → take n (set l i v) ≡ set (take n l) i v
-take-set zero l i v = refl
-take-set (suc n) [] i v = refl
-take-set (suc n) (x ∷ l) zero v = refl
-take-set (suc n) (x ∷ l) (suc i) v = ap (λ (z : List ℕ). x ∷ z) (take-set n l i v)
+pub left-stands : (g : List ℕ) (k : ℕ) → k < 1024 → getD (leftOf g) k 0 ≡ getD g (k % 64) 0
+unfolding leftOf
+left-stands g k l = row-at 0 g k l ∙ ap (λ (i : ℕ). getD g i 0) (zero-add (k % 64))
 
-take-behind : (n : ℕ) (l : List ℕ) (i v : ℕ) → n ≤ i → take n (set l i v) ≡ take n l
-take-behind zero l i v h = refl
-take-behind (suc n) [] i v h = refl
-take-behind (suc n) (x ∷ l) zero v h = absurd (not-suc-le-zero h)
-take-behind (suc n) (x ∷ l) (suc i) v h = ap (λ (z : List ℕ). x ∷ z) (take-behind n l i v (omega arith))
+pub entered-stands : (g : List ℕ) (k : ℕ) → k < 1024 → getD (enteredOf g) k 0 ≡ getD g (64 + k % 64) 0
+unfolding enteredOf
+entered-stands g k l = row-at 64 g k l
 
-drop-set : (a : ℕ) (l : List ℕ) (i v : ℕ) → drop a (set l (a + i) v) ≡ set (drop a l) i v
-drop-set zero l i v = ap (λ (j : ℕ). set l j v) (zero-add i)
-drop-set (suc a) [] i v = refl
-drop-set (suc a) (x ∷ l) i v = ap (λ (j : ℕ). drop (suc a) (set (x ∷ l) j v)) (suc-add a i) ∙ drop-set a l i v
+pub next-stands : (g : List ℕ) (k : ℕ) → k < 1024 → getD (nextOf g) k 0 ≡ getD g (128 + k % 64) 0
+unfolding nextOf
+next-stands g k l = row-at 128 g k l
 
-drop-before : (a : ℕ) (l : List ℕ) (i v : ℕ) → i < a → drop a (set l i v) ≡ drop a l
-drop-before zero l i v h = absurd (not-suc-le-zero h)
-drop-before (suc a) [] i v h = refl
-drop-before (suc a) (x ∷ l) zero v h = refl
-drop-before (suc a) (x ∷ l) (suc i) v h = drop-before a l i v (omega arith)
+pub head-stands : (g : List ℕ) (s : ℕ) → s < 24 → getD (headOf g) s 0 ≡ getD g (192 + s) 0
+unfolding headOf
+head-stands g s l = part-at 24 192 g s l
 
-module _ (n from : ℕ) (l : List ℕ) (i v : ℕ) where
-  -- A store in the part,
-  pub part-in : (j : ℕ) → i ≡ from + j → take n (drop from (set l i v)) ≡ set (take n (drop from l)) j v
-  part-in j e = ap (λ (z : ℕ). take n (drop from (set l z v))) e ∙ ap (take n) (drop-set from l j v) ∙ take-set n (drop from l) j v
+pub into-stands : (g : List ℕ) (s : ℕ) → s < 32 → getD (intoOf g) s 0 ≡ getD g (224 + s) 0
+unfolding intoOf
+into-stands g s l = part-at 32 224 g s l
 
-  -- before it,
-  pub part-after : i < from → take n (drop from (set l i v)) ≡ take n (drop from l)
-  part-after h = ap (take n) (drop-before from l i v h)
-
-  -- and behind it.
-  pub part-before : (j : ℕ) → i ≡ from + j → n ≤ j → take n (drop from (set l i v)) ≡ take n (drop from l)
-  part-before j e h = ap (λ (z : ℕ). take n (drop from (set l z v))) e ∙ ap (take n) (drop-set from l j v) ∙ take-behind n (drop from l) j v h
+pub between-stands : (g : List ℕ) (i : ℕ) → i < 768 → getD (betweenOf g) i 0 ≡ getD g (256 + i) 0
+unfolding betweenOf
+between-stands g i l = part-at 768 256 g i l

@@ -1,11 +1,13 @@
-// The rows of a machine as a graph: one lent list of numbers. Row k, of which only k % 64 tells the place, stands in three numbers: the state it leaves, the
-// state it enters, and the next row that leaves the same state. Then come for each state the first row that leaves it and the states with a row to it,
-// and for each two states the number of rows from one to the other. Where there is no row, it is the number after the last row.
-// No entry point: these functions have the only indices into a graph, and the other crates know their contracts.
+// The rows of a machine as a graph: one lent list of numbers. Row k, of which only k % 64 tells the place, stands in three numbers: the
+// state it leaves, the state it enters, and the next row that leaves the same state. Then come for each state the first row that leaves
+// it and the states with a row to it, and for each two states the number of rows from one to the other. Where there is no row, it is
+// the number after the last row.
+// No entry point: the crates that search a graph know the contracts of these functions, and have no index into it; `machine_graphs`
+// makes a graph.
 ghost use mathlib.Core.Path.{_≡_};
-ghost use Prim.Native.Nat.{_+_, _*_, _≤_, _<_, _^_};
-ghost use lib.ListN.{length, getD};
-ghost use Rattle.graphs.specs.Graphs.{leftOf, enteredOf, nextOf, headOf, intoOf, betweenOf, lastOf, NoRows, RowAdded};
+ghost use Prim.Native.Nat.{_+_, _*_, _<_};
+ghost use lib.ListN.{getD};
+ghost use Rattle.graphs.specs.Graphs.{leftOf, enteredOf, nextOf, headOf, intoOf, betweenOf, lastOf};
 
 fn narrow(x: u32) -> u8
     requires { ⌜ x < 256 ⌝ }
@@ -73,39 +75,4 @@ pub fn last_of(graph: &[u32; 1024]) -> usize
     ensures { λ r. ⌜ r ≡ lastOf (now (graph .entry)) ⌝ }
 {
     wide(graph[216])
-}
-
-// A graph without rows.
-pub fn without_rows(last: usize) -> [u32; 1024]
-    requires { ⌜ last ≤ 1024 ⌝ }
-    ensures { λ r. ⌜ NoRows last r ⌝ }
-{
-    let end = last as u32;
-    let mut graph = [0; 1024];
-    let mut state = 0;
-    while state < 25 {
-        graph[192 + state] = end;
-        state += 1;
-    }
-    graph
-}
-
-// Adds row k before the rows of a graph.
-pub fn add_row(graph: &mut [u32; 1024], k: usize, left: u8, entered: u8)
-    requires { ⌜ (length (now graph) ≡ 1024) × (k < 1024) × (left < 24) × (entered < 24) × (getD (betweenOf (now graph)) (left * 32 + entered) 0 ≤ 1024) ⌝ }
-    ensures { λ r. ⌜ RowAdded k left entered (now (graph .entry)) (now (graph .exit)) ⌝ }
-{
-    let at = k % 64;
-    let s = left as usize;
-    let t = entered as usize;
-    let pair = s * 32 + t;
-    let later = graph[192 + s];
-    let into = graph[224 + t];
-    let rows = graph[256 + pair];
-    graph[at] = left as u32;
-    graph[64 + at] = entered as u32;
-    graph[128 + at] = later;
-    graph[192 + s] = k as u32;
-    graph[224 + t] = into | (1 << left);
-    graph[256 + pair] = rows + 1;
 }

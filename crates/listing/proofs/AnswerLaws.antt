@@ -15,7 +15,7 @@ use Rattle.plant.specs.Limits.{rowsOf}
 use Rattle.plant.specs.Reading.{readPlant}
 use Rattle.listing.specs.Answers.{entries, refused, answerOf}
 use Rattle.listing.specs.Listing.{entriesNeeded, checkedRoom, checkedSize, checked, judged, answered, filled, Means}
-use Rattle.cycle_paths.specs.Entries.{Added}
+use Rattle.cycle_entries.specs.Entries.{Added}
 use Rattle.listing.specs.Inner.Machines.{Answers}
 use Rattle.listing.specs.declared.Listed.{Listed}
 use Rattle.listing.proofs.ListingLaws.{owed-means}

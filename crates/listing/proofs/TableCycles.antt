@@ -14,12 +14,12 @@ use Rattle.tables.specs.Tables.{rowIn}
 use Rattle.decoding.proofs.TableLaws.{plant-row-is, rows-counted}
 use Rattle.decoding.proofs.FirstRowLaws.{row-of-machine, machine-rows}
 use Rattle.listing.specs.Listing.{entriesNeeded}
-use Rattle.listing.specs.Inner.Machines.{Copied, Listable, entriesBetween}
+use Rattle.machine_graphs.specs.Graphs.{Listable, Copied}
+use Rattle.listing.specs.Inner.Machines.{entriesBetween}
 use Rattle.cycle_paths.specs.Listings.{In, flattened}
 use Rattle.cycle_paths.specs.Cycles.{cyclesThrough, rowNumbers}
 use Rattle.cycle_paths.specs.Rows.{upFrom}
 use Rattle.state_marks.specs.Marks.{column}
-use Rattle.state_marks.specs.Marks.{RowsBelow}
 use Rattle.cycle_paths.specs.Entries.{allEntries}
 use Rattle.cycle_paths.proofs.ElementLaws.{in-all, up-from-in, in-up-from}
 use Rattle.cycle_paths.proofs.OrderLaws.{increasing-same, increasing-up-from}
@@ -27,19 +27,8 @@ use Rattle.cycle_paths.proofs.CycleLaws.{number-row, row-number, numbers-increa
 
 -- ---- the columns
 
--- Before the first row nothing is copied.
-pub none-copied : (table : List ℕ) (first : ℕ) (left entered : List ℕ) → Copied table first first left entered
-none-copied table first left entered = record { left-is = λ k from below. absurd (omega arith); entered-is = λ k from below. absurd (omega arith) }
-
 module _ (table : List ℕ) (first last : ℕ) (ok : Listable table first last) (left entered : List ℕ) (copied : Copied table first last left entered) where
-  -- Columns copied of rows that are fit to be listed have states below 24,
-  pub left-in : RowsBelow left first last
-  left-in = record { ordered = ok .ordered; few = ok .few; below-24 = λ k from below. omega (arith, copied .left-is k from below, ok .below-24 k from below .0) }
-
-  pub entered-in : RowsBelow entered first last
-  entered-in = record { ordered = ok .ordered; few = ok .few; below-24 = λ k from below. omega (arith, copied .entered-is k from below, ok .below-24 k from below .1) }
-
-  -- and the entries of their cycles are those of the rows.
+  -- The entries of the cycles of columns copied of a table are those of its rows.
   pub entries-are : allEntries left entered first last ≡ entriesBetween table first last
   entries-are =
       ap flattened

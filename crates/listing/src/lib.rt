@@ -3,12 +3,12 @@ ghost use mathlib.Core.Path.{_≡_};
 ghost use Prim.Native.Nat.{min};
 ghost use lib.ListN.{length};
 ghost use Rattle.plant.specs.Limits.{WithinLimits};
-ghost use Rattle.graphs.specs.Graphs.{NoRows};
 ghost use Rattle.tables.specs.Tables.{RoomFor};
 ghost use Rattle.decoding.specs.Tables.{plantOf, Ready};
+ghost use Rattle.machine_graphs.specs.Graphs.{Listable};
 ghost use Rattle.listing.specs.Answers.{answerOf, refused};
 ghost use Rattle.listing.specs.Listing.{judged, answered, filled, Means};
-ghost use Rattle.listing.specs.Inner.Machines.{Graphed, Listable, Answers, AnswersRows, AnswersChecked};
+ghost use Rattle.listing.specs.Inner.Machines.{Answers, AnswersRows, AnswersChecked};
 use decoding::Shape;
 use plant::End;
 use plant::Fault;
@@ -26,28 +26,13 @@ fn refused(number: u8) -> Listed
     Listed::Refused(Fault { number, place: 0 })
 }
 
-// Adds the rows from `first` up to, and not including, `last` to a graph without rows; from the last row to the first, as `add_row` puts each before those that
-// are there.
-fn add_rows(table: &[u8], first: usize, last: usize, graph: &mut [u32; 1024])
-    requires { ⌜ Listable (now table) first last × NoRows last (now graph) ⌝ }
-    ensures { λ r. ⌜ Graphed (now (table .entry)) first last (now (graph .exit)) ⌝ }
-{
-    let mut k = last;
-    while k > first {
-        k -= 1;
-        let left = tables::left_of(table, k);
-        let entered = tables::entered_of(table, k);
-        graphs::add_row(graph, k, left, entered);
-    }
-}
-
 // Lists the cycles of the rows from `first` up to, and not including, `last`: counts their entries first, then stores them if the list has room.
 fn list_between(table: &[u8], first: usize, last: usize, out: &mut [u16]) -> Listed
     requires { ⌜ Listable (now table) first last ⌝ }
     ensures { λ r. ⌜ AnswersRows (now (table .entry)) first last (now (out .entry)) (now (out .exit)) r ⌝ }
 {
-    let mut graph = graphs::without_rows(last);
-    add_rows(table, first, last, &mut graph);
+    let mut graph = machine_graphs::without_rows(last);
+    machine_graphs::add_rows(table, first, last, &mut graph);
     let room = out.len();
     let needed = cycle_counts::count_rows(&graph, first, last, room);
     if needed > room {

@@ -1,18 +1,17 @@
 -- Laws of marks as bits, and of the states found backward from the start.
 use mathlib.Core.Path.{_≡_, refl, sym, ap, ap₂, _∙_}
 use mathlib.Core.List.{List}
-use Prim.Native.Nat.{ℕ, zero, suc, _+_, _-_, _*_, _/_, _%_, _^_, _<_, _≤_, min, max}
+use Prim.Native.Nat.{ℕ, zero, suc, _-_, _*_, _/_, _%_, _^_, _<_, min, max}
 use native.Mathlib.Nat.{zero-lt-suc, mod-lt, not-suc-le-zero, div-eq-of-lt, pow-suc}
 use native.Mathlib.Decide.{ℕ-discrete}
 use native.Mathlib.Omega.{arith}
-use lib.ListN.{getD, set, replicate, getD-replicate}
+use lib.ListN.{getD, getD-replicate}
 use lib.Arith.{digits-mod}
-use lib.Bits.{bitAnd, bitOr, bitXor, differ, and-step, or-step, xor-step, and-shr, or-shr, xor-shr, shifted-half, shifted-even}
+use lib.Bits.{bitAnd, bitOr, bitXor, differ, and-step, xor-step, and-shr, or-shr, xor-shr, shifted-half, shifted-even}
 use lib.Count.{trailingZeros, under}
 use lib.Pow.{pow-pos, pow-mono}
 use Rattle.livelock.proofs.ListLaws.{getD-replicate-default}
-use Rattle.state_marks.specs.Marks.{column}
-use Rattle.state_marks.specs.Marks.{marksOf, BelowOnly, OthersKept, Closed}
+use Rattle.state_marks.specs.Marks.{column, marksOf, BelowOnly, OthersKept, Closed}
 use Rattle.state_marks.proofs.MarkLaws.{mark-bit, none-left, or-lowest}
 
 -- The mark of a state, from the bits.

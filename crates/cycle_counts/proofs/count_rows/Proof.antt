@@ -3,18 +3,18 @@ use borrow.Author.Needs.{needs}
 use Prim.Native.Nat.{ℕ, _+_, _-_, _≤_, _<_}
 use native.Mathlib.Omega.{arith}
 use mathlib.Core.List.{List, []}
-use mathlib.Core.Path.{_≡_, refl, sym, ap, subst}
+use mathlib.Core.Path.{_≡_, refl, sym, subst}
 use lib.ListN.{length}
 use Rattle.graphs.specs.Graphs.{leftOf, enteredOf, nextOf, headOf, intoOf, betweenOf, lastOf}
 use Rattle.cycle_paths.specs.Cycles.{cyclesThrough}
 use Rattle.cycle_paths.specs.Entries.{allEntries}
 use Rattle.cycle_paths.specs.Rows.{Searchable}
 use Rattle.state_marks.specs.Marks.{column, marksOf}
-use Rattle.cycle_paths.specs.Inner.Extending.{extensions}
+use Rattle.cycle_paths.specs.Extensions.{extensions}
 use Rattle.state_marks.proofs.MarkLaws.{marks-length}
-use Rattle.cycle_paths.proofs.LinkLaws.{searchable-last}
-use Rattle.cycle_paths.proofs.ExtensionLaws.{closed-first, unleft-few, entriesFrom, entries-closed, entries-end}
-use Rattle.cycle_counts.specs.Inner.Counting.{Between, Tables}
+use Rattle.cycle_paths.proofs.ExtensionLaws.{searchable-last, closed-first, unleft-few, entriesFrom, entries-closed, entries-end}
+use Rattle.cycle_counts.specs.Pairs.{Between}
+use Rattle.cycle_counts.specs.Inner.Counting.{Tables}
 use Rattle.cycle_counts.proofs.CountingLaws.{Taking, taking-begins, taking-part, taking-ends}
 use Rattle.cycle_counts.proofs.count_rows.Statement.{statement}
 use Rattle.cycle_counts.proofs.count_rows.Tie as tie

@@ -8,7 +8,7 @@ use Rattle.cycle_counts.proofs.take_closing.Statement.{statement}
 use Rattle.cycle_counts.proofs.take_closing.Tie as tie
 
 between-of-requires : tie.Need-between-of-requires
-between-of-requires c κs = (c .pre .0, c .pre .1)
+between-of-requires c κs = search needs
 
 add-room-without : tie.Need-add-room-without
 add-room-without c = search needs

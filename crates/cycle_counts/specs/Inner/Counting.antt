@@ -1,25 +1,14 @@
 -- What the functions that count the extensions of a path ask and give.
 use mathlib.Core.Path.{_≡_}
-use mathlib.Core.Bool.{cond}
 use mathlib.Core.List.{List}
-use Prim.Native.Nat.{ℕ, zero, suc, _+_, _-_, _*_, _≤_, _<_}
+use Prim.Native.Nat.{ℕ, _+_, _-_, _≤_, _<_}
 use lib.ListN.{length}
-use lib.Dec.{eqb}
 use Rattle.graphs.specs.Graphs.{enteredOf, nextOf, headOf, intoOf, betweenOf, lastOf}
+use Rattle.state_marks.specs.Marks.{column, RowsBelow, Sources}
 use Rattle.cycle_paths.specs.Cycles.{unleft}
-use Rattle.state_marks.specs.Marks.{column}
-use Rattle.state_marks.specs.Marks.{RowsBelow, Sources}
 use Rattle.cycle_paths.specs.Rows.{Linked}
-use Rattle.cycle_paths.specs.Inner.Extending.{extensions}
-
--- How many of the n rows from k on lead from state s to state t.
-unfoldable pub rowsBetween : List ℕ → List ℕ → ℕ → ℕ → ℕ → ℕ → ℕ
-rowsBetween left entered s t k zero = 0
-rowsBetween left entered s t k (suc n) = cond (eqb (column left k) s) (cond (eqb (column entered k) t) 1 0) 0 + rowsBetween left entered s t (suc k) n
-
--- `between` has at 32 s + t how many of the rows from `first` up to, and not including, `last` lead from state s to state t.
-pub record Between (left entered between : List ℕ) (first last : ℕ) : Type 0 where
-  pub known : (s t : ℕ) → s < 24 → t < 24 → column between (s * 32 + t) ≡ rowsBetween left entered s t first (last - first)
+use Rattle.cycle_paths.specs.Extensions.{extensions}
+use Rattle.cycle_counts.specs.Pairs.{Between}
 
 -- The links of some rows, their sources, and their numbers from state to state.
 pub record Tables (left entered next head into between : List ℕ) (first last : ℕ) : Type 0 where

@@ -19,7 +19,7 @@ use borrow.Fn.PlainCycle.{Measures, is, falls, and}
 use Rattle.cycle_paths.proofs.extend.Reads as extend
 use Rattle.cycle_paths.proofs.extend.Kinds as extend-kinds
 use Rattle.cycle_paths.proofs.+extend.Lts-extend as extend-lts
-use Rattle.cycle_paths.proofs.add_cycle.Reads as add-cycle-reads
+use Rattle.cycle_entries.proofs.add_cycle.Reads as add-cycle-reads
 use Rattle.cycle_paths.proofs.step_of.Reads as step-of-reads
 use Rattle.graphs.proofs.head_of.Reads as head-of-reads
 use Rattle.graphs.proofs.last_of.Reads as last-of-reads

@@ -6,12 +6,12 @@ use native.Mathlib.Omega.{arith}
 use lib.ListN.{length}
 use Rattle.graphs.specs.Graphs.{leftOf, enteredOf, intoOf, lastOf}
 use Rattle.cycle_paths.specs.Cycles.{cyclesThrough}
-use Rattle.cycle_paths.specs.Entries.{Added, allEntries}
+use Rattle.cycle_entries.specs.Entries.{Added}
+use Rattle.cycle_paths.specs.Entries.{allEntries}
 use Rattle.state_marks.specs.Marks.{column, marksOf}
 use Rattle.state_marks.proofs.MarkLaws.{marks-length}
-use Rattle.cycle_paths.proofs.LinkLaws.{searchable-last}
 use Rattle.cycle_paths.proofs.FillingLaws.{Adding, adding-begins, added-in, adding-part, adding-ends}
-use Rattle.cycle_paths.proofs.ExtensionLaws.{closed-first, unleft-few, entriesFrom, entries-closed, entries-end}
+use Rattle.cycle_paths.proofs.ExtensionLaws.{closed-first, searchable-last, unleft-few, entriesFrom, entries-closed, entries-end}
 use Rattle.cycle_paths.proofs.list_rows.Statement.{statement}
 use Rattle.cycle_paths.proofs.list_rows.Tie as tie
 

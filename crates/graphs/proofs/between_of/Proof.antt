@@ -2,7 +2,7 @@ use borrow.Author.Needs.{needs}
 use mathlib.Core.Path.{sym, _∙_}
 use native.Mathlib.Omega.{arith}
 use Prim.Native.Nat.{_+_, _*_}
-use Rattle.graphs.proofs.RowLaws.{between-stands}
+use Rattle.graphs.proofs.PartLaws.{between-stands}
 use Rattle.graphs.proofs.between_of.Statement.{statement}
 use Rattle.graphs.proofs.between_of.Tie as tie
 

@@ -1,7 +1,7 @@
 use borrow.Author.Needs.{needs}
 use mathlib.Core.Path.{sym, _∙_}
 use native.Mathlib.Omega.{arith}
-use Rattle.graphs.proofs.RowLaws.{entered-stands}
+use Rattle.graphs.proofs.PartLaws.{entered-stands}
 use Rattle.graphs.proofs.entered_of.Statement.{statement}
 use Rattle.graphs.proofs.entered_of.Tie as tie
 

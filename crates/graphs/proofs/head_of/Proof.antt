@@ -1,6 +1,6 @@
 use borrow.Author.Needs.{needs}
 use mathlib.Core.Path.{sym, _∙_}
-use Rattle.graphs.proofs.RowLaws.{head-stands}
+use Rattle.graphs.proofs.PartLaws.{head-stands}
 use Rattle.graphs.proofs.head_of.Statement.{statement}
 use Rattle.graphs.proofs.head_of.Tie as tie
 

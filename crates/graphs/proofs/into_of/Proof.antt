@@ -1,6 +1,6 @@
 use borrow.Author.Needs.{needs}
 use mathlib.Core.Path.{sym}
-use Rattle.graphs.proofs.RowLaws.{into-stands}
+use Rattle.graphs.proofs.PartLaws.{into-stands}
 use Rattle.graphs.proofs.into_of.Statement.{statement}
 use Rattle.graphs.proofs.into_of.Tie as tie
 

@@ -1,7 +1,7 @@
 use borrow.Author.Needs.{needs}
 use mathlib.Core.Path.{sym, _∙_}
 use native.Mathlib.Omega.{arith}
-use Rattle.graphs.proofs.RowLaws.{left-stands}
+use Rattle.graphs.proofs.PartLaws.{left-stands}
 use Rattle.graphs.proofs.left_of.Statement.{statement}
 use Rattle.graphs.proofs.left_of.Tie as tie
 

@@ -1,6 +1,6 @@
 use borrow.Author.Needs.{needs}
 use mathlib.Core.Path.{sym, _∙_}
-use Rattle.graphs.proofs.RowLaws.{next-stands}
+use Rattle.graphs.proofs.PartLaws.{next-stands}
 use Rattle.graphs.proofs.next_of.Statement.{statement}
 use Rattle.graphs.proofs.next_of.Tie as tie
 

@@ -1,6 +1,6 @@
 -- `without_dead_ends` meets its contract: each turn takes one state from those to do, and puts the free states with a row to it in.
 use borrow.Author.Needs.{needs}
-use mathlib.Core.Path.{_≡_, refl}
+use mathlib.Core.Path.{refl}
 use Prim.Native.Nat.{_-_, _<_, _≤_, _^_}
 use native.Mathlib.Omega.{arith}
 use lib.Bits.{bitAnd, bitXor, and-le-r, or-lt, xor-lt}

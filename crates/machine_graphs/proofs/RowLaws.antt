@@ -5,59 +5,14 @@ use Prim.Native.Nat.{ℕ, _+_, _*_, _%_, _≤_, _<_, _^_}
 use native.Mathlib.Nat.{zero-add}
 use native.Mathlib.Decide.{ℕ-discrete}
 use native.Mathlib.Omega.{arith}
-use lib.ListN.{length, getD, set, take, drop, length-set, length-drop}
-use lib.Seq.{length-take-le, getD-set-same, getD-set-other}
+use lib.ListN.{length, getD, set, take, drop, length-set}
+use lib.Seq.{getD-set-same, getD-set-other}
 use lib.Bits.{bitOr}
-use Rattle.graphs.specs.Graphs.{rowsAt, leftOf, enteredOf, nextOf, headOf, intoOf, betweenOf, lastOf, NoRows, RowAdded}
-use Rattle.graphs.proofs.PartLaws.{row-at, rows-long, part-at, part-in, part-after, part-before}
-
--- The 63 numbers after a number have another rest by 64.
-apart : (k j : ℕ) → k < j → j < k + 64 → j % 64 ≡ k % 64 → ⊥
-apart k j l h e = omega arith
-
--- ---- where each number stands
-
-pub left-stands : (g : List ℕ) (k : ℕ) → k < 1024 → getD (leftOf g) k 0 ≡ getD g (k % 64) 0
-unfolding leftOf
-left-stands g k l = row-at 0 g k l ∙ ap (λ (i : ℕ). getD g i 0) (zero-add (k % 64))
-
-pub entered-stands : (g : List ℕ) (k : ℕ) → k < 1024 → getD (enteredOf g) k 0 ≡ getD g (64 + k % 64) 0
-unfolding enteredOf
-entered-stands g k l = row-at 64 g k l
-
-pub next-stands : (g : List ℕ) (k : ℕ) → k < 1024 → getD (nextOf g) k 0 ≡ getD g (128 + k % 64) 0
-unfolding nextOf
-next-stands g k l = row-at 128 g k l
-
-pub head-stands : (g : List ℕ) (s : ℕ) → s < 24 → getD (headOf g) s 0 ≡ getD g (192 + s) 0
-unfolding headOf
-head-stands g s l = part-at 24 192 g s l
-
-pub into-stands : (g : List ℕ) (s : ℕ) → s < 32 → getD (intoOf g) s 0 ≡ getD g (224 + s) 0
-unfolding intoOf
-into-stands g s l = part-at 32 224 g s l
-
-pub between-stands : (g : List ℕ) (i : ℕ) → i < 768 → getD (betweenOf g) i 0 ≡ getD g (256 + i) 0
-unfolding betweenOf
-between-stands g i l = part-at 768 256 g i l
-
--- ---- how long the parts are
-
-pub next-long : (g : List ℕ) → length (nextOf g) ≡ 1024
-unfolding nextOf
-next-long g = rows-long 128 g
-
-pub head-long : (g : List ℕ) → length g ≡ 1024 → length (headOf g) ≡ 24
-unfolding headOf
-head-long g e = length-take-le 24 (drop 192 g) (omega (arith, e, length-drop 192 g))
-
-pub into-long : (g : List ℕ) → length g ≡ 1024 → length (intoOf g) ≡ 32
-unfolding intoOf
-into-long g e = length-take-le 32 (drop 224 g) (omega (arith, e, length-drop 224 g))
-
-pub between-long : (g : List ℕ) → length g ≡ 1024 → length (betweenOf g) ≡ 768
-unfolding betweenOf
-between-long g e = length-take-le 768 (drop 256 g) (omega (arith, e, length-drop 256 g))
+use Rattle.graphs.specs.Graphs.{leftOf, enteredOf, nextOf, headOf, intoOf, betweenOf, lastOf}
+use Rattle.graphs.proofs.PartLaws.{row-at, part-at}
+use Rattle.machine_graphs.specs.Graphs.{NoRows}
+use Rattle.machine_graphs.specs.Inner.Rows.{RowAdded}
+use Rattle.machine_graphs.proofs.PartLaws.{part-in, part-after, part-before}
 
 -- ---- no rows
 
@@ -83,6 +38,10 @@ ends-more last state graph room h s l = go (ℕ-discrete s state)
     go (no e) = getD-set-other graph (192 + state) (192 + s) last 0 (λ q. e (omega arith)) ∙ h s (omega arith)
 
 -- ---- one row more
+
+-- The 63 numbers after a number have another rest by 64.
+apart : (k j : ℕ) → k < j → j < k + 64 → j % 64 ≡ k % 64 → ⊥
+apart k j l h e = omega arith
 
 module _ (g : List ℕ) (k left entered later into rows : ℕ) where
   abbrev pair : ℕ

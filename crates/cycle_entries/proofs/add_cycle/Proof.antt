@@ -2,9 +2,9 @@
 use borrow.Author.Needs.{needs}
 use native.Mathlib.Omega.{arith}
 use lib.ListN.{length}
-use Rattle.cycle_paths.proofs.FillingLaws.{added-stored, added-counted}
-use Rattle.cycle_paths.proofs.add_cycle.Statement.{statement}
-use Rattle.cycle_paths.proofs.add_cycle.Tie as tie
+use Rattle.cycle_entries.proofs.EntryLaws.{added-stored, added-counted}
+use Rattle.cycle_entries.proofs.add_cycle.Statement.{statement}
+use Rattle.cycle_entries.proofs.add_cycle.Tie as tie
 
 add-end : tie.Need-add-end
 add-end c = search needs

@@ -6,9 +6,8 @@ use native.Mathlib.Decide.{ℕ-discrete}
 use native.Mathlib.Omega.{arith}
 use lib.ListN.{length, getD, set}
 use lib.Seq.{getD-set-same, getD-set-other}
-use Rattle.state_marks.specs.Marks.{column}
-use Rattle.state_marks.specs.Marks.{marksOf, Sources}
+use Rattle.state_marks.specs.Marks.{column, marksOf, Sources}
 use Rattle.state_marks.proofs.MarkLaws.{marks-length}
 
 -- A state that is marked stays marked when one more is.
 still-marked : (marks : List ℕ) (s x : ℕ) → s < length marks → getD marks x 0 ≡ 1 → getD (set marks s 1) x 0 ≡ 1

@@ -5,9 +5,9 @@ use native.Mathlib.Omega.{arith}
 use lib.ListN.{length, length-set, getD}
 use lib.Seq.{getD-set-other}
 use Rattle.livelock.proofs.ListLaws.{getD-replicate-default}
-use Rattle.graphs.proofs.RowLaws.{no-rows, ends-more}
-use Rattle.graphs.proofs.without_rows.Statement.{statement}
-use Rattle.graphs.proofs.without_rows.Tie as tie
+use Rattle.machine_graphs.proofs.RowLaws.{no-rows, ends-more}
+use Rattle.machine_graphs.proofs.without_rows.Statement.{statement}
+use Rattle.machine_graphs.proofs.without_rows.Tie as tie
 
 abbrev Inv-loop : tie.InvT-loop
 Inv-loop last end graph₀ state₀ graph state =

@@ -10,18 +10,35 @@ use lib.Seq.{getD-set-same, getD-set-other}
 use lib.Bits.{bitOr}
 use Rattle.livelock.specs.Lists.{below}
 use Rattle.tables.specs.Tables.{rowIn}
-use Rattle.graphs.specs.Graphs.{leftOf, enteredOf, nextOf, headOf, intoOf, betweenOf, lastOf, NoRows, RowAdded}
+use Rattle.graphs.specs.Graphs.{leftOf, enteredOf, nextOf, headOf, intoOf, betweenOf, lastOf}
 use Rattle.graphs.proofs.PartLaws.{map-below}
-use Rattle.graphs.proofs.RowLaws.{next-long, head-long, into-long, between-long}
-use Rattle.state_marks.specs.Marks.{column, marksOf, Sources}
+use Rattle.state_marks.specs.Marks.{column, marksOf, RowsBelow, Sources}
 use Rattle.state_marks.proofs.MarkLaws.{marked}
-use Rattle.state_marks.proofs.SourceLaws.{sources-none, sources-more, sources-same}
 use Rattle.cycle_paths.specs.Rows.{Linked}
-use Rattle.cycle_paths.proofs.LinkLaws.{linked-none, linked-more, linked-same}
-use Rattle.cycle_counts.specs.Inner.Counting.{Between}
-use Rattle.cycle_counts.proofs.BetweenLaws.{between-few, between-none, between-more, between-same}
-use Rattle.listing.specs.Inner.Machines.{Copied, Graphed, Listable}
-use Rattle.listing.proofs.TableCycles.{none-copied, left-in, entered-in}
+use Rattle.cycle_counts.specs.Pairs.{Between}
+use Rattle.cycle_counts.proofs.BetweenLaws.{between-few}
+use Rattle.machine_graphs.specs.Graphs.{Listable, NoRows, Copied, Graphed}
+use Rattle.machine_graphs.specs.Inner.Rows.{RowAdded}
+use Rattle.machine_graphs.proofs.PartLaws.{next-long, head-long, into-long, between-long}
+use Rattle.machine_graphs.proofs.LinkLaws.{linked-none, linked-more, linked-same}
+use Rattle.machine_graphs.proofs.SourceLaws.{sources-none, sources-more, sources-same}
+use Rattle.machine_graphs.proofs.PairLaws.{between-none, between-more, between-same}
+
+-- ---- the columns
+
+-- Before the first row nothing is copied.
+none-copied : (table : List ℕ) (first : ℕ) (left entered : List ℕ) → Copied table first first left entered
+none-copied table first left entered = record { left-is = λ k from below. absurd (omega arith); entered-is = λ k from below. absurd (omega arith) }
+
+module _ (table : List ℕ) (first last : ℕ) (ok : Listable table first last) (left entered : List ℕ) (copied : Copied table first last left entered) where
+  -- Columns copied of rows that are fit to be listed have states below 24.
+  left-in : RowsBelow left first last
+  left-in = record { ordered = ok .ordered; few = ok .few; below-24 = λ k from below. omega (arith, copied .left-is k from below, ok .below-24 k from below .0) }
+
+  entered-in : RowsBelow entered first last
+  entered-in = record { ordered = ok .ordered; few = ok .few; below-24 = λ k from below. omega (arith, copied .entered-is k from below, ok .below-24 k from below .1) }
+
+-- ---- the graph
 
 -- The states that the rows of a table leave and enter.
 abbrev leaving : List ℕ → List ℕ

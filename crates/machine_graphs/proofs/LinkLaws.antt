@@ -1,5 +1,5 @@
 -- Laws of the links from row to row: no row linked, and one row more.
-use mathlib.Core.Path.{_≡_, sym, ap, _∙_, subst}
+use mathlib.Core.Path.{_≡_, sym, ap, _∙_}
 use mathlib.Core.Logic.{_≢_}
 use mathlib.Core.List.{List}
 use Prim.Native.Nat.{ℕ, _+_, _<_, _≤_}
@@ -7,9 +7,8 @@ use native.Mathlib.Decide.{ℕ-discrete}
 use native.Mathlib.Omega.{arith}
 use lib.ListN.{length, set, length-set}
 use lib.Seq.{getD-set-same, getD-set-other}
-use Rattle.graphs.specs.Graphs.{lastOf}
-use Rattle.cycle_paths.specs.Rows.{Linked, Searchable}
 use Rattle.state_marks.specs.Marks.{column}
+use Rattle.cycle_paths.specs.Rows.{Linked}
 
 -- Links of no rows.
 pub linked-none : (left next head : List ℕ) (last : ℕ) → last ≤ length next → 24 ≤ length head → ((s : ℕ) → s < 24 → column head s ≡ last) → Linked left next head last last
@@ -123,7 +122,3 @@ linked-same left left′ next next′ head first last room leaves goes g =
       head-same = λ s b c. leaves (column head s) (g .head-in s b .0) c ∙ g .head-same s b c;
       head-first = λ s j b c d e. g .head-first s j b c d (sym (leaves j c (omega (arith, g .head-in s b .1))) ∙ e);
     }
-
--- A graph that has its rows has them up to the number that it keeps.
-pub searchable-last : {graph : List ℕ} {first last : ℕ} → Searchable graph first last → Searchable graph first (lastOf graph)
-searchable-last {graph} {first} s = subst (Searchable graph first) (sym (s .last-is)) s

@@ -6,9 +6,10 @@ use native.Mathlib.Omega.{arith}
 use lib.ListN.{getD}
 use lib.Bits.{bitOr}
 use lib.Pow.{shl-exact}
-use Rattle.graphs.proofs.RowLaws.{between-stands, row-added}
-use Rattle.graphs.proofs.add_row.Statement.{statement}
-use Rattle.graphs.proofs.add_row.Tie as tie
+use Rattle.graphs.proofs.PartLaws.{between-stands}
+use Rattle.machine_graphs.proofs.RowLaws.{row-added}
+use Rattle.machine_graphs.proofs.add_row.Statement.{statement}
+use Rattle.machine_graphs.proofs.add_row.Tie as tie
 
 mul-pair : tie.Need-mul-pair
 mul-pair c = search needs

@@ -6,9 +6,9 @@ use native.Mathlib.Omega.{arith}
 use lib.ListN.{length, take, length-set}
 use lib.Seq.{sets}
 use Rattle.livelock.proofs.StoreLaws.{sets-next}
-use Rattle.cycle_paths.proofs.FillingLaws.{sets-entry}
-use Rattle.cycle_paths.proofs.write_cycle.Statement.{statement}
-use Rattle.cycle_paths.proofs.write_cycle.Tie as tie
+use Rattle.cycle_entries.proofs.EntryLaws.{sets-entry}
+use Rattle.cycle_entries.proofs.write_cycle.Statement.{statement}
+use Rattle.cycle_entries.proofs.write_cycle.Tie as tie
 
 abbrev Inv-loop : tie.InvT-loop
 Inv-loop out₀ pos path depth row i₀ out i = (i ≤ depth) × (length out ≡ length out₀) × (out ≡ sets out₀ (pos + 1) (take i path))

@@ -3,9 +3,9 @@ use borrow.Author.Needs.{needs}
 use mathlib.Core.Path.{_≡_, subst}
 use Prim.Native.Nat.{ℕ, _+_, _-_, _<_, _≤_}
 use native.Mathlib.Omega.{arith}
-use Rattle.listing.proofs.GraphLaws.{Begun, begun-none, begun-few, begun-row, begun-ends}
-use Rattle.listing.proofs.add_rows.Statement.{statement}
-use Rattle.listing.proofs.add_rows.Tie as tie
+use Rattle.machine_graphs.proofs.GraphLaws.{Begun, begun-none, begun-few, begun-row, begun-ends}
+use Rattle.machine_graphs.proofs.add_rows.Statement.{statement}
+use Rattle.machine_graphs.proofs.add_rows.Tie as tie
 
 abbrev Inv-loop : tie.InvT-loop
 Inv-loop table first last graph₀ k₀ graph k = (first ≤ k) × (k ≤ last) × Begun table k last graph

@@ -1,0 +1,2 @@
+-- Laws of the entry of a cycle.
+pub mod EntryLaws

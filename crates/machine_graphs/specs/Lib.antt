@@ -1,0 +1,3 @@
+-- The graph of a machine's rows. `Inner` is for the function that adds one row.
+pub mod Graphs
+pub mod Inner
