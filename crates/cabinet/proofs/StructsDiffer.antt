@@ -1,8 +1,7 @@
 -- Different answers are different structs, and the kinds are those of include/hemtaluq.h.
 use mathlib.Core.Path.{_≡_, refl, ap}
-use Prim.Native.Nat.{ℕ}
 use native.Mathlib.Omega.{arith}
-use lib.IntN.{ℤ, pos, negsuc}
+use lib.IntN.{negsuc}
 use Rattle.reading.specs.Answers as Reading
 use Rattle.weighing.specs.Answers as Weighing
 use Rattle.quoting.specs.Answers as Quoting

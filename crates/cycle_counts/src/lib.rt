@@ -25,7 +25,7 @@ fn room_without(room: usize, entries: usize) -> usize
 }
 
 // Takes from the room the entries of the cycles that begin with `depth` rows of a path to `state` and end with a row from there to `start`.
-fn take_closing(graph: &[u32; 1024], state: u8, start: u8, depth: usize, room: usize) -> usize
+fn take_closing(graph: &[u16; 1056], state: u8, start: u8, depth: usize, room: usize) -> usize
     requires { ⌜ (state < 24) × (start < 24) × (depth ≤ 24) × (column (betweenOf (now graph)) (state * 32 + start) ≤ 1024) ⌝ }
     ensures { λ r. ⌜ r ≡ room - column (betweenOf (now (graph .entry))) (state * 32 + start) * (depth + 2) ⌝ }
 {
@@ -38,7 +38,7 @@ fn take_closing(graph: &[u32; 1024], state: u8, start: u8, depth: usize, room: u
 // become fewer at each call, dead ends are marked as if they were left, and no row is tried once no room is left. Where all states are
 // marked only rows to the start go on, and their number is known.
 fn count(
-    graph: &[u32; 1024],
+    graph: &[u16; 1056],
     start: u8,
     marks: u32,
     depth: usize,
@@ -79,7 +79,7 @@ fn count(
 }
 
 // The number of entries that the listing of the rows from `first` up to, and not including, `last` needs, counted up to one above the limit.
-pub fn count_rows(graph: &[u32; 1024], first: usize, last: usize, limit: usize) -> usize
+pub fn count_rows(graph: &[u16; 1056], first: usize, last: usize, limit: usize) -> usize
     requires { ⌜ Searchable (now graph) first last × Between (leftOf (now graph)) (enteredOf (now graph)) (betweenOf (now graph)) first last × (limit < 2 ^ 63) ⌝ }
     ensures { λ r. ⌜ r ≡ min (suc limit) (length (allEntries (leftOf (now (graph .entry))) (enteredOf (now (graph .entry))) first last)) ⌝ }
 {

@@ -19,7 +19,7 @@ pub enum Step {
 }
 
 // What row k does for a path from `start` that stands at the state which the row leaves.
-pub fn step_of(graph: &[u32; 1024], start: u8, marks: u32, k: usize) -> Step
+pub fn step_of(graph: &[u16; 1056], start: u8, marks: u32, k: usize) -> Step
     requires { ⌜ (k < 1024) × (column (enteredOf (now graph)) k < 24) ⌝ }
     ensures { λ r. ⌜ r ≡ stepOf (enteredOf (now (graph .entry))) start (marksOf 24 marks) k ⌝ }
 {
@@ -40,7 +40,7 @@ pub fn step_of(graph: &[u32; 1024], start: u8, marks: u32, k: usize) -> Step
 // including, `high`: depth-first extension of the path. The states not yet left become fewer at each call, and no row is tried once the list is too short.
 // Dead ends are marked as if they were left, so that no path is extended in vain.
 fn extend(
-    graph: &[u32; 1024],
+    graph: &[u16; 1056],
     start: u8,
     marks: u32,
     path: &mut [u16; 24],
@@ -92,7 +92,7 @@ fn extend(
 
 // Lists the cycles of the rows from `first` up to, and not including, `last`, by the row they begin with. The entries are counted up to
 // one above the length of the list, and stored if it has room for them all.
-pub fn list_rows(graph: &[u32; 1024], first: usize, last: usize, out: &mut [u16]) -> usize
+pub fn list_rows(graph: &[u16; 1056], first: usize, last: usize, out: &mut [u16]) -> usize
     requires { ⌜ Searchable (now graph) first last × (length (now out) < 2 ^ 63) ⌝ }
     ensures { λ r. ⌜ Added (length (now (out .entry))) (now (out .entry)) 0 (allEntries (leftOf (now (graph .entry))) (enteredOf (now (graph .entry))) first last) r (now (out .exit)) ⌝ }
 {

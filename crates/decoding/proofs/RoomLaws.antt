@@ -1,12 +1,11 @@
 -- A row takes a byte of the file at least, so that a file has room for fewer rows than bytes.
 use mathlib.Core.Path.{_≡_, subst}
 use mathlib.Core.Bool.{Bool, true, false}
-use mathlib.Core.Option.{Option}
 use mathlib.Core.List.{List, [], _∷_}
-use Prim.Native.Nat.{ℕ, zero, suc, _+_, _≤_, _<_}
+use Prim.Native.Nat.{ℕ, zero, suc, _+_, _≤_}
 use native.Mathlib.Omega.{arith}
 use lib.ListN.{length, drop, length-drop, length-append}
-use Rattle.livelock.specs.Plants.{Row, Plant, rowCount, machineCount}
+use Rattle.livelock.specs.Plants.{Plant, rowCount, machineCount}
 use Rattle.plant.specs.Found.{Found, found, fault, andThen, movedBy}
 use Rattle.plant.specs.Reading.{byteIn, inRange, isMap, mapByte, hasBit, stateField, typeField, readRow, withRow, withMachine, readRows, rowsByte, readMachine}
 use Rattle.plant.proofs.Bounds.{Each, got, stopped, byteThat-each}

@@ -1,16 +1,15 @@
 -- Laws of the figures F, n and G.
-use mathlib.Core.Path.{_≡_, refl}
+use mathlib.Core.Path.{_≡_}
 use mathlib.Core.List.{List}
-use Prim.Native.Nat.{ℕ, zero, suc, _+_, _-_, _*_, _≤_, _<_, max}
+use Prim.Native.Nat.{ℕ, _+_, _-_, _*_, _≤_, _<_}
 use native.Mathlib.Nat.{mul-le-mul}
-use native.Mathlib.Numerals.{add-one}
 use native.Mathlib.Omega.{arith}
 use lib.ListN.{length, getD}
 use Rattle.livelock.specs.Lists.{below, sum, greatest}
 use Rattle.livelock.specs.Plants.{Plant, machineCount, stateCount}
 use Rattle.livelock.specs.Weights.{weight}
 use Rattle.livelock.specs.Figures.{statesLessOne, mostStates, largestWeight, base, perProgress}
-use Rattle.livelock.proofs.ListLaws.{all-at, all-below}
+use Rattle.livelock.proofs.ListLaws.{all-at}
 use Rattle.livelock.proofs.SumLaws.{sum-limit, greatest-limit}
 use Rattle.plant.specs.Limits.{WithinLimits}
 use Rattle.figures.specs.FigureSums.{figuresIn, FiguresOf}

@@ -1,7 +1,7 @@
 -- Laws of the parts of a graph: what stands in them.
 use mathlib.Core.Path.{_≡_, ap, _∙_}
 use mathlib.Core.List.{List, [], _∷_, _++_, map, map-append}
-use Prim.Native.Nat.{ℕ, zero, suc, _+_, _%_, _<_}
+use Prim.Native.Nat.{ℕ, zero, suc, _+_, _*_, _%_, _<_}
 use native.Mathlib.Nat.{not-suc-le-zero, zero-add}
 use native.Mathlib.Decide.{ℕ-discrete}
 use native.Mathlib.Omega.{arith}
@@ -52,9 +52,9 @@ pub head-stands : (g : List ℕ) (s : ℕ) → s < 24 → getD (headOf g) s 0 �
 unfolding headOf
 head-stands g s l = part-at 24 192 g s l
 
-pub into-stands : (g : List ℕ) (s : ℕ) → s < 32 → getD (intoOf g) s 0 ≡ getD g (224 + s) 0
+pub into-stands : (g : List ℕ) (s : ℕ) → s < 32 → getD (intoOf g) s 0 ≡ getD g (224 + s) 0 + 65536 * getD g (1024 + s) 0
 unfolding intoOf
-into-stands g s l = part-at 32 224 g s l
+into-stands g s l = map-below (λ i. getD g (224 + i) 0 + 65536 * getD g (1024 + i) 0) 32 s l
 
 pub between-stands : (g : List ℕ) (i : ℕ) → i < 768 → getD (betweenOf g) i 0 ≡ getD g (256 + i) 0
 unfolding betweenOf

@@ -1,6 +1,6 @@
 -- The parts of a graph in one list of numbers.
 use mathlib.Core.List.{List, map}
-use Prim.Native.Nat.{ℕ, _+_, _%_}
+use Prim.Native.Nat.{ℕ, _+_, _*_, _%_}
 use lib.ListN.{getD, take, drop}
 use Rattle.livelock.specs.Lists.{below}
 
@@ -24,9 +24,9 @@ nextOf graph = rowsAt 128 graph
 unfoldable pub headOf : List ℕ → List ℕ
 headOf graph = take 24 (drop 192 graph)
 
--- for each state the states with a row to it,
+-- for each state the states with a row to it, as the bits of a number in two halves,
 unfoldable pub intoOf : List ℕ → List ℕ
-intoOf graph = take 32 (drop 224 graph)
+intoOf graph = map (λ s. getD graph (224 + s) 0 + 65536 * getD graph (1024 + s) 0) (below 32)
 
 -- and at 32 s + t the number of rows from state s to state t.
 unfoldable pub betweenOf : List ℕ → List ℕ

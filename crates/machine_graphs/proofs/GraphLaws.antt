@@ -1,19 +1,16 @@
 -- Laws of the graph of a machine's rows: no row, one row more, and all rows.
-use mathlib.Core.Path.{_≡_, refl, sym, ap, _∙_, subst}
+use mathlib.Core.Path.{_≡_, refl, sym, _∙_, subst}
 use mathlib.Core.List.{List, map}
-use Prim.Native.Nat.{ℕ, _+_, _-_, _*_, _^_, _≤_, _<_}
-use native.Mathlib.Nat.{one-mul}
+use Prim.Native.Nat.{ℕ, _+_, _-_, _*_, _≤_, _<_}
 use native.Mathlib.Decide.{ℕ-discrete}
 use native.Mathlib.Omega.{arith}
 use lib.ListN.{length, set}
 use lib.Seq.{getD-set-same, getD-set-other}
-use lib.Bits.{bitOr}
 use Rattle.livelock.specs.Lists.{below}
 use Rattle.tables.specs.Tables.{rowIn}
 use Rattle.graphs.specs.Graphs.{leftOf, enteredOf, nextOf, headOf, intoOf, betweenOf, lastOf}
 use Rattle.graphs.proofs.PartLaws.{map-below}
-use Rattle.state_marks.specs.Marks.{column, marksOf, RowsBelow, Sources}
-use Rattle.state_marks.proofs.MarkLaws.{marked}
+use Rattle.state_marks.specs.Marks.{column, RowsBelow, Sources}
 use Rattle.cycle_paths.specs.Rows.{Linked}
 use Rattle.cycle_counts.specs.Pairs.{Between}
 use Rattle.cycle_counts.proofs.BetweenLaws.{between-few}
@@ -55,7 +52,7 @@ entering-is table k l = map-below (λ i. rowIn table i .entered) 1024 k l
 
 -- A graph has the rows from k on. Links, sources and pairs are those of the table's states.
 pub record Begun (table : List ℕ) (k last : ℕ) (graph : List ℕ) : Type 0 where
-  pub long : length graph ≡ 1024
+  pub long : length graph ≡ 1056
   pub copied : Copied table k last (leftOf graph) (enteredOf graph)
   pub links : Linked (leaving table) (nextOf graph) (headOf graph) k last
   pub from : Sources (leaving table) (entering table) (intoOf graph) k last
@@ -107,9 +104,6 @@ module _ (table : List ℕ) (k last left entered : ℕ) (before after : List ℕ
       subst (λ (s : ℕ). Linked (leaving table) (set (nextOf before) k (column (headOf before) s)) (set (headOf before) s k) k last) leaves
       (linked-more (leaving table) (nextOf before) (headOf before) k last (g .links) inside (omega (arith, leaves, low)))
 
-  put : marksOf 24 (bitOr (column (intoOf before) entered) (2 ^ left)) ≡ set (marksOf 24 (column (intoOf before) entered)) left 1
-  put = ap (λ (z : ℕ). marksOf 24 (bitOr (column (intoOf before) entered) z)) (sym (one-mul (2 ^ left))) ∙ marked 24 (column (intoOf before) entered) left low
-
   pub begun-row : Begun table k last after
   begun-row =
       record {
@@ -121,10 +115,10 @@ module _ (table : List ℕ) (k last left entered : ℕ) (before after : List ℕ
             (omega (arith, next-long after, few)) (λ j a b. refl) (λ j a b. goes j a b (ℕ-discrete j k)) linked);
         from =
             subst (λ (z : List ℕ). Sources (leaving table) (entering table) z k last) (sym (r .into-is))
-            (subst (λ (e : ℕ). Sources (leaving table) (entering table) (set (intoOf before) e (bitOr (column (intoOf before) entered) (2 ^ left))) k last) enters
-            (sources-more (leaving table) (entering table) (intoOf before) k last (bitOr (column (intoOf before) entered) (2 ^ left)) (g .from) (omega (arith, leaves, low)) (omega (arith, enters, high))
-            (into-long before (g .long))
-            (rw (leaves, enters) put)));
+            (subst (λ (e : ℕ). Sources (leaving table) (entering table) (set (intoOf before) e (r .into)) k last) enters
+            (sources-more (leaving table) (entering table) (intoOf before) k last (r .into) (g .from) (omega (arith, leaves, low)) (omega (arith, enters, high))
+            (into-long before)
+            (rw (leaves, enters) (r .into-marks))));
         pairs =
             subst (λ (z : List ℕ). Between (leaving table) (entering table) z k last) (sym (r .between-is))
             (between-more (leaving table) (entering table) (betweenOf before) k last (left * 32 + entered) (g .pairs) inside (omega (arith, leaves, low)) (omega (arith, enters, high))

@@ -1,23 +1,23 @@
--- Laws of a graph without rows, and of a row that is added: six stores, one behind the other.
+-- Laws of a graph without rows, and of a row that is added: seven stores, one behind the other.
 use mathlib.Core.Path.{_≡_, refl, sym, ap, _∙_}
 use mathlib.Core.List.{List}
-use Prim.Native.Nat.{ℕ, _+_, _*_, _%_, _≤_, _<_, _^_}
+use Prim.Native.Nat.{ℕ, _+_, _*_, _%_, _≤_, _<_}
 use native.Mathlib.Nat.{zero-add}
 use native.Mathlib.Decide.{ℕ-discrete}
 use native.Mathlib.Omega.{arith}
 use lib.ListN.{length, getD, set, take, drop, length-set}
-use lib.Seq.{getD-set-same, getD-set-other}
-use lib.Bits.{bitOr}
+use lib.Seq.{getD-set-same, getD-set-other, ext-getD}
 use Rattle.graphs.specs.Graphs.{leftOf, enteredOf, nextOf, headOf, intoOf, betweenOf, lastOf}
-use Rattle.graphs.proofs.PartLaws.{row-at, part-at}
+use Rattle.graphs.proofs.PartLaws.{row-at, part-at, into-stands}
+use Rattle.state_marks.specs.Marks.{marksOf}
 use Rattle.machine_graphs.specs.Graphs.{NoRows}
 use Rattle.machine_graphs.specs.Inner.Rows.{RowAdded}
-use Rattle.machine_graphs.proofs.PartLaws.{part-in, part-after, part-before}
+use Rattle.machine_graphs.proofs.PartLaws.{into-long, part-in, part-after, part-before}
 
 -- ---- no rows
 
 -- Links to no row, and no pair of states with a row.
-pub no-rows : (last : ℕ) (graph : List ℕ) → length graph ≡ 1024 → ((s : ℕ) → s < 25 → getD graph (192 + s) 0 ≡ last) → ((i : ℕ) → 217 ≤ i → getD graph i 0 ≡ 0)
+pub no-rows : (last : ℕ) (graph : List ℕ) → length graph ≡ 1056 → ((s : ℕ) → s < 25 → getD graph (192 + s) 0 ≡ last) → ((i : ℕ) → 217 ≤ i → getD graph i 0 ≡ 0)
     → NoRows last graph
 unfolding headOf betweenOf lastOf
 no-rows last graph long ends none =
@@ -43,7 +43,7 @@ ends-more last state graph room h s l = go (ℕ-discrete s state)
 apart : (k j : ℕ) → k < j → j < k + 64 → j % 64 ≡ k % 64 → ⊥
 apart k j l h e = omega arith
 
-module _ (g : List ℕ) (k left entered later into rows : ℕ) where
+module _ (g : List ℕ) (k left entered later lower rows upper : ℕ) where
   abbrev pair : ℕ
   pair = left * 32 + entered
 
@@ -60,75 +60,125 @@ module _ (g : List ℕ) (k left entered later into rows : ℕ) where
   g4 = set g3 (192 + left) k
 
   abbrev g5 : List ℕ
-  g5 = set g4 (224 + entered) into
+  g5 = set g4 (224 + entered) lower
 
-  abbrev pub six : List ℕ
-  six = set g5 (256 + pair) rows
+  abbrev g6 : List ℕ
+  g6 = set g5 (256 + pair) rows
+
+  abbrev pub seven : List ℕ
+  seven = set g6 (1024 + entered) upper
 
   module _ (low : left < 24) (high : entered < 24) where
     rest-in : k % 64 < 64
     rest-in = omega arith
 
     -- The stores behind the rows leave the numbers of rows.
-    behind : (i : ℕ) → i < 192 → getD six i 0 ≡ getD g3 i 0
+    behind : (i : ℕ) → i < 192 → getD seven i 0 ≡ getD g3 i 0
     behind i l =
-        getD-set-other g5 (256 + pair) i rows 0 (λ q. omega arith)
-        ∙ (getD-set-other g4 (224 + entered) i into 0 (λ q. omega arith) ∙ getD-set-other g3 (192 + left) i k 0 (λ q. omega arith))
+        getD-set-other g6 (1024 + entered) i upper 0 (λ q. omega arith)
+        ∙ (getD-set-other g5 (256 + pair) i rows 0 (λ q. omega arith)
+        ∙ (getD-set-other g4 (224 + entered) i lower 0 (λ q. omega arith) ∙ getD-set-other g3 (192 + left) i k 0 (λ q. omega arith)))
 
     -- A number of a row that is not stored is kept.
-    kept : (i : ℕ) → i < 192 → (i ≡ k % 64 → ⊥) → (i ≡ 64 + k % 64 → ⊥) → (i ≡ 128 + k % 64 → ⊥) → getD six i 0 ≡ getD g i 0
+    kept : (i : ℕ) → i < 192 → (i ≡ k % 64 → ⊥) → (i ≡ 64 + k % 64 → ⊥) → (i ≡ 128 + k % 64 → ⊥) → getD seven i 0 ≡ getD g i 0
     kept i l a b c =
         behind i l
         ∙ (getD-set-other g2 (128 + k % 64) i later 0 c ∙ (getD-set-other g1 (64 + k % 64) i entered 0 b ∙ getD-set-other g (k % 64) i left 0 a))
 
-    module _ (long : length g ≡ 1024) (few : k < 1024) where
-      stored-1 : getD six (0 + k % 64) 0 ≡ left
+    -- The stores before the heads and the heads leave the numbers behind them.
+    before : (i : ℕ) → 216 ≤ i → getD g4 i 0 ≡ getD g i 0
+    before i l =
+        getD-set-other g3 (192 + left) i k 0 (λ q. omega arith)
+        ∙ (getD-set-other g2 (128 + k % 64) i later 0 (λ q. omega (arith, rest-in))
+        ∙ (getD-set-other g1 (64 + k % 64) i entered 0 (λ q. omega (arith, rest-in)) ∙ getD-set-other g (k % 64) i left 0 (λ q. omega (arith, rest-in))))
+
+    module _ (long : length g ≡ 1056) (few : k < 1024) where
+      stored-1 : getD seven (0 + k % 64) 0 ≡ left
       stored-1 =
-          ap (λ (i : ℕ). getD six i 0) (zero-add (k % 64))
+          ap (λ (i : ℕ). getD seven i 0) (zero-add (k % 64))
           ∙ (behind (k % 64) (omega (arith, rest-in))
           ∙ (getD-set-other g2 (128 + k % 64) (k % 64) later 0 (λ q. omega arith)
           ∙ (getD-set-other g1 (64 + k % 64) (k % 64) entered 0 (λ q. omega arith) ∙ getD-set-same g (k % 64) left 0 (omega (arith, rest-in, long)))))
 
-      stored-2 : getD six (64 + k % 64) 0 ≡ entered
+      stored-2 : getD seven (64 + k % 64) 0 ≡ entered
       stored-2 =
           behind (64 + k % 64) (omega (arith, rest-in))
           ∙ (getD-set-other g2 (128 + k % 64) (64 + k % 64) later 0 (λ q. omega arith)
           ∙ getD-set-same g1 (64 + k % 64) entered 0 (omega (arith, rest-in, long, length-set g (k % 64) left)))
 
-      stored-3 : getD six (128 + k % 64) 0 ≡ later
+      stored-3 : getD seven (128 + k % 64) 0 ≡ later
       stored-3 =
           behind (128 + k % 64) (omega (arith, rest-in))
           ∙ getD-set-same g2 (128 + k % 64) later 0 (omega (arith, rest-in, long, length-set g (k % 64) left, length-set g1 (64 + k % 64) entered))
 
-      pub row-added : later ≡ getD g (192 + left) 0 → into ≡ bitOr (getD g (224 + entered) 0) (2 ^ left) → rows ≡ getD g (256 + pair) 0 + 1 → RowAdded k left entered g six
-      unfolding leftOf enteredOf nextOf headOf intoOf betweenOf lastOf
-      row-added e f h =
+      long-4 : length g4 ≡ 1056
+      long-4 = simp length-set long
+
+      long-6 : length g6 ≡ 1056
+      long-6 = simp length-set long
+
+      -- The two halves of the states with a row to `entered`,
+      lower-at : getD seven (224 + entered) 0 ≡ lower
+      lower-at =
+          getD-set-other g6 (1024 + entered) (224 + entered) upper 0 (λ q. omega arith)
+          ∙ (getD-set-other g5 (256 + pair) (224 + entered) rows 0 (λ q. omega arith) ∙ getD-set-same g4 (224 + entered) lower 0 (omega (arith, long-4)))
+
+      upper-at : getD seven (1024 + entered) 0 ≡ upper
+      upper-at = getD-set-same g6 (1024 + entered) upper 0 (omega (arith, long-6))
+
+      -- and those of the other states.
+      lower-else : (s : ℕ) → s < 32 → (s ≡ entered → ⊥) → getD seven (224 + s) 0 ≡ getD g (224 + s) 0
+      lower-else s l n =
+          getD-set-other g6 (1024 + entered) (224 + s) upper 0 (λ q. omega arith)
+          ∙ (getD-set-other g5 (256 + pair) (224 + s) rows 0 (λ q. omega arith)
+          ∙ (getD-set-other g4 (224 + entered) (224 + s) lower 0 (λ q. n (omega arith)) ∙ before (224 + s) (omega arith)))
+
+      upper-else : (s : ℕ) → (s ≡ entered → ⊥) → getD seven (1024 + s) 0 ≡ getD g (1024 + s) 0
+      upper-else s n =
+          getD-set-other g6 (1024 + entered) (1024 + s) upper 0 (λ q. n (omega arith))
+          ∙ (getD-set-other g5 (256 + pair) (1024 + s) rows 0 (λ q. omega arith)
+          ∙ (getD-set-other g4 (224 + entered) (1024 + s) lower 0 (λ q. omega arith) ∙ before (1024 + s) (omega arith)))
+
+      sources : (into : ℕ) → lower + 65536 * upper ≡ into → intoOf seven ≡ set (intoOf g) entered into
+      sources into e =
+          ext-getD 0 (intoOf seven) (set (intoOf g) entered into) (into-long seven ∙ sym (length-set (intoOf g) entered into ∙ into-long g))
+          (λ s l. go s (omega (arith, into-long seven, l)) (ℕ-discrete s entered))
+        where
+          go : (s : ℕ) → s < 32 → Dec (s ≡ entered) → getD (intoOf seven) s 0 ≡ getD (set (intoOf g) entered into) s 0
+          go s l (yes q) =
+              rw q (into-stands seven entered (omega arith) ∙ (rw (lower-at, upper-at) e) ∙ sym (getD-set-same (intoOf g) entered into 0 (omega (arith, into-long g))))
+          go s l (no n) =
+              into-stands seven s l
+              ∙ (rw (lower-else s l n, upper-else s n) (sym (into-stands g s l)))
+              ∙ sym (getD-set-other (intoOf g) entered s into 0 n)
+
+      pub row-added : (into : ℕ) → later ≡ getD g (192 + left) 0 → lower + 65536 * upper ≡ into → marksOf 24 into ≡ set (marksOf 24 (getD (intoOf g) entered 0)) left 1
+          → rows ≡ getD g (256 + pair) 0 + 1 → RowAdded k left entered g seven
+      unfolding leftOf enteredOf nextOf headOf betweenOf lastOf
+      row-added into e f m h =
           record {
             long = simp length-set long;
-            left-at = row-at 0 six k few ∙ stored-1;
-            entered-at = row-at 64 six k few ∙ stored-2;
-            next-at = row-at 128 six k few ∙ (stored-3 ∙ (e ∙ sym (part-at 24 192 g left low)));
-            left-else = λ j a b l. row-at 0 six j l ∙ (kept (0 + j % 64) (omega arith) (λ q. apart k j a b (omega arith)) (λ q. omega arith) (λ q. omega arith) ∙ sym (row-at 0 g j l));
-            entered-else = λ j a b l. row-at 64 six j l ∙ (kept (64 + j % 64) (omega arith) (λ q. omega arith) (λ q. apart k j a b (omega arith)) (λ q. omega arith) ∙ sym (row-at 64 g j l));
-            next-else = λ j a b l. row-at 128 six j l ∙ (kept (128 + j % 64) (omega arith) (λ q. omega arith) (λ q. omega arith) (λ q. apart k j a b (omega arith)) ∙ sym (row-at 128 g j l));
+            left-at = row-at 0 seven k few ∙ stored-1;
+            entered-at = row-at 64 seven k few ∙ stored-2;
+            next-at = row-at 128 seven k few ∙ (stored-3 ∙ (e ∙ sym (part-at 24 192 g left low)));
+            left-else = λ j a b l. row-at 0 seven j l ∙ (kept (0 + j % 64) (omega arith) (λ q. apart k j a b (omega arith)) (λ q. omega arith) (λ q. omega arith) ∙ sym (row-at 0 g j l));
+            entered-else = λ j a b l. row-at 64 seven j l ∙ (kept (64 + j % 64) (omega arith) (λ q. omega arith) (λ q. apart k j a b (omega arith)) (λ q. omega arith) ∙ sym (row-at 64 g j l));
+            next-else = λ j a b l. row-at 128 seven j l ∙ (kept (128 + j % 64) (omega arith) (λ q. omega arith) (λ q. omega arith) (λ q. apart k j a b (omega arith)) ∙ sym (row-at 128 g j l));
             head-is =
-                part-before 24 192 g5 (256 + pair) rows (64 + pair) (omega arith) (omega arith)
-                ∙ (part-before 24 192 g4 (224 + entered) into (32 + entered) (omega arith) (omega arith)
-                ∙ (part-in 24 192 g3 (192 + left) k left refl
-                ∙ ap (λ (z : List ℕ). set z left k) (part-after 24 192 g2 (128 + k % 64) later (omega (arith, rest-in)) ∙ (part-after 24 192 g1 (64 + k % 64) entered (omega (arith, rest-in)) ∙ part-after 24 192 g (k % 64) left (omega (arith, rest-in))))));
-            into-is =
-                part-before 32 224 g5 (256 + pair) rows (32 + pair) (omega arith) (omega arith)
-                ∙ (part-in 32 224 g4 (224 + entered) into entered refl
-                ∙ (ap (λ (z : List ℕ). set z entered into) (part-after 32 224 g3 (192 + left) k (omega arith) ∙ (part-after 32 224 g2 (128 + k % 64) later (omega (arith, rest-in)) ∙ (part-after 32 224 g1 (64 + k % 64) entered (omega (arith, rest-in)) ∙ part-after 32 224 g (k % 64) left (omega (arith, rest-in)))))
-                ∙ ap (λ (z : ℕ). set (take 32 (drop 224 g)) entered z) (f ∙ ap (λ (z : ℕ). bitOr z (2 ^ left)) (sym (part-at 32 224 g entered (omega arith))))));
+                part-before 24 192 g6 (1024 + entered) upper (832 + entered) (omega arith) (omega arith)
+                ∙ (part-before 24 192 g5 (256 + pair) rows (64 + pair) (omega arith) (omega arith)
+                ∙ (part-before 24 192 g4 (224 + entered) lower (32 + entered) (omega arith) (omega arith)
+                ∙ (part-in 24 192 g3 (192 + left) k left refl low
+                ∙ ap (λ (z : List ℕ). set z left k) (part-after 24 192 g2 (128 + k % 64) later (omega (arith, rest-in)) ∙ (part-after 24 192 g1 (64 + k % 64) entered (omega (arith, rest-in)) ∙ part-after 24 192 g (k % 64) left (omega (arith, rest-in)))))));
+            into = into;
+            into-marks = m;
+            into-is = sources into f;
             between-is =
-                part-in 768 256 g5 (256 + pair) rows pair refl
-                ∙ (ap (λ (z : List ℕ). set z pair rows) (part-after 768 256 g4 (224 + entered) into (omega arith) ∙ (part-after 768 256 g3 (192 + left) k (omega arith) ∙ (part-after 768 256 g2 (128 + k % 64) later (omega (arith, rest-in)) ∙ (part-after 768 256 g1 (64 + k % 64) entered (omega (arith, rest-in)) ∙ part-after 768 256 g (k % 64) left (omega (arith, rest-in))))))
-                ∙ ap (λ (z : ℕ). set (take 768 (drop 256 g)) pair z) (h ∙ ap (λ (z : ℕ). z + 1) (sym (part-at 768 256 g pair (omega arith)))));
+                part-before 768 256 g6 (1024 + entered) upper (768 + entered) (omega arith) (omega arith)
+                ∙ (part-in 768 256 g5 (256 + pair) rows pair refl (omega arith)
+                ∙ (ap (λ (z : List ℕ). set z pair rows) (part-after 768 256 g4 (224 + entered) lower (omega arith) ∙ (part-after 768 256 g3 (192 + left) k (omega arith) ∙ (part-after 768 256 g2 (128 + k % 64) later (omega (arith, rest-in)) ∙ (part-after 768 256 g1 (64 + k % 64) entered (omega (arith, rest-in)) ∙ part-after 768 256 g (k % 64) left (omega (arith, rest-in))))))
+                ∙ ap (λ (z : ℕ). set (take 768 (drop 256 g)) pair z) (h ∙ ap (λ (z : ℕ). z + 1) (sym (part-at 768 256 g pair (omega arith))))));
             last-same =
-                getD-set-other g5 (256 + pair) 216 rows 0 (λ q. omega arith)
-                ∙ (getD-set-other g4 (224 + entered) 216 into 0 (λ q. omega arith)
-                ∙ (getD-set-other g3 (192 + left) 216 k 0 (λ q. omega arith)
-                ∙ (getD-set-other g2 (128 + k % 64) 216 later 0 (λ q. omega (arith, rest-in))
-                ∙ (getD-set-other g1 (64 + k % 64) 216 entered 0 (λ q. omega (arith, rest-in)) ∙ getD-set-other g (k % 64) 216 left 0 (λ q. omega (arith, rest-in))))));
+                getD-set-other g6 (1024 + entered) 216 upper 0 (λ q. omega arith)
+                ∙ (getD-set-other g5 (256 + pair) 216 rows 0 (λ q. omega arith) ∙ (getD-set-other g4 (224 + entered) 216 lower 0 (λ q. omega arith) ∙ before 216 (omega arith)));
           }

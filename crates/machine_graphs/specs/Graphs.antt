@@ -19,7 +19,7 @@ pub record Listable (table : List ℕ) (first last : ℕ) : Type 0 where
 
 -- A graph without rows, before `last`.
 pub record NoRows (last : ℕ) (graph : List ℕ) : Type 0 where
-  pub long : length graph ≡ 1024
+  pub long : length graph ≡ 1056
   pub no-head : (s : ℕ) → s < 24 → getD (headOf graph) s 0 ≡ last
   pub no-pair : (i : ℕ) → i < 768 → getD (betweenOf graph) i 0 ≡ 0
   pub last-is : lastOf graph ≡ last

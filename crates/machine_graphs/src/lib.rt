@@ -8,12 +8,12 @@ ghost use Rattle.machine_graphs.specs.Graphs.{Listable, NoRows, Graphed}
 ghost use Rattle.machine_graphs.specs.Inner.Rows.{RowAdded};
 
 // A graph without rows.
-pub fn without_rows(last: usize) -> [u32; 1024]
+pub fn without_rows(last: usize) -> [u16; 1056]
     requires { ⌜ last ≤ 1024 ⌝ }
     ensures { λ r. ⌜ NoRows last r ⌝ }
 {
-    let end = last as u32;
-    let mut graph = [0; 1024];
+    let end = last as u16;
+    let mut graph = [0; 1056];
     let mut state = 0;
     while state < 25 {
         graph[192 + state] = end;
@@ -23,8 +23,8 @@ pub fn without_rows(last: usize) -> [u32; 1024]
 }
 
 // Adds row k before the rows of a graph.
-fn add_row(graph: &mut [u32; 1024], k: usize, left: u8, entered: u8)
-    requires { ⌜ (length (now graph) ≡ 1024) × (k < 1024) × (left < 24) × (entered < 24) × (getD (betweenOf (now graph)) (left * 32 + entered) 0 ≤ 1024) ⌝ }
+fn add_row(graph: &mut [u16; 1056], k: usize, left: u8, entered: u8)
+    requires { ⌜ (length (now graph) ≡ 1056) × (k < 1024) × (left < 24) × (entered < 24) × (getD (betweenOf (now graph)) (left * 32 + entered) 0 ≤ 1024) ⌝ }
     ensures { λ r. ⌜ RowAdded k left entered (now (graph .entry)) (now (graph .exit)) ⌝ }
 {
     let at = k % 64;
@@ -32,19 +32,20 @@ fn add_row(graph: &mut [u32; 1024], k: usize, left: u8, entered: u8)
     let t = entered as usize;
     let pair = s * 32 + t;
     let later = graph[192 + s];
-    let into = graph[224 + t];
+    let into = state_marks::with_left(graphs::into_of(graph, t), left);
     let rows = graph[256 + pair];
-    graph[at] = left as u32;
-    graph[64 + at] = entered as u32;
+    graph[at] = left as u16;
+    graph[64 + at] = entered as u16;
     graph[128 + at] = later;
-    graph[192 + s] = k as u32;
-    graph[224 + t] = into | (1 << left);
+    graph[192 + s] = k as u16;
+    graph[224 + t] = (into % 65536) as u16;
     graph[256 + pair] = rows + 1;
+    graph[1024 + t] = (into / 65536) as u16;
 }
 
 // Adds the rows from `first` up to, and not including, `last` to a graph without rows; from the last row to the first, as `add_row` puts
 // each before those that are there.
-pub fn add_rows(table: &[u8], first: usize, last: usize, graph: &mut [u32; 1024])
+pub fn add_rows(table: &[u8], first: usize, last: usize, graph: &mut [u16; 1056])
     requires { ⌜ Listable (now table) first last × NoRows last (now graph) ⌝ }
     ensures { λ r. ⌜ Graphed (now (table .entry)) first last (now (graph .exit)) ⌝ }
 {

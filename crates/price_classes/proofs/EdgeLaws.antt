@@ -11,9 +11,8 @@ use lib.Dec.{leb, eqb}
 use lib.ListN.{length, getD}
 use lib.Pow.{pow-mono}
 use Rattle.livelock.specs.Lists.{below, count}
-use Rattle.livelock.proofs.SumLaws.{sum-map, sum-next}
+use Rattle.livelock.proofs.SumLaws.{sum-map, sum-next, sum-none, sum-limit}
 use Rattle.livelock.proofs.Tests.{and-iff}
-use Rattle.livelock.proofs.SumLaws.{sum-none, sum-limit}
 use Rattle.price_classes.specs.Classes.{edges, classOf}
 
 -- ---- the doubling rule

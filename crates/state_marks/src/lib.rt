@@ -44,7 +44,7 @@ fn turned(bits: u32, state: u32) -> u32
 
 // The marks, with dead ends marked as well: the states from which no path over states that are not marked leads back to `start`. The
 // others, `live`, are found backward from `start`; `todo` has those of them whose sources are not yet in `live`. Each state is to do at most once.
-pub fn without_dead_ends(graph: &[u32; 1024], start: u8, marks: u32) -> u32
+pub fn without_dead_ends(graph: &[u16; 1056], start: u8, marks: u32) -> u32
     requires { ⌜ start < 24 ⌝ }
     ensures { λ r. ⌜ Closed (intoOf (now (graph .entry))) start (marksOf 24 marks) (marksOf 24 r) ⌝ }
 {
@@ -66,7 +66,7 @@ pub fn without_dead_ends(graph: &[u32; 1024], start: u8, marks: u32) -> u32
 }
 
 // The same once `state` is left, where the dead ends were marked before: if no state that is not marked has a row to it, there are no new ones.
-pub fn after_leaving(graph: &[u32; 1024], start: u8, state: u8, marks: u32) -> u32
+pub fn after_leaving(graph: &[u16; 1056], start: u8, state: u8, marks: u32) -> u32
     requires { ⌜ (start < 24) × (state < 24) ⌝ }
     ensures { λ r. ⌜ Closed (intoOf (now (graph .entry))) start (marksOf 24 marks) (marksOf 24 r) ⌝ }
 {

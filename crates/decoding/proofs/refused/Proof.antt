@@ -1,5 +1,4 @@
 -- `refused` meets its contract: a plant without machines has no rows, and the first of them is row 0.
-use borrow.Author.Needs.{needs}
 use mathlib.Core.Path.{refl}
 use Rattle.decoding.proofs.FirstRowLaws.{nothing-ready}
 use Rattle.decoding.proofs.refused.Statement.{statement}

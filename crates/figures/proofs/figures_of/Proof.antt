@@ -4,8 +4,7 @@ use Prim.Native.Nat.{_-_, _≤_}
 use native.Mathlib.Nat.{mul-le-mul}
 use native.Mathlib.Omega.{arith}
 use lib.ListN.{length, getD}
-use Rattle.livelock.proofs.SumLaws.{greatest-below}
-use Rattle.livelock.proofs.SumLaws.{sum-limit, greatest-limit}
+use Rattle.livelock.proofs.SumLaws.{greatest-below, sum-limit, greatest-limit}
 use Rattle.figures.proofs.FigureLaws.{figures-are}
 use Rattle.figures.proofs.figures_of.Statement.{statement}
 use Rattle.figures.proofs.figures_of.Tie as tie

@@ -1,20 +1,45 @@
 use borrow.Author.Needs.{needs}
-use mathlib.Core.Path.{sym}
+use mathlib.Core.Path.{sym, _∙_}
 use Rattle.graphs.proofs.PartLaws.{into-stands}
 use Rattle.graphs.proofs.into_of.Statement.{statement}
 use Rattle.graphs.proofs.into_of.Tie as tie
+use Rattle.graphs.proofs.into_of.Reads as reads
+use Rattle.graphs.proofs.into_of.Lts as lts
+use Rattle.graphs.proofs.joined.Reads as joined-reads
 
-add-result : tie.Need-add-result
-add-result c = search needs
+add-joined : tie.Need-add-joined
+add-joined c = search needs
 
-mul-result : tie.Need-mul-result
-mul-result c = search needs
+mul-joined : tie.Need-mul-joined
+mul-joined c = search needs
 
-element-copy-out-result : tie.Need-element-copy-out-result
-element-copy-out-result c = search needs
+element-copy-out-joined : tie.Need-element-copy-out-joined
+element-copy-out-joined c = search needs
+
+add-joined-2 : tie.Need-add-joined-2
+add-joined-2 c = search needs
+
+mul-joined-2 : tie.Need-mul-joined-2
+mul-joined-2 c = search needs
+
+element-copy-out-joined-2 : tie.Need-element-copy-out-joined-2
+element-copy-out-joined-2 c = search needs
+
+joined-requires : tie.Need-joined-requires
+joined-requires c κs = search needs
 
 returns : tie.Need-returns
-returns c = let a = c .before .args in sym (into-stands (a .graph .now) (a .state) (c .before .pre))
+returns c = let a = c .before .before .before .args in c .joined .ensures ∙ sym (into-stands (a .graph .now) (a .state) (c .before .before .before .pre))
 
 pub into-of-spec : {M : Type 1} → statement M
-into-of-spec = tie.close (tie.spec add-result mul-result element-copy-out-result returns)
+into-of-spec =
+    tie.close
+    (tie.spec
+    add-joined
+    mul-joined
+    element-copy-out-joined
+    add-joined-2
+    mul-joined-2
+    element-copy-out-joined-2
+    joined-requires
+    returns)

@@ -1,15 +1,17 @@
 use borrow.Author.Needs.{needs}
 use mathlib.Core.Path.{refl, ap, _∙_}
-use Prim.Native.Nat.{ℕ, _+_, _*_, _^_}
-use native.Mathlib.Nat.{le-refl, one-mul}
+use Prim.Native.Nat.{ℕ, _+_, _*_}
 use native.Mathlib.Omega.{arith}
-use lib.ListN.{getD}
-use lib.Bits.{bitOr}
-use lib.Pow.{shl-exact}
+use lib.ListN.{set}
 use Rattle.graphs.proofs.PartLaws.{between-stands}
+use Rattle.state_marks.specs.Marks.{marksOf}
 use Rattle.machine_graphs.proofs.RowLaws.{row-added}
 use Rattle.machine_graphs.proofs.add_row.Statement.{statement}
 use Rattle.machine_graphs.proofs.add_row.Tie as tie
+use Rattle.machine_graphs.proofs.add_row.Reads as reads
+use Rattle.machine_graphs.proofs.add_row.Lts as lts
+use Rattle.graphs.proofs.into_of.Reads as into-of-reads
+use Rattle.state_marks.proofs.with_left.Reads as with-left-reads
 
 mul-pair : tie.Need-mul-pair
 mul-pair c = search needs
@@ -26,14 +28,11 @@ mul-later c = search needs
 element-copy-out-later : tie.Need-element-copy-out-later
 element-copy-out-later c = search needs
 
-add-into : tie.Need-add-into
-add-into c = search needs
+into-of-requires : tie.Need-into-of-requires
+into-of-requires c κs = search needs
 
-mul-into : tie.Need-mul-into
-mul-into c = search needs
-
-element-copy-out-into : tie.Need-element-copy-out-into
-element-copy-out-into c = search needs
+with-left-requires : tie.Need-with-left-requires
+with-left-requires c κs = search needs
 
 add-rows : tie.Need-add-rows
 add-rows c = search needs
@@ -80,8 +79,8 @@ mul-graph-4 c = search needs
 element-write-graph-4 : tie.Need-element-write-graph-4
 element-write-graph-4 c = search needs
 
-shl-graph : tie.Need-shl-graph
-shl-graph c = search needs
+cast-graph-2 : tie.Need-cast-graph-2
+cast-graph-2 c = search needs
 
 add-graph-4 : tie.Need-add-graph-4
 add-graph-4 c = search needs
@@ -94,7 +93,7 @@ element-write-graph-5 c = search needs
 
 add-graph-5 : tie.Need-add-graph-5
 add-graph-5 c =
-    let b = c .before .before .before in
+    let b = c .before .before .before .before .before in
     let a = b .args in
     record { fits = omega (arith, b .pre .4, between-stands (a .graph .now) (a .left * 32 + a .entered) (omega (arith, b .pre .2, b .pre .3))) }
 
@@ -107,11 +106,26 @@ mul-graph-6 c = search needs
 element-write-graph-6 : tie.Need-element-write-graph-6
 element-write-graph-6 c = search needs
 
+cast-graph-3 : tie.Need-cast-graph-3
+cast-graph-3 c = search needs
+
+add-graph-7 : tie.Need-add-graph-7
+add-graph-7 c = search needs
+
+mul-graph-7 : tie.Need-mul-graph-7
+mul-graph-7 c = search needs
+
+element-write-graph-7 : tie.Need-element-write-graph-7
+element-write-graph-7 c = search needs
+
 returns : tie.Need-returns
 returns c =
-    let b = c .before .before .before in
+    let b = c .before .before .before .before .before in
     let a = b .args in
-    row-added (a .graph .now) (a .k) (a .left) (a .entered) _ _ _ (b .pre .2) (b .pre .3) (b .pre .0) (b .pre .1) refl (ap (λ (x : ℕ). bitOr (getD (a .graph .now) (224 + a .entered) 0) x) (shl-exact 1 (a .left) 32 (le-refl 2) (omega (arith, b .pre .2)) ∙ one-mul (2 ^ a .left))) refl
+    let into = c .before .before .into-of .ensures in
+    let marks = c .before .with-left in
+    row-added (a .graph .now) (a .k) (a .left) (a .entered) _ _ _ _ (b .pre .2) (b .pre .3) (b .pre .0) (b .pre .1) (marks .result) refl (omega arith)
+    (marks .ensures ∙ ap (λ (x : ℕ). set (marksOf 24 x) (a .left) 1) into) refl
 
 pub add-row-spec : {M : Type 1} → statement M
 add-row-spec =
@@ -122,9 +136,8 @@ add-row-spec =
     add-later
     mul-later
     element-copy-out-later
-    add-into
-    mul-into
-    element-copy-out-into
+    into-of-requires
+    with-left-requires
     add-rows
     mul-rows
     element-copy-out-rows
@@ -140,7 +153,7 @@ add-row-spec =
     add-graph-3
     mul-graph-4
     element-write-graph-4
-    shl-graph
+    cast-graph-2
     add-graph-4
     mul-graph-5
     element-write-graph-5
@@ -148,4 +161,8 @@ add-row-spec =
     add-graph-6
     mul-graph-6
     element-write-graph-6
+    cast-graph-3
+    add-graph-7
+    mul-graph-7
+    element-write-graph-7
     returns)

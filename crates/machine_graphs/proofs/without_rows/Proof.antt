@@ -11,7 +11,7 @@ use Rattle.machine_graphs.proofs.without_rows.Tie as tie
 
 abbrev Inv-loop : tie.InvT-loop
 Inv-loop last end graph₀ state₀ graph state =
-    (state ≤ 25) × (end ≡ last) × (length graph ≡ 1024) × ((s : ℕ) → s < state → getD graph (192 + s) 0 ≡ last) × ((i : ℕ) → 217 ≤ i → getD graph i 0 ≡ 0)
+    (state ≤ 25) × (end ≡ last) × (length graph ≡ 1056) × ((s : ℕ) → s < state → getD graph (192 + s) 0 ≡ last) × ((i : ℕ) → 217 ≤ i → getD graph i 0 ≡ 0)
 
 abbrev μ-loop : tie.MeasureT-loop
 μ-loop last end graph₀ state₀ graph state = 25 - state
@@ -20,7 +20,7 @@ cast-end : tie.Need-cast-end Inv-loop μ-loop
 cast-end c = search needs
 
 loop-holds : tie.Need-loop-holds Inv-loop μ-loop
-loop-holds c = (omega arith, refl, refl, λ s l. absurd (omega arith), λ i l. getD-replicate-default 1024 0 i)
+loop-holds c = (omega arith, refl, refl, λ s l. absurd (omega arith), λ i l. getD-replicate-default 1056 0 i)
 
 add-graph : tie.Need-add-graph Inv-loop μ-loop
 add-graph c = search needs
