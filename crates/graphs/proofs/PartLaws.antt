@@ -52,10 +52,10 @@ pub head-stands : (g : List ℕ) (s : ℕ) → s < 24 → getD (headOf g) s 0 �
 unfolding headOf
 head-stands g s l = part-at 24 192 g s l
 
-pub into-stands : (g : List ℕ) (s : ℕ) → s < 32 → getD (intoOf g) s 0 ≡ getD g (224 + s) 0 + 65536 * getD g (1024 + s) 0
+pub into-stands : (g : List ℕ) (s : ℕ) → s < 32 → getD (intoOf g) s 0 ≡ getD g (224 + 2 * s) 0 + 65536 * getD g (225 + 2 * s) 0
 unfolding intoOf
-into-stands g s l = map-below (λ i. getD g (224 + i) 0 + 65536 * getD g (1024 + i) 0) 32 s l
+into-stands g s l = map-below (λ i. getD g (224 + 2 * i) 0 + 65536 * getD g (225 + 2 * i) 0) 32 s l
 
-pub between-stands : (g : List ℕ) (i : ℕ) → i < 768 → getD (betweenOf g) i 0 ≡ getD g (256 + i) 0
+pub between-stands : (g : List ℕ) (i : ℕ) → i < 768 → getD (betweenOf g) i 0 ≡ getD g (288 + i) 0
 unfolding betweenOf
-between-stands g i l = part-at 768 256 g i l
+between-stands g i l = part-at 768 288 g i l

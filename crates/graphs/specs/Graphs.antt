@@ -24,13 +24,13 @@ nextOf graph = rowsAt 128 graph
 unfoldable pub headOf : List ℕ → List ℕ
 headOf graph = take 24 (drop 192 graph)
 
--- for each state the states with a row to it, as the bits of a number in two halves,
+-- for each state the states with a row to it, as bits in two numbers,
 unfoldable pub intoOf : List ℕ → List ℕ
-intoOf graph = map (λ s. getD graph (224 + s) 0 + 65536 * getD graph (1024 + s) 0) (below 32)
+intoOf graph = map (λ s. getD graph (224 + 2 * s) 0 + 65536 * getD graph (225 + 2 * s) 0) (below 32)
 
 -- and at 32 s + t the number of rows from state s to state t.
 unfoldable pub betweenOf : List ℕ → List ℕ
-betweenOf graph = take 768 (drop 256 graph)
+betweenOf graph = take 768 (drop 288 graph)
 
 -- The number after the last row.
 unfoldable pub lastOf : List ℕ → ℕ

@@ -1,7 +1,7 @@
 // The rows of a machine as a graph: one lent list of 16-bit numbers. Row k, of which only k % 64 tells the place, stands in three numbers:
 // the state it leaves, the state it enters, and the next row that leaves the same state. Then come for each state the first row that
-// leaves it and the states with a row to it, as bits in two halves, of which the high ones stand at the end; and for each two states the
-// number of rows from one to the other. Where there is no row, it is the number after the last row.
+// leaves it, and the states with a row to it as bits, in two numbers; and for each two states the number of rows from one to the other.
+// Where there is no row, it is the number after the last row.
 // No entry point: the crates that search a graph know the contracts of these functions, and have no index into it; `machine_graphs`
 // makes a graph.
 ghost use mathlib.Core.Path.{_≡_};
@@ -66,7 +66,7 @@ pub fn into_of(graph: &[u16; 1056], state: usize) -> u32
     requires { ⌜ state < 32 ⌝ }
     ensures { λ r. ⌜ r ≡ getD (intoOf (now (graph .entry))) state 0 ⌝ }
 {
-    joined(graph[224 + state], graph[1024 + state])
+    joined(graph[224 + 2 * state], graph[225 + 2 * state])
 }
 
 // The number of rows from one state to another.
@@ -74,7 +74,7 @@ pub fn between_of(graph: &[u16; 1056], left: u8, entered: u8) -> usize
     requires { ⌜ (left < 24) × (entered < 24) ⌝ }
     ensures { λ r. ⌜ r ≡ getD (betweenOf (now (graph .entry))) (left * 32 + entered) 0 ⌝ }
 {
-    wide(graph[256 + (left as usize * 32 + entered as usize)])
+    wide(graph[288 + (left as usize * 32 + entered as usize)])
 }
 
 // The number after the last row.

@@ -25,11 +25,11 @@ head-long g e = length-take-le 24 (drop 192 g) (omega (arith, e, length-drop 192
 
 pub into-long : (g : List ℕ) → length (intoOf g) ≡ 32
 unfolding intoOf
-into-long g = length-map (below 32) (λ i. getD g (224 + i) 0 + 65536 * getD g (1024 + i) 0) ∙ below-length 32
+into-long g = length-map (below 32) (λ i. getD g (224 + 2 * i) 0 + 65536 * getD g (225 + 2 * i) 0) ∙ below-length 32
 
 pub between-long : (g : List ℕ) → length g ≡ 1056 → length (betweenOf g) ≡ 768
 unfolding betweenOf
-between-long g e = length-take-le 768 (drop 256 g) (omega (arith, e, length-drop 256 g))
+between-long g e = length-take-le 768 (drop 288 g) (omega (arith, e, length-drop 288 g))
 
 -- ---- what a store leaves of a part
 

@@ -24,7 +24,7 @@ no-rows last graph long ends none =
     record {
       long = long;
       no-head = λ s l. part-at 24 192 graph s l ∙ ends s (omega arith);
-      no-pair = λ i l. part-at 768 256 graph i l ∙ none (256 + i) (omega arith);
+      no-pair = λ i l. part-at 768 288 graph i l ∙ none (288 + i) (omega arith);
       last-is = ends 24 (omega arith);
     }
 
@@ -43,7 +43,7 @@ ends-more last state graph room h s l = go (ℕ-discrete s state)
 apart : (k j : ℕ) → k < j → j < k + 64 → j % 64 ≡ k % 64 → ⊥
 apart k j l h e = omega arith
 
-module _ (g : List ℕ) (k left entered later lower rows upper : ℕ) where
+module _ (g : List ℕ) (k left entered later lower upper rows : ℕ) where
   abbrev pair : ℕ
   pair = left * 32 + entered
 
@@ -60,13 +60,13 @@ module _ (g : List ℕ) (k left entered later lower rows upper : ℕ) where
   g4 = set g3 (192 + left) k
 
   abbrev g5 : List ℕ
-  g5 = set g4 (224 + entered) lower
+  g5 = set g4 (224 + 2 * entered) lower
 
   abbrev g6 : List ℕ
-  g6 = set g5 (256 + pair) rows
+  g6 = set g5 (225 + 2 * entered) upper
 
   abbrev pub seven : List ℕ
-  seven = set g6 (1024 + entered) upper
+  seven = set g6 (288 + pair) rows
 
   module _ (low : left < 24) (high : entered < 24) where
     rest-in : k % 64 < 64
@@ -75,9 +75,9 @@ module _ (g : List ℕ) (k left entered later lower rows upper : ℕ) where
     -- The stores behind the rows leave the numbers of rows.
     behind : (i : ℕ) → i < 192 → getD seven i 0 ≡ getD g3 i 0
     behind i l =
-        getD-set-other g6 (1024 + entered) i upper 0 (λ q. omega arith)
-        ∙ (getD-set-other g5 (256 + pair) i rows 0 (λ q. omega arith)
-        ∙ (getD-set-other g4 (224 + entered) i lower 0 (λ q. omega arith) ∙ getD-set-other g3 (192 + left) i k 0 (λ q. omega arith)))
+        getD-set-other g6 (288 + pair) i rows 0 (λ q. omega arith)
+        ∙ (getD-set-other g5 (225 + 2 * entered) i upper 0 (λ q. omega arith)
+        ∙ (getD-set-other g4 (224 + 2 * entered) i lower 0 (λ q. omega arith) ∙ getD-set-other g3 (192 + left) i k 0 (λ q. omega arith)))
 
     -- A number of a row that is not stored is kept.
     kept : (i : ℕ) → i < 192 → (i ≡ k % 64 → ⊥) → (i ≡ 64 + k % 64 → ⊥) → (i ≡ 128 + k % 64 → ⊥) → getD seven i 0 ≡ getD g i 0
@@ -85,7 +85,7 @@ module _ (g : List ℕ) (k left entered later lower rows upper : ℕ) where
         behind i l
         ∙ (getD-set-other g2 (128 + k % 64) i later 0 c ∙ (getD-set-other g1 (64 + k % 64) i entered 0 b ∙ getD-set-other g (k % 64) i left 0 a))
 
-    -- The stores before the heads and the heads leave the numbers behind them.
+    -- The stores up to the heads leave what stands behind them.
     before : (i : ℕ) → 216 ≤ i → getD g4 i 0 ≡ getD g i 0
     before i l =
         getD-set-other g3 (192 + left) i k 0 (λ q. omega arith)
@@ -114,30 +114,24 @@ module _ (g : List ℕ) (k left entered later lower rows upper : ℕ) where
       long-4 : length g4 ≡ 1056
       long-4 = simp length-set long
 
-      long-6 : length g6 ≡ 1056
-      long-6 = simp length-set long
+      long-5 : length g5 ≡ 1056
+      long-5 = simp length-set long
 
-      -- The two halves of the states with a row to `entered`,
-      lower-at : getD seven (224 + entered) 0 ≡ lower
+      -- The two numbers of the states with a row to `entered`,
+      lower-at : getD seven (224 + 2 * entered) 0 ≡ lower
       lower-at =
-          getD-set-other g6 (1024 + entered) (224 + entered) upper 0 (λ q. omega arith)
-          ∙ (getD-set-other g5 (256 + pair) (224 + entered) rows 0 (λ q. omega arith) ∙ getD-set-same g4 (224 + entered) lower 0 (omega (arith, long-4)))
+          getD-set-other g6 (288 + pair) (224 + 2 * entered) rows 0 (λ q. omega arith)
+          ∙ (getD-set-other g5 (225 + 2 * entered) (224 + 2 * entered) upper 0 (λ q. omega arith) ∙ getD-set-same g4 (224 + 2 * entered) lower 0 (omega (arith, long-4)))
 
-      upper-at : getD seven (1024 + entered) 0 ≡ upper
-      upper-at = getD-set-same g6 (1024 + entered) upper 0 (omega (arith, long-6))
+      upper-at : getD seven (225 + 2 * entered) 0 ≡ upper
+      upper-at =
+          getD-set-other g6 (288 + pair) (225 + 2 * entered) rows 0 (λ q. omega arith) ∙ getD-set-same g5 (225 + 2 * entered) upper 0 (omega (arith, long-5))
 
       -- and those of the other states.
-      lower-else : (s : ℕ) → s < 32 → (s ≡ entered → ⊥) → getD seven (224 + s) 0 ≡ getD g (224 + s) 0
-      lower-else s l n =
-          getD-set-other g6 (1024 + entered) (224 + s) upper 0 (λ q. omega arith)
-          ∙ (getD-set-other g5 (256 + pair) (224 + s) rows 0 (λ q. omega arith)
-          ∙ (getD-set-other g4 (224 + entered) (224 + s) lower 0 (λ q. n (omega arith)) ∙ before (224 + s) (omega arith)))
-
-      upper-else : (s : ℕ) → (s ≡ entered → ⊥) → getD seven (1024 + s) 0 ≡ getD g (1024 + s) 0
-      upper-else s n =
-          getD-set-other g6 (1024 + entered) (1024 + s) upper 0 (λ q. n (omega arith))
-          ∙ (getD-set-other g5 (256 + pair) (1024 + s) rows 0 (λ q. omega arith)
-          ∙ (getD-set-other g4 (224 + entered) (1024 + s) lower 0 (λ q. omega arith) ∙ before (1024 + s) (omega arith)))
+      else : (i : ℕ) → 216 ≤ i → i < 288 → (i ≡ 224 + 2 * entered → ⊥) → (i ≡ 225 + 2 * entered → ⊥) → getD seven i 0 ≡ getD g i 0
+      else i a b n m =
+          getD-set-other g6 (288 + pair) i rows 0 (λ q. omega arith)
+          ∙ (getD-set-other g5 (225 + 2 * entered) i upper 0 m ∙ (getD-set-other g4 (224 + 2 * entered) i lower 0 n ∙ before i a))
 
       sources : (into : ℕ) → lower + 65536 * upper ≡ into → intoOf seven ≡ set (intoOf g) entered into
       sources into e =
@@ -149,11 +143,11 @@ module _ (g : List ℕ) (k left entered later lower rows upper : ℕ) where
               rw q (into-stands seven entered (omega arith) ∙ (rw (lower-at, upper-at) e) ∙ sym (getD-set-same (intoOf g) entered into 0 (omega (arith, into-long g))))
           go s l (no n) =
               into-stands seven s l
-              ∙ (rw (lower-else s l n, upper-else s n) (sym (into-stands g s l)))
+              ∙ (rw (else (224 + 2 * s) (omega arith) (omega arith) (λ q. n (omega arith)) (λ q. omega arith), else (225 + 2 * s) (omega arith) (omega arith) (λ q. omega arith) (λ q. n (omega arith))) (sym (into-stands g s l)))
               ∙ sym (getD-set-other (intoOf g) entered s into 0 n)
 
       pub row-added : (into : ℕ) → later ≡ getD g (192 + left) 0 → lower + 65536 * upper ≡ into → marksOf 24 into ≡ set (marksOf 24 (getD (intoOf g) entered 0)) left 1
-          → rows ≡ getD g (256 + pair) 0 + 1 → RowAdded k left entered g seven
+          → rows ≡ getD g (288 + pair) 0 + 1 → RowAdded k left entered g seven
       unfolding leftOf enteredOf nextOf headOf betweenOf lastOf
       row-added into e f m h =
           record {
@@ -165,20 +159,17 @@ module _ (g : List ℕ) (k left entered later lower rows upper : ℕ) where
             entered-else = λ j a b l. row-at 64 seven j l ∙ (kept (64 + j % 64) (omega arith) (λ q. omega arith) (λ q. apart k j a b (omega arith)) (λ q. omega arith) ∙ sym (row-at 64 g j l));
             next-else = λ j a b l. row-at 128 seven j l ∙ (kept (128 + j % 64) (omega arith) (λ q. omega arith) (λ q. omega arith) (λ q. apart k j a b (omega arith)) ∙ sym (row-at 128 g j l));
             head-is =
-                part-before 24 192 g6 (1024 + entered) upper (832 + entered) (omega arith) (omega arith)
-                ∙ (part-before 24 192 g5 (256 + pair) rows (64 + pair) (omega arith) (omega arith)
-                ∙ (part-before 24 192 g4 (224 + entered) lower (32 + entered) (omega arith) (omega arith)
+                part-before 24 192 g6 (288 + pair) rows (96 + pair) (omega arith) (omega arith)
+                ∙ (part-before 24 192 g5 (225 + 2 * entered) upper (33 + 2 * entered) (omega arith) (omega arith)
+                ∙ (part-before 24 192 g4 (224 + 2 * entered) lower (32 + 2 * entered) (omega arith) (omega arith)
                 ∙ (part-in 24 192 g3 (192 + left) k left refl low
                 ∙ ap (λ (z : List ℕ). set z left k) (part-after 24 192 g2 (128 + k % 64) later (omega (arith, rest-in)) ∙ (part-after 24 192 g1 (64 + k % 64) entered (omega (arith, rest-in)) ∙ part-after 24 192 g (k % 64) left (omega (arith, rest-in)))))));
             into = into;
             into-marks = m;
             into-is = sources into f;
             between-is =
-                part-before 768 256 g6 (1024 + entered) upper (768 + entered) (omega arith) (omega arith)
-                ∙ (part-in 768 256 g5 (256 + pair) rows pair refl (omega arith)
-                ∙ (ap (λ (z : List ℕ). set z pair rows) (part-after 768 256 g4 (224 + entered) lower (omega arith) ∙ (part-after 768 256 g3 (192 + left) k (omega arith) ∙ (part-after 768 256 g2 (128 + k % 64) later (omega (arith, rest-in)) ∙ (part-after 768 256 g1 (64 + k % 64) entered (omega (arith, rest-in)) ∙ part-after 768 256 g (k % 64) left (omega (arith, rest-in))))))
-                ∙ ap (λ (z : ℕ). set (take 768 (drop 256 g)) pair z) (h ∙ ap (λ (z : ℕ). z + 1) (sym (part-at 768 256 g pair (omega arith))))));
-            last-same =
-                getD-set-other g6 (1024 + entered) 216 upper 0 (λ q. omega arith)
-                ∙ (getD-set-other g5 (256 + pair) 216 rows 0 (λ q. omega arith) ∙ (getD-set-other g4 (224 + entered) 216 lower 0 (λ q. omega arith) ∙ before 216 (omega arith)));
+                part-in 768 288 g6 (288 + pair) rows pair refl (omega arith)
+                ∙ (ap (λ (z : List ℕ). set z pair rows) (part-after 768 288 g5 (225 + 2 * entered) upper (omega arith) ∙ (part-after 768 288 g4 (224 + 2 * entered) lower (omega arith) ∙ (part-after 768 288 g3 (192 + left) k (omega arith) ∙ (part-after 768 288 g2 (128 + k % 64) later (omega (arith, rest-in)) ∙ (part-after 768 288 g1 (64 + k % 64) entered (omega (arith, rest-in)) ∙ part-after 768 288 g (k % 64) left (omega (arith, rest-in)))))))
+                ∙ ap (λ (z : ℕ). set (take 768 (drop 288 g)) pair z) (h ∙ ap (λ (z : ℕ). z + 1) (sym (part-at 768 288 g pair (omega arith)))));
+            last-same = else 216 (omega arith) (omega arith) (λ q. omega arith) (λ q. omega arith);
           }

@@ -33,14 +33,14 @@ fn add_row(graph: &mut [u16; 1056], k: usize, left: u8, entered: u8)
     let pair = s * 32 + t;
     let later = graph[192 + s];
     let into = state_marks::with_left(graphs::into_of(graph, t), left);
-    let rows = graph[256 + pair];
+    let rows = graph[288 + pair];
     graph[at] = left as u16;
     graph[64 + at] = entered as u16;
     graph[128 + at] = later;
     graph[192 + s] = k as u16;
-    graph[224 + t] = (into % 65536) as u16;
-    graph[256 + pair] = rows + 1;
-    graph[1024 + t] = (into / 65536) as u16;
+    graph[224 + 2 * t] = (into % 65536) as u16;
+    graph[225 + 2 * t] = (into / 65536) as u16;
+    graph[288 + pair] = rows + 1;
 }
 
 // Adds the rows from `first` up to, and not including, `last` to a graph without rows; from the last row to the first, as `add_row` puts

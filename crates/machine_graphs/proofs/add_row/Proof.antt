@@ -82,38 +82,44 @@ element-write-graph-4 c = search needs
 cast-graph-2 : tie.Need-cast-graph-2
 cast-graph-2 c = search needs
 
-add-graph-4 : tie.Need-add-graph-4
-add-graph-4 c = search needs
-
 mul-graph-5 : tie.Need-mul-graph-5
 mul-graph-5 c = search needs
 
-element-write-graph-5 : tie.Need-element-write-graph-5
-element-write-graph-5 c = search needs
-
-add-graph-5 : tie.Need-add-graph-5
-add-graph-5 c =
-    let b = c .before .before .before .before .before in
-    let a = b .args in
-    record { fits = omega (arith, b .pre .4, between-stands (a .graph .now) (a .left * 32 + a .entered) (omega (arith, b .pre .2, b .pre .3))) }
-
-add-graph-6 : tie.Need-add-graph-6
-add-graph-6 c = search needs
+add-graph-4 : tie.Need-add-graph-4
+add-graph-4 c = search needs
 
 mul-graph-6 : tie.Need-mul-graph-6
 mul-graph-6 c = search needs
 
-element-write-graph-6 : tie.Need-element-write-graph-6
-element-write-graph-6 c = search needs
+element-write-graph-5 : tie.Need-element-write-graph-5
+element-write-graph-5 c = search needs
 
 cast-graph-3 : tie.Need-cast-graph-3
 cast-graph-3 c = search needs
 
+mul-graph-7 : tie.Need-mul-graph-7
+mul-graph-7 c = search needs
+
+add-graph-5 : tie.Need-add-graph-5
+add-graph-5 c = search needs
+
+mul-graph-8 : tie.Need-mul-graph-8
+mul-graph-8 c = search needs
+
+element-write-graph-6 : tie.Need-element-write-graph-6
+element-write-graph-6 c = search needs
+
+add-graph-6 : tie.Need-add-graph-6
+add-graph-6 c =
+    let b = c .before .before .before .before .before in
+    let a = b .args in
+    record { fits = omega (arith, b .pre .4, between-stands (a .graph .now) (a .left * 32 + a .entered) (omega (arith, b .pre .2, b .pre .3))) }
+
 add-graph-7 : tie.Need-add-graph-7
 add-graph-7 c = search needs
 
-mul-graph-7 : tie.Need-mul-graph-7
-mul-graph-7 c = search needs
+mul-graph-9 : tie.Need-mul-graph-9
+mul-graph-9 c = search needs
 
 element-write-graph-7 : tie.Need-element-write-graph-7
 element-write-graph-7 c = search needs
@@ -154,15 +160,17 @@ add-row-spec =
     mul-graph-4
     element-write-graph-4
     cast-graph-2
-    add-graph-4
     mul-graph-5
-    element-write-graph-5
-    add-graph-5
-    add-graph-6
+    add-graph-4
     mul-graph-6
-    element-write-graph-6
+    element-write-graph-5
     cast-graph-3
-    add-graph-7
     mul-graph-7
+    add-graph-5
+    mul-graph-8
+    element-write-graph-6
+    add-graph-6
+    add-graph-7
+    mul-graph-9
     element-write-graph-7
     returns)
