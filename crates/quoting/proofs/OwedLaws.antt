@@ -17,7 +17,6 @@ use Rattle.weight_checks.specs.Checks.{firstAbove, judgedWeights}
 use Rattle.weight_checks.proofs.CheckLaws.{none-above, no-plant, judged-weights}
 use Rattle.weighing.specs.Weighing.{OnPassingVerdict, OwedVerdict}
 use Rattle.weighing.specs.Answers as weighed
-use Rattle.weighing.specs.declared.Verdict.{Verdict}
 use Rattle.figures.proofs.FigureLaws.{most-limit, base-limit, per-progress-limit}
 use Rattle.weighing.proofs.WeighingLaws.{verdict-refused, verdict-fails, verdict-passes}
 use Rattle.price_classes.specs.Classes.{classOf}
@@ -67,10 +66,6 @@ module _ (passes : Bool) (f : Figures) (ws contents : List ℕ) (g : ℕ) where
 -- Quoting finds what judging the weights finds, and then checks the contents and g. So a fault of the verdict is the fault;
 -- and where it says whether the weights pass, its own promise says in which plant, and the answer for that plant is what the private
 -- functions promise for every plant with so many types.
-
--- What is owed for a call's result r is owed for what r is.
-pub owed-told : {ws : List ℕ} {x : Found Plant} {r r′ : Verdict} → OwedVerdict ws (weighed.judgementOf r) x → r ≡ r′ → OwedVerdict ws (weighed.judgementOf r′) x
-owed-told {ws} {x} owed e = subst (λ (y : Verdict). OwedVerdict ws (weighed.judgementOf y) x) e owed
 
 -- The plant that was judged.
 module _ (file ws : List ℕ) (P : Plant) (end : ℕ) (is : judgedWeights file ws ≡ found P end) where
