@@ -188,7 +188,7 @@ The stack was painted, the call was run on it, and the deepest byte that changed
 
 {stack}
 
-The table of a plant has 8 KB and its edges 2 KB, for a file of at most 64 bytes 512 bytes each; to show a cycle takes 5 KB more. `list` has the table and the graph of a machine's rows, 4 KB, and a frame for each row of a path; `confirm` has the table and the sums.
+The table of a plant has 8 KB and its edges 2 KB, for a file of at most 64 bytes 512 bytes each; to show a cycle takes 5 KB more. `list` has the table and the graph of a machine's rows, 2 KB, and a frame for each row of a path; `confirm` has the table and the sums.
 
 {sizes}
 """

@@ -7,6 +7,7 @@
 - The plant files in examples/ have the bytes that the worked examples are proved of and run with.
 - Each row of a table in README.md and docs/ has as many cells as the table's head.
 - The names in README's table of promises are declared in the files that it names.
+- README's section Architecture names every crate, and docs/gate.md has a row for each with the number of its must-fail edits.
 - The numbers of README's section Tests are figures that a test holds (figures.py).
 - The header of the C interface names every fault number of the table, and each once; its kinds are those of the computed examples of crate cabinet.
 - The version is one number in the header, in the definition and in the Rust wrappers; every export of crate cabinet but that of the version has a
@@ -364,6 +365,19 @@ def hold_promises(path):
         faults.extend('%s: no file is named for %s' % (path, name) for name in waiting)
 
 
+def hold_crates(readme, gate):
+    crates = re.findall(r'(?m)^(\w+):', read('crates.txt'))
+    named = re.findall(r'`(\w+)(…?)`', read(readme).split('\n## Architecture\n')[1].split('\n## ')[0])
+    faults.extend('%s: the architecture does not name %s' % (readme, crate) for crate in crates
+                  if not any(crate == name or (rest and crate.startswith(name)) for name, rest in named))
+    edits = {crate: len(files('crates/%s/must-fail/*.edit' % crate)) for crate in crates}
+    rows = re.findall(r'(?m)^\| `(\w+)` \| [\d.]+ \| (\d+) \|', read(gate))
+    if rows != [(crate, str(edits[crate])) for crate in crates]:
+        faults.append('%s: the rows are not the crates with their must-fail edits, in the order of crates.txt' % gate)
+    if not re.search(r'(?m)^\| together \| \d+ \| %d \|' % sum(edits.values()), read(gate)):
+        faults.append('%s: there are %d must-fail edits together' % (gate, sum(edits.values())))
+
+
 def hold_figures():
     """The section Tests has the figures alone. Two are counted here: every check of interface.c stands on a line and is made once."""
     faults.extend(figures.faults([read(path) for path in files('tests/*.py')]))
@@ -375,6 +389,7 @@ def main():
     for path in ['README.md'] + files('docs/*.md') + files('examples/*.md'):
         hold_tables(path)
     hold_promises('README.md')
+    hold_crates('README.md', 'docs/gate.md')
     hold_figures()
     hold_examples()
     hold_header('include/hemtaluq.h')
@@ -389,7 +404,7 @@ def main():
         hold_width(path)
     if faults:
         sys.exit('\n'.join(['documents.py:'] + faults))
-    print('documents.py: the excerpts, the map, the tables and the figures agree with the source and the tests')
+    print('documents.py: the excerpts, the map, the crates, the tables and the figures agree with the source and the tests')
 
 
 if __name__ == '__main__':

@@ -15,7 +15,8 @@ use borrow.Author.Tests.{ne-eqb, ltb-true, ltb-false}
 use Rattle.livelock.specs.Lists.{below, greatest}
 use Rattle.livelock.proofs.ListLaws.{all-below}
 use Rattle.livelock.proofs.SumLaws.{greatest-next, greatest-bound}
-use Rattle.livelock.proofs.Graphs.{Graph, via, via-edge, via-bound}
+use Rattle.livelock.specs.Graphs.{Graph, via}
+use Rattle.livelock.proofs.Graphs.{via-edge, via-bound}
 use Rattle.edge_lists.specs.EdgeLists.{edgeIn}
 use Rattle.deciding.specs.Signs.{rise, fall}
 use Rattle.deciding.specs.Rounds.{edgeGraph, EdgesIn}

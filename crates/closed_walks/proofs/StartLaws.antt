@@ -20,8 +20,10 @@ use borrow.Author.Tests.{eq-eqb, ne-eqb}
 use Rattle.livelock.specs.Lists.{below}
 use Rattle.livelock.proofs.ListLaws.{all-below}
 use Rattle.livelock.proofs.SumLaws.{greatest-equal}
-use Rattle.livelock.proofs.Differences.{Difference, difference-minus, not-negative-iff}
-use Rattle.livelock.proofs.Graphs.{Graph, via, Leads, via-leads}
+use Rattle.livelock.specs.Differences.{Difference}
+use Rattle.livelock.proofs.Differences.{difference-minus, not-negative-iff}
+use Rattle.livelock.specs.Graphs.{Graph, via}
+use Rattle.livelock.proofs.Graphs.{Leads, via-leads}
 use Rattle.livelock.proofs.Rounds.{via-equal}
 use Rattle.closed_walks.specs.ClosedWalks.{origin, heaviest, Closes, entry, NotedRoom, FirstEdge, FirstEdges, LeastFrom}
 use Rattle.closed_walks.specs.Inner.Rounds.{Halves, Low, Cleared, Round, Exactly}

@@ -6,7 +6,7 @@ use Prim.Native.Nat.{ℕ, zero, suc, _+_, _*_, _≤_, _<_}
 use lib.ListN.{length, getD}
 use lib.Dec.{eqb}
 use Rattle.livelock.specs.Lists.{below, greatest}
-use Rattle.livelock.proofs.Graphs.{Graph, IsEdge, via}
+use Rattle.livelock.specs.Graphs.{Graph, IsEdge, via}
 
 -- Weights of walks are kept with 2 ^ 40 added, and 0 stands for no walk: no walk of at most 64 edges weighs 2 ^ 40 either way.
 abbrev pub origin : ℕ

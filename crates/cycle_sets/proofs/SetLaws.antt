@@ -15,7 +15,8 @@ use Rattle.livelock.specs.CycleSets.{Entry, setEffect}
 use Rattle.livelock.proofs.ListLaws.{getD-replicate-default}
 use Rattle.livelock.proofs.SumLaws.{sum-append}
 use Rattle.livelock.proofs.Tests.{both-iff, less-iff}
-use Rattle.livelock.proofs.Differences.{Difference, difference-shift}
+use Rattle.livelock.specs.Differences.{Difference}
+use Rattle.livelock.proofs.Differences.{difference-shift}
 use Rattle.livelock.proofs.CycleSetLaws.{setSent, setTaken, set-difference}
 use Rattle.plant.specs.Found.{found, fault, andThen}
 use Rattle.decoding.specs.Tables.{plantOf, Ready}

@@ -14,10 +14,13 @@ use lib.ListN.{length, getD, set, replicate, getD-replicate, length-replicate, l
 use lib.Seq.{getD-set-same, getD-set-other}
 use lib.IntN.{ℤ, pos, _+ℤ_, _*ℤ_}
 use Rattle.livelock.specs.Lists.{sum}
-use Rattle.livelock.proofs.Lengths.{lengthened, cycle-lengthened, cycle-of-lengthened, lengthened-iff}
-use Rattle.livelock.proofs.Graphs.{Graph, IsEdge, Within, PositiveCycle, longest}
+use Rattle.livelock.specs.Graphs.{lengthened}
+use Rattle.livelock.proofs.Lengths.{cycle-lengthened, cycle-of-lengthened, lengthened-iff}
+use Rattle.livelock.specs.Graphs.{Graph, IsEdge, Within, PositiveCycle}
+use Rattle.livelock.proofs.Graphs.{longest}
 use Rattle.livelock.proofs.Potentials.{Potential, no-positive-cycle}
-use Rattle.livelock.proofs.Rounds.{WalkLength, walk-without-edges, edge-in-front, longer-positive, pass-longest}
+use Rattle.livelock.specs.Graphs.{WalkLength}
+use Rattle.livelock.proofs.Rounds.{walk-without-edges, edge-in-front, longer-positive, pass-longest}
 use Rattle.edge_lists.specs.EdgeLists.{edgeIn}
 use Rattle.deciding.specs.Signs.{rise, fall}
 use Rattle.deciding.specs.Rounds.{edgeGraph, EdgesIn, AtMost, WalkLengths, Pass, AllBelowZero, SomeZeroOrMore}

@@ -10,7 +10,8 @@ use mir.Syntax.{w64}
 use mir.Val.{SFits, toZ, ofZ}
 use mir.Facts.{toZ-pos, toZ-ofZ}
 use borrow.Author.Tests.{leb-true, leb-false, le-ltb}
-use Rattle.livelock.proofs.Differences.{Difference, difference-shift, difference-minus, difference-plus, difference-times}
+use Rattle.livelock.specs.Differences.{Difference}
+use Rattle.livelock.proofs.Differences.{difference-shift, difference-minus, difference-plus, difference-times}
 use Rattle.deciding.specs.Signs.{rise, fall}
 
 -- A signed number is its rise less its fall.

@@ -4,7 +4,7 @@ ghost use mathlib.Core.Path.{_≡_};
 ghost use Prim.Native.Nat.{_≤_};
 ghost use lib.ListN.{length};
 ghost use lib.IntN.{pos, _+ℤ_, _*ℤ_};
-ghost use Rattle.livelock.proofs.Lengths.{lengthened};
+ghost use Rattle.livelock.specs.Graphs.{lengthened};
 ghost use Rattle.deciding.specs.Signs.{rise, fall};
 ghost use Rattle.deciding.specs.Rounds.{edgeGraph, EdgesIn, AtMost, Pass, Decided};
 use relaxing::raised;

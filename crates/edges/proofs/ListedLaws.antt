@@ -8,8 +8,9 @@ use Prim.Native.Nat.{ℕ, _+_, _≤_, _<_}
 use native.Mathlib.Decide.{decLt}
 use native.Mathlib.Omega.{arith}
 use lib.IntN.{ℤ, pos, negsuc, natAbs, _-ℤ_}
-use Rattle.livelock.proofs.CycleWeights.{messageWeight}
-use Rattle.livelock.proofs.Differences.{Difference, difference-minus}
+use Rattle.livelock.specs.Weights.{messageWeight}
+use Rattle.livelock.specs.Differences.{Difference}
+use Rattle.livelock.proofs.Differences.{difference-minus}
 use Rattle.deciding.specs.Signs.{rise, fall}
 use Rattle.livelock.specs.Plants.{Row, hasProgress}
 use Rattle.tables.specs.Tables.{rowIn, rowOf}

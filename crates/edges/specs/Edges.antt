@@ -5,7 +5,7 @@ use mathlib.Core.List.{List}
 use Prim.Native.Nat.{ℕ, _+_, _≤_, _<_}
 use lib.ListN.{getD}
 use lib.IntN.{ℤ, pos, _-ℤ_}
-use Rattle.livelock.proofs.CycleWeights.{messageWeight}
+use Rattle.livelock.specs.Weights.{messageWeight}
 use Rattle.livelock.specs.Plants.{Row, hasProgress}
 use Rattle.tables.specs.Tables.{rowIn, RoomFor}
 use Rattle.edge_lists.specs.EdgeLists.{Edge, edgeIn, HasEdge}

@@ -1,7 +1,7 @@
 // The quiet rows of one machine, copied into a lent list of edges, which deciding and searching are lent in turn. No entry point: `machines` calls it.
 ghost use mathlib.Core.Path.{_≡_};
 ghost use Prim.Native.Nat.{_-_, _≤_};
-ghost use Rattle.livelock.proofs.CycleWeights.{messageWeight};
+ghost use Rattle.livelock.specs.Weights.{messageWeight};
 ghost use Rattle.plant.specs.Steps.{typeOf};
 ghost use Rattle.tables.specs.Tables.{rowOf, RoomFor};
 ghost use Rattle.edge_lists.specs.EdgeLists.{EdgeRoom};

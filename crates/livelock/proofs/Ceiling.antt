@@ -16,7 +16,8 @@ use Rattle.livelock.specs.Figures.{mostStates, largestWeight, base, perP
 use Rattle.livelock.proofs.ListLaws.{all-always}
 use Rattle.livelock.proofs.SumLaws.{sum-mono, sum-times, sum-update}
 use Rattle.livelock.proofs.Tests.{both-iff, less-iff, equal-iff}
-use Rattle.livelock.proofs.CycleWeights.{messageWeight, sentWeight, takenWeight, row-fits, sent-in, taken-in, sent-bound}
+use Rattle.livelock.specs.Weights.{messageWeight}
+use Rattle.livelock.proofs.CycleWeights.{sentWeight, takenWeight, row-fits, sent-in, taken-in, sent-bound}
 use Rattle.livelock.proofs.QuietGraphs.{edge-iff, most-states}
 use Rattle.livelock.proofs.Decision.{statePotential, state-potential, longestRow, state-potential-bound}
 use Rattle.livelock.proofs.RunLaws.{count-run}

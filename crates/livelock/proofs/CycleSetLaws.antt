@@ -10,7 +10,8 @@ use Rattle.livelock.specs.Lists.{sum, All}
 use Rattle.livelock.specs.Plants.{Plant}
 use Rattle.livelock.specs.Cycles.{messagesSent, messagesTaken, effect}
 use Rattle.livelock.specs.CycleSets.{Entry, setEffect}
-use Rattle.livelock.proofs.Differences.{Difference, difference-times, difference-sum, not-negative-iff}
+use Rattle.livelock.specs.Differences.{Difference}
+use Rattle.livelock.proofs.Differences.{difference-times, difference-sum, not-negative-iff}
 use Rattle.livelock.proofs.CycleWeights.{effect-difference}
 
 -- What a set sends of type t, and what it takes, each cycle as often as it is repeated.

@@ -16,9 +16,11 @@ use Rattle.livelock.specs.Plants.{Plant, Row, rowAt, noRow, rowCount, Ro
 use Rattle.livelock.specs.Cycles.{isOfType, messagesSent, messagesTaken, effect}
 use Rattle.livelock.specs.Weights.{weight, cycleWeight}
 use Rattle.livelock.specs.Figures.{largestWeight}
+use Rattle.livelock.specs.Weights.{messageWeight}
 use Rattle.livelock.proofs.ListLaws.{all-always, all-at}
 use Rattle.livelock.proofs.SumLaws.{sum-equal, sum-zero, sum-swap-factor, sum-single, greatest-below}
-use Rattle.livelock.proofs.Differences.{Difference, difference-minus, difference-times, difference-sum, negative-iff, not-negative-iff}
+use Rattle.livelock.specs.Differences.{Difference}
+use Rattle.livelock.proofs.Differences.{difference-minus, difference-times, difference-sum, negative-iff, not-negative-iff}
 
 -- ---- by types
 
@@ -45,11 +47,6 @@ weight-by-types P ws c =
     (below (P .types))
 
 -- ---- by rows
-
--- The weight of a message; 0 where there is none.
-abbrev pub messageWeight : List ℕ → Option ℕ → ℕ
-messageWeight ws none = 0
-messageWeight ws (some t) = weight ws t
 
 -- The weight of what row k sends, and of what it takes.
 abbrev pub sentWeight : Plant → List ℕ → ℕ → ℕ

@@ -11,11 +11,7 @@ use lib.Signed.{_<ℤ_, ltZ-yes, _≤ℤ_, leZ-yes}
 use lib.IntN.{ℤ, pos, negsuc, negℤ, subℕ, _+ℤ_, _-ℤ_, _*ℤ_}
 use borrow.Author.Tests.{ltb-true, ltb-false}
 use Rattle.livelock.specs.Lists.{sum, sumℤ}
-
--- z is a − b.
-abbrev pub Difference : ℤ → ℕ → ℕ → Type 0
-Difference (pos d) a b = a ≡ b + d
-Difference (negsuc d) a b = b ≡ a + suc d
+use Rattle.livelock.specs.Differences.{Difference}
 
 -- Both numbers may grow, or shrink, by the same.
 pub difference-shift : (z : ℤ) (a b c d : ℕ) → a + d ≡ c + b → Difference z a b → Difference z c d

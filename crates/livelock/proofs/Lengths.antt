@@ -7,9 +7,10 @@ use native.Mathlib.Nat.{le-of-suc-le-suc, mul-le-mul-left, lt-of-mul-lt-mul-left
 use native.Mathlib.Omega.{arith}
 use lib.ListN.{length}
 use Rattle.livelock.specs.Lists.{sum, All}
+use Rattle.livelock.specs.Graphs.{lengthened}
 use Rattle.livelock.proofs.ListLaws.{all-weaken, all-always}
 use Rattle.livelock.proofs.Pigeonhole.{left-once}
-use Rattle.livelock.proofs.Graphs.{Graph, IsEdge, Within, Cycle, Positive}
+use Rattle.livelock.specs.Graphs.{Graph, IsEdge, Within, Cycle, Positive}
 
 -- Edge e weighs up e − down e, and its length is plus e − minus e.
 module _ (n : ℕ) (up down plus minus : ℕ → ℕ) where
@@ -36,18 +37,6 @@ module _ (n : ℕ) (up down plus minus : ℕ → ℕ) where
       longer p = omega (arith, total es h, mul-le-mul-left n p)
 
 -- ---- a graph with weights, and the same with lengths
-
--- The edges of g, each with the length 1 + n × weight.
-abbrev pub lengthened : ℕ → Graph → Graph
-lengthened n g =
-    record {
-      size = g .size;
-      counts = g .counts;
-      src = g .src;
-      dst = g .dst;
-      plus = λ e. 1 + n * g .plus e;
-      minus = λ e. n * g .minus e;
-    }
 
 module _ (n : ℕ) (g : Graph) (es : List ℕ) where
   -- Both have the same simple cycles.

@@ -11,7 +11,8 @@ use Rattle.livelock.specs.Weights.{cycleWeight, Passes, FailingCycle}
 use Rattle.livelock.specs.Figures.{contentsWeight}
 use Rattle.livelock.specs.Tests.{every}
 use Rattle.livelock.proofs.Tests.{well-formed-iff}
-use Rattle.livelock.proofs.Graphs.{via, longest}
+use Rattle.livelock.specs.Graphs.{via}
+use Rattle.livelock.proofs.Graphs.{longest}
 use Rattle.livelock.proofs.Decision.{statePotential, passing-iff}
 use Rattle.livelock.proofs.Ceiling.{ceiling}
 use Rattle.livelock.proofs.Exclusion.{exclusion}

@@ -10,9 +10,11 @@ use native.Mathlib.Omega.{arith}
 use lib.Dec.{eqb}
 use Rattle.livelock.specs.Lists.{below, sum, All}
 use Rattle.livelock.specs.Cycles.{Walk}
+use Rattle.livelock.specs.Graphs.{WalkLength}
 use Rattle.livelock.proofs.ListLaws.{all-below}
 use Rattle.livelock.proofs.SumLaws.{greatest-bound}
-use Rattle.livelock.proofs.Graphs.{Graph, IsEdge, Within, PositiveCycle, via, Leads, via-leads, longest}
+use Rattle.livelock.specs.Graphs.{Graph, IsEdge, Within, PositiveCycle, via}
+use Rattle.livelock.proofs.Graphs.{Leads, via-leads, longest}
 use Rattle.livelock.proofs.Potentials.{telescope, potential-or-positive}
 
 -- The length along an edge asks for f only at the edge's end.
@@ -26,14 +28,6 @@ via-equal g f h s e q = go (g .counts e) refl
     go false c = refl
 
 -- ---- numbers that are lengths of walks
-
--- Some walk from s, of any number of edges, is v long.
-pub record WalkLength (g : Graph) (s v : ℕ) : Type 0 where
-  pub walk : List ℕ
-  pub end : ℕ
-  pub edges : All (IsEdge g) walk
-  pub joined : Walk (g .src) (g .dst) s walk end
-  pub long : v + sum (g .minus) walk ≡ sum (g .plus) walk
 
 -- The walk without edges is 0 long.
 pub walk-without-edges : (g : Graph) (s v : ℕ) → v ≡ 0 → WalkLength g s v

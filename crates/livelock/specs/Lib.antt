@@ -1,4 +1,4 @@
--- The definitions of the theory, a file for each subject of document 01.
+-- The definitions of the theory, a file for each subject of document 01; then what the crates below the calls promise by.
 pub mod Lists
 pub mod Plants
 pub mod Runs
@@ -7,3 +7,5 @@ pub mod Tests
 pub mod Weights
 pub mod Figures
 pub mod CycleSets
+pub mod Graphs
+pub mod Differences

@@ -1,4 +1,5 @@
 -- Weights (document 01, "Cycles and weighing").
+use mathlib.Core.Option.{Option, none, some}
 use mathlib.Core.List.{List}
 use Prim.Native.Nat.{ℕ}
 use lib.ListN.{getD}
@@ -11,6 +12,11 @@ use Rattle.livelock.specs.Cycles.{SimpleCycle, Quiet, effect}
 -- "Weights: one whole number, zero or more, for each message type": the weight of type t.
 abbrev pub weight : List ℕ → ℕ → ℕ
 weight ws t = getD ws t 0
+
+-- The weight of a message; 0 where there is none.
+abbrev pub messageWeight : List ℕ → Option ℕ → ℕ
+messageWeight ws none = 0
+messageWeight ws (some t) = weight ws t
 
 -- "A cycle's weight is a signed number: the sum over types of weight times effect."
 unfoldable pub cycleWeight : Plant → List ℕ → List ℕ → ℤ

@@ -14,8 +14,9 @@ use Rattle.livelock.specs.Cycles.{Walk, leaves, enters, RowOf, firstLeft, Simpl
 use Rattle.livelock.specs.Weights.{cycleWeight}
 use Rattle.livelock.proofs.ListLaws.{all-weaken, all-both, all-of-map}
 use Rattle.livelock.proofs.Walks.{walk-first}
-use Rattle.livelock.proofs.Graphs.{Cycle}
-use Rattle.livelock.proofs.Differences.{Difference, difference-minus}
+use Rattle.livelock.specs.Graphs.{Cycle}
+use Rattle.livelock.specs.Differences.{Difference}
+use Rattle.livelock.proofs.Differences.{difference-minus}
 use Rattle.livelock.proofs.CycleWeights.{sentWeight, takenWeight, below-zero-iff, zero-or-more-iff}
 use Rattle.livelock.proofs.QuietGraphs.{QuietRowOf, row-within}
 use Rattle.tables.specs.Tables.{rowIn}

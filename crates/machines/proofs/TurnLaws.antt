@@ -10,7 +10,7 @@ use lib.IntN.{ℤ}
 use Rattle.livelock.specs.Plants.{machineCount, stateCount}
 use Rattle.livelock.specs.Figures.{mostStates}
 use Rattle.livelock.proofs.SumLaws.{greatest-below}
-use Rattle.livelock.proofs.Graphs.{Graph}
+use Rattle.livelock.specs.Graphs.{Graph}
 use Rattle.tables.specs.Tables.{RoomFor}
 use Rattle.edge_lists.specs.EdgeLists.{EdgeRoom}
 use Rattle.decoding.specs.Tables.{plantOf}

@@ -18,7 +18,7 @@ use Rattle.livelock.proofs.ListLaws.{all-append, all-front, all-back, all-weake
 use Rattle.livelock.proofs.SumLaws.{sum-append}
 use Rattle.livelock.proofs.Pigeonhole.{left-once}
 use Rattle.livelock.proofs.Walks.{visited, walk-append, HasCycle, distinct-or-cycle}
-use Rattle.livelock.proofs.Graphs.{Graph, IsEdge, Cycle}
+use Rattle.livelock.specs.Graphs.{Graph, IsEdge, Cycle}
 use Rattle.deciding.specs.Rounds.{SomeZeroOrMore}
 use Rattle.closed_walks.specs.ClosedWalks.{origin, heaviest, Closes, entry, FirstEdge, LeastFrom, Noted}
 use Rattle.closed_walks.proofs.WalkLaws.{Searchable, ClosedWalk, walk-closes}

@@ -5,7 +5,7 @@ use Prim.Native.Nat.{ℕ, _≤_, _<_}
 use lib.ListN.{length, drop}
 use lib.IntN.{ℤ}
 use Rattle.livelock.specs.Lists.{sum}
-use Rattle.livelock.proofs.Graphs.{Graph, Cycle}
+use Rattle.livelock.specs.Graphs.{Graph, Cycle}
 use Rattle.edge_lists.specs.EdgeLists.{edgeIn}
 use Rattle.deciding.specs.Rounds.{edgeGraph}
 use Rattle.closed_walks.specs.ClosedWalks.{Closes}

@@ -17,7 +17,8 @@ use Rattle.livelock.specs.Lists.{sum}
 use Rattle.livelock.specs.Plants.{Row}
 use Rattle.livelock.specs.Cycles.{isOfType}
 use Rattle.livelock.proofs.SumLaws.{sum-append}
-use Rattle.livelock.proofs.Differences.{Difference, difference-shift, difference-plus, difference-neg}
+use Rattle.livelock.specs.Differences.{Difference}
+use Rattle.livelock.proofs.Differences.{difference-shift, difference-plus, difference-neg}
 use Rattle.plant.specs.Steps.{typeOf}
 use Rattle.tables.specs.Tables.{rowIn}
 use Rattle.set_sums.specs.Sums.{raised, Within, having, Added}

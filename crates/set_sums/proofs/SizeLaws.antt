@@ -6,7 +6,8 @@ use lib.IntN.{ℤ, pos, negsuc, negℤ, natAbs, _+ℤ_, _-ℤ_, +ℤ-idl}
 use mir.Syntax.{w64}
 use mir.Val.{SFits, toZ, ofZ}
 use mir.Facts.{toZ-ofZ, toZ-pos}
-use Rattle.livelock.proofs.Differences.{Difference, difference-plus}
+use Rattle.livelock.specs.Differences.{Difference}
+use Rattle.livelock.proofs.Differences.{difference-plus}
 
 -- A difference is at most the greater of the two numbers either way.
 pub size-at-most : (z : ℤ) (a b : ℕ) → Difference z a b → natAbs z ≤ max a b

@@ -11,7 +11,7 @@ use lib.IntN.{ℤ, pos, natAbs, _+ℤ_}
 use Rattle.livelock.specs.Lists.{count}
 use Rattle.livelock.specs.Plants.{Row}
 use Rattle.livelock.specs.Cycles.{isOfType}
-use Rattle.livelock.proofs.Differences.{Difference}
+use Rattle.livelock.specs.Differences.{Difference}
 use Rattle.tables.specs.Tables.{rowIn}
 
 -- The sums with z added to that of a type; 64 and above stand for no type, and then no sum changes.

@@ -12,7 +12,7 @@ use Rattle.livelock.specs.Plants.{Plant, WellFormed}
 use Rattle.livelock.specs.Weights.{Passes, FailingCycle}
 use Rattle.livelock.specs.Figures.{mostStates, figuresOf}
 use Rattle.livelock.specs.Figures as Theory
-use Rattle.livelock.proofs.Graphs.{Cycle}
+use Rattle.livelock.specs.Graphs.{Cycle}
 use Rattle.livelock.proofs.QuietGraphs.{cycle-machine}
 use Rattle.livelock.proofs.Decision.{decision, not-both}
 use Rattle.livelock.proofs.Ceiling.{ceiling}

@@ -12,7 +12,8 @@ use Rattle.livelock.specs.Cycles.{Walk, SimpleCycle, Quiet}
 use Rattle.livelock.specs.Weights.{cycleWeight, Passes, FailingCycle}
 use Rattle.livelock.specs.Tests.{every}
 use Rattle.livelock.proofs.Tests.{well-formed-iff}
-use Rattle.livelock.proofs.Graphs.{via, longest}
+use Rattle.livelock.specs.Graphs.{via}
+use Rattle.livelock.proofs.Graphs.{longest}
 use Rattle.livelock.proofs.Decision.{statePotential, passing-iff}
 use Rattle.livelock.proofs.BasicExamples.{panelAndProbe, plantA, plantB, probe-cycle, probe-quiet}
 use Rattle.livelock.proofs.PassingExamples.{formed-A}

@@ -11,7 +11,8 @@ use Rattle.livelock.specs.Weights.{Passes}
 use Rattle.livelock.specs.CycleSets.{setEffect}
 use Rattle.livelock.specs.Tests.{every, isWalk, isDistinct}
 use Rattle.livelock.proofs.Tests.{well-formed-iff}
-use Rattle.livelock.proofs.Graphs.{via, longest}
+use Rattle.livelock.specs.Graphs.{via}
+use Rattle.livelock.proofs.Graphs.{longest}
 use Rattle.livelock.proofs.Decision.{statePotential, passing-iff}
 use Rattle.livelock.proofs.Exclusion.{exclusion}
 use Rattle.plant.specs.Found.{found}

@@ -5,7 +5,7 @@ use mathlib.Core.List.{List}
 use Prim.Native.Nat.{ℕ, _+_, _-_, _*_, _≤_, _<_}
 use lib.ListN.{length, getD}
 use Rattle.livelock.specs.Lists.{below, greatest}
-use Rattle.livelock.proofs.Graphs.{Graph, via}
+use Rattle.livelock.specs.Graphs.{Graph, via}
 use Rattle.closed_walks.specs.ClosedWalks.{heaviest, entry, NotedRoom}
 
 -- Two tables stand in one list of 128 numbers: one begins at `old`, the other at `new`.

@@ -3,7 +3,7 @@ use mathlib.Core.Path.{_≡_, refl, _∙_}
 use Prim.Native.Nat.{_-_, _≤_}
 use native.Mathlib.Omega.{arith}
 use lib.ListN.{length, getD}
-use Rattle.livelock.proofs.Lengths.{lengthened}
+use Rattle.livelock.specs.Graphs.{lengthened}
 use Rattle.deciding.specs.Rounds.{edgeGraph}
 use Rattle.deciding.proofs.DecisionLaws.{edges-within}
 use Rattle.deciding.proofs.DecisionLaws.{Heights, heights-first, heights-low, heights-next, heights-settled, heights-positive, all-below, some-cycle}

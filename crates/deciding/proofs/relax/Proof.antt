@@ -6,7 +6,7 @@ use native.Mathlib.Omega.{arith}
 use lib.ListN.{length}
 use mir.Syntax.{w64}
 use mir.Facts.{toZ-ofZ}
-use Rattle.livelock.proofs.Lengths.{lengthened}
+use Rattle.livelock.specs.Graphs.{lengthened}
 use Rattle.edge_lists.specs.EdgeLists.{edgeIn}
 use Rattle.deciding.specs.Rounds.{edgeGraph, Pass}
 use Rattle.deciding.proofs.DecisionLaws.{length-low, pass-starts, pass-low, edge-keeps, edge-raises}
