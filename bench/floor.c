@@ -94,8 +94,9 @@ static int decide(const int16_t *edges, size_t count, unsigned states, int64_t n
 
 #define ORIGIN ((int64_t)1 << 40)
 
-static unsigned least_from(const int16_t *edges, size_t count, unsigned states, unsigned start, unsigned limit, uint8_t *noted, size_t each) {
-    int64_t walks[128] = {0}, *old = walks, *new = walks + 64;
+static unsigned least_from(const int16_t *edges, size_t count, unsigned states, unsigned start, unsigned limit, uint8_t *noted, size_t each, int64_t *walks) {
+    int64_t *old = walks, *new = walks + 64;
+    for (unsigned s = 0; s < states; s++) old[s] = 0;
     old[start] = ORIGIN;
     for (unsigned k = 0; k < limit; k++) {
         for (unsigned s = 0; s < states; s++) new[s] = 0;
@@ -117,13 +118,14 @@ static unsigned least_from(const int16_t *edges, size_t count, unsigned states, 
 
 static unsigned show_noted(const int16_t *edges, size_t count, unsigned states, uint16_t *cycle, uint8_t *noted, size_t each) {
     unsigned start = 0, length = states + 1;
-    needed(noted);
+    int64_t walks[128] = {0};
+    needed(noted), needed(walks);
     for (unsigned s = 0; s < states; s++) {
-        unsigned k = least_from(edges, count, states, s, length - 1, noted, each);
+        unsigned k = least_from(edges, count, states, s, length - 1, noted, each, walks);
         if (k < length) start = s;
         length = k;
     }
-    least_from(edges, count, states, start, length, noted, each);
+    least_from(edges, count, states, start, length, noted, each, walks);
     for (unsigned i = 0, s = start; i < length; i++) {
         const int16_t *e = edges + 4 * noted[(length - i - 1) * each + s];
         cycle[i] = (uint16_t)e[3];

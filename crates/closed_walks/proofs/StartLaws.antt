@@ -8,7 +8,7 @@ use native.Mathlib.Nat.{not-suc-le-zero, zero-add}
 use native.Mathlib.Decide.{ℕ-discrete, decLt}
 use native.Mathlib.Numerals.{add-one}
 use native.Mathlib.Omega.{arith}
-use lib.ListN.{length, length-set, getD, getD-replicate, set, replicate}
+use lib.ListN.{length, length-set, getD, set}
 use lib.Seq.{getD-set-same, getD-set-other}
 use lib.IntN.{ℤ, pos, _-ℤ_}
 use lib.Signed.{leZ, leZ-yes}
@@ -26,23 +26,21 @@ use Rattle.livelock.specs.Graphs.{Graph, via}
 use Rattle.livelock.proofs.Graphs.{Leads, via-leads}
 use Rattle.livelock.proofs.Rounds.{via-equal}
 use Rattle.closed_walks.specs.ClosedWalks.{origin, heaviest, Closes, entry, NotedRoom, FirstEdge, FirstEdges, LeastFrom}
-use Rattle.closed_walks.specs.Inner.Rounds.{Halves, Low, Cleared, Round, Exactly}
+use Rattle.closed_walks.specs.Inner.Rounds.{Halves, Low, Zeros, Cleared, Round, Exactly}
 use Rattle.closed_walks.proofs.WalkLaws.{Searchable, heaviest-bound}
 use Rattle.closed_walks.proofs.RoundLaws.{halves-swap, cleared-other}
 
 -- ---- rounds
 
--- The walks without edges.
-exactly-none : (g : Graph) (states start : ℕ) → states ≤ 64 → start < states → Exactly g states start 0 0 (set (replicate 128 0) start origin)
+-- The walks without edges, in a table that was cleared.
+exactly-none : (g : Graph) (states start : ℕ) (walks : List ℕ) → states ≤ 64 → start < states → length walks ≡ 128 → Zeros states 0 walks
+    → Exactly g states start 0 0 (set walks start origin)
 unfolding heaviest
-exactly-none g states start few h s l = go (ℕ-discrete s start)
+exactly-none g states start walks few h room zeros s l = go (ℕ-discrete s start)
   where
-    zeros : List ℕ
-    zeros = replicate 128 0
-
-    go : Dec (s ≡ start) → getD (set zeros start origin) (0 + s) 0 ≡ cond (eqb s start) origin 0
-    go (yes q) = rw (eq-eqb s start q, q, zero-add start) (getD-set-same zeros start origin 0 (omega arith))
-    go (no q) = rw (ne-eqb s start q, zero-add s) (getD-set-other zeros start s origin 0 q ∙ getD-replicate 128 s 0 0 (omega arith))
+    go : Dec (s ≡ start) → getD (set walks start origin) (0 + s) 0 ≡ cond (eqb s start) origin 0
+    go (yes q) = rw (eq-eqb s start q, q, zero-add start) (getD-set-same walks start origin 0 (omega (arith, room)))
+    go (no q) = rw (ne-eqb s start q, zero-add s) (getD-set-other walks start s origin 0 q ∙ (rw (zero-add s) at (zeros s l)))
 
 -- There is room for one edge more.
 exactly-low : {g : Graph} {states : ℕ} → Searchable g states → (start k at : ℕ) (walks : List ℕ) → Exactly g states start k at walks → k ≤ 64
@@ -102,14 +100,14 @@ pub record Searched (g : Graph) (states start k old : ℕ) (walks noted : List �
   pub first-edges : FirstEdges g states start k noted
 
 -- Before the first round.
-pub searched-first : (g : Graph) (states start : ℕ) (noted : List ℕ) → states ≤ 64 → start < states → NotedRoom states noted
-    → Searched g states start 0 0 (set (replicate 128 0) start origin) noted
-searched-first g states start noted few h room =
+pub searched-first : (g : Graph) (states start : ℕ) (before walks noted : List ℕ) → states ≤ 64 → start < states → length before ≡ 128 → Cleared states 0 before walks
+    → NotedRoom states noted → Searched g states start 0 0 (set walks start origin) noted
+searched-first g states start before walks noted few h long cleared room =
     record {
       halves = inl (refl, refl);
-      room = length-set (replicate 128 0) start origin;
+      room = length-set walks start origin ∙ cleared .same-length ∙ long;
       edge-room = room;
-      exact = exactly-none g states start few h;
+      exact = exactly-none g states start walks few h (cleared .same-length ∙ long) (cleared .zeros);
       first-edges = λ j s x l m. absurd (not-suc-le-zero x);
     }
 

@@ -82,20 +82,22 @@ pub fn least_from(
     states: usize,
     start: usize,
     limit: usize,
+    walks: &mut [u64; 128],
     noted: &mut [u8],
 ) -> usize
-    requires { ⌜ EdgesIn states count (now edges) × (start < states) × (limit ≤ states) × NotedRoom states (now noted) ⌝ }
+    requires { ⌜ EdgesIn states count (now edges) × (start < states) × (limit ≤ states) × (length (now walks) ≡ 128) × NotedRoom states (now noted) ⌝ }
     ensures { λ r. ⌜ LeastFrom (edgeGraph count (now (edges .entry))) start limit r ⌝ }
     ensures { λ r. ⌜ Noted (edgeGraph count (now (edges .entry))) states start limit r (now (noted .exit)) ⌝ }
+    ensures { λ r. ⌜ length (now (walks .exit)) ≡ 128 ⌝ }
 {
-    let mut walks = [0; 128];
+    clear(walks, 0, states);
     walks[start] = ORIGIN;
     let mut old = 0;
     let mut k = 0;
     while k < limit {
         let new = 64 - old;
-        clear(&mut walks, new, states);
-        round(edges, count, states, &mut walks, old, noted, k);
+        clear(walks, new, states);
+        round(edges, count, states, walks, old, noted, k);
         old = new;
         k += 1;
         let closed = walk_weight(walks[old + start]);

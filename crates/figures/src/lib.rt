@@ -29,7 +29,7 @@ fn less_one(states: u8) -> u64
 }
 
 // n, the most states in one machine.
-pub fn most_states(states: &[u8]) -> u64
+fn most_states(states: &[u8]) -> u64
     ensures { λ r. ⌜ r ≡ greatest (λ m. getD (now (states .entry)) m 0) (below (length (now (states .entry)))) ⌝ }
 {
     let mut most = 0;

@@ -13,11 +13,6 @@ use Rattle.livelock.specs.Cycles.{SimpleCycle, Quiet, effect}
 abbrev pub weight : List ℕ → ℕ → ℕ
 weight ws t = getD ws t 0
 
--- The weight of a message; 0 where there is none.
-abbrev pub messageWeight : List ℕ → Option ℕ → ℕ
-messageWeight ws none = 0
-messageWeight ws (some t) = weight ws t
-
 -- "A cycle's weight is a signed number: the sum over types of weight times effect."
 unfoldable pub cycleWeight : Plant → List ℕ → List ℕ → ℤ
 cycleWeight P ws c = sumℤ (λ t. pos (weight ws t) *ℤ effect P c t) (below (P .types))
@@ -32,3 +27,8 @@ pub record FailingCycle (P : Plant) (ws c : List ℕ) : Type 0 where
   pub simple : SimpleCycle P machine c
   pub quiet : Quiet P c
   pub weighs : pos 0 ≤ℤ cycleWeight P ws c
+
+-- The weight of a message; 0 where there is none.
+abbrev pub messageWeight : List ℕ → Option ℕ → ℕ
+messageWeight ws none = 0
+messageWeight ws (some t) = weight ws t

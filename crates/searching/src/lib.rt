@@ -1,5 +1,6 @@
 // A cycle of an edge list to show: the closed walk with the fewest edges that weighs zero or more. It knows no plant. No entry point:
 // `weighing` calls it.
+ghost use mathlib.Core.Path.{_≡_};
 ghost use Prim.Native.Nat.{_≤_};
 ghost use lib.ListN.{length};
 ghost use Rattle.deciding.specs.Rounds.{edgeGraph, EdgesIn, SomeZeroOrMore};
@@ -13,15 +14,22 @@ struct Start {
 }
 
 // Where such a walk with the fewest edges begins, and how many it has.
-fn least(edges: &[i16], count: usize, states: usize, noted: &mut [u8]) -> Start
-    requires { ⌜ EdgesIn states count (now edges) × SomeZeroOrMore (edgeGraph count (now edges)) × NotedRoom states (now noted) ⌝ }
+fn least(
+    edges: &[i16],
+    count: usize,
+    states: usize,
+    walks: &mut [u64; 128],
+    noted: &mut [u8],
+) -> Start
+    requires { ⌜ EdgesIn states count (now edges) × SomeZeroOrMore (edgeGraph count (now edges)) × (length (now walks) ≡ 128) × NotedRoom states (now noted) ⌝ }
     ensures { λ r. ⌜ Least (edgeGraph count (now (edges .entry))) states (r .start) (r .length) ⌝ }
+    ensures { λ r. ⌜ length (now (walks .exit)) ≡ 128 ⌝ }
 {
     let mut start = 0;
     let mut length = states + 1;
     let mut s = 0;
     while s < states {
-        let k = closed_walks::least_from(edges, count, states, s, length - 1, noted);
+        let k = closed_walks::least_from(edges, count, states, s, length - 1, walks, noted);
         if k < length {
             start = s;
         }
@@ -37,15 +45,16 @@ fn show_noted(
     edges: &[i16],
     count: usize,
     states: usize,
+    walks: &mut [u64; 128],
     noted: &mut [u8],
     cycle: &mut [u16],
 ) -> usize
-    requires { ⌜ EdgesIn states count (now edges) × SomeZeroOrMore (edgeGraph count (now edges)) × NotedRoom states (now noted) × (64 ≤ length (now cycle)) ⌝ }
+    requires { ⌜ EdgesIn states count (now edges) × SomeZeroOrMore (edgeGraph count (now edges)) × NotedRoom states (now noted) × (64 ≤ length (now cycle)) × (length (now walks) ≡ 128) ⌝ }
     ensures { λ r. ⌜ ShownRows count (now (edges .entry)) states r (now (cycle .entry)) (now (cycle .exit)) ⌝ }
 {
-    let found = least(edges, count, states, noted);
+    let found = least(edges, count, states, walks, noted);
     let start = found.start;
-    let k = closed_walks::least_from(edges, count, states, start, found.length, noted);
+    let k = closed_walks::least_from(edges, count, states, start, found.length, walks, noted);
     let mut s = start;
     let mut i = 0;
     while i < k {
@@ -57,15 +66,17 @@ fn show_noted(
     k
 }
 
-// The same with a list of first edges of its own: a machine of few states needs a short one, and clearing 4,096 bytes would be a sixth of its time.
+// The same with tables of its own, which all starts use. A machine of few states needs a short list of first edges: clearing 4,096 bytes would be a sixth of
+// its time.
 pub fn show(edges: &[i16], count: usize, states: usize, cycle: &mut [u16]) -> usize
     requires { ⌜ EdgesIn states count (now edges) × SomeZeroOrMore (edgeGraph count (now edges)) × (64 ≤ length (now cycle)) ⌝ }
     ensures { λ r. ⌜ ShownRows count (now (edges .entry)) states r (now (cycle .entry)) (now (cycle .exit)) ⌝ }
 {
+    let mut walks = [0; 128];
     if states <= 8 {
         let mut noted = [0; 512];
-        return show_noted(edges, count, states, &mut noted, cycle);
+        return show_noted(edges, count, states, &mut walks, &mut noted, cycle);
     }
     let mut noted = [0; 4096];
-    show_noted(edges, count, states, &mut noted, cycle)
+    show_noted(edges, count, states, &mut walks, &mut noted, cycle)
 }
