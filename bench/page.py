@@ -3,10 +3,12 @@ import textwrap
 
 # How far whole runs lie apart. Look again when the crates have changed.
 RUNS = (
-    'Two full runs, one after the other, of which this page has the second; between them only `bench/floor.c` changed. The first had, for plant A, 1.34 '
-    'where weights pass, 1.91 where a cycle is shown and 1.23 for quoting; at the limits 1.14 for weighing that passes and for quoting, 1.13 for a refusal '
-    'with 22. The other rows against C differ by a sixth at most. The goal on plant A was 1.2 before tables were short for short files: the first run '
-    'misses it in all three rows, the second where a cycle is shown.')
+    'Two full runs of the same code, one after the other, of which this page has the second. The first had, for plant A, 1.33 where weights pass, 1.69 where '
+    'a cycle is shown and 1.23 for quoting; the other rows against C differ by a sixteenth or less. The library as it was before a graph had 16-bit numbers and '
+    'before the table of walks was lent to each start, measured in turn with this one in four layouts: showing a cycle of plant A took 2.02 times as long as C '
+    '(now 1.84), listing its machine 1 took 2.33 times as long (now 2.05). Ten more rows measured so are the same within their spread: weighing plant A and at the '
+    'limits that passes, showing a cycle of ten machines and at the limits, quoting for plant A and at the limits, counting and filling the ring of 12, counting '
+    'the chain that leads back over a state that was left, and confirming.')
 
 # Why a goal is missed: for keys of bench/run that begin with the first word. The evidence is from `perf` and from the machine
 # code (`objdump -d dist/libhemtaluq.a`) of the library at the time of writing; look again when the crates have changed.
@@ -18,8 +20,8 @@ CAUSES = [
      'Nothing is stored, and on the largest file the call executes as many instructions as the peer, within a hundredth (callgrind).'),
     ('weigh-a', 'Weighing small plants',
      'A table of 512 bytes, a list of edges of 512 bytes and the heights of 8 states are cleared at each call, and the rows are stored before they are weighed; the peer leaves its arrays as '
-     'they are. Where a cycle is shown, each start clears 1 KB of walks, and the rounds from the start that was found are made once more (DECISIONS.md, 23). Walks that are lent and not cleared '
-     'by a call of `memset` gained a fiftieth. C with the same arrays: see the next table.'),
+     'they are. Where a cycle is shown, 1 KB of walks and 512 bytes of first edges are cleared, too, and the rounds from the start that was found are made once more (DECISIONS.md, 23). '
+     'C with the same arrays: see the next table.'),
     ('weigh', 'Weighing', DECIDING),
     ('quote-fails', 'Quoting weights that do not pass', 'All the work is deciding. ' + DECIDING),
     ('quote-a', 'Quoting for small plants',
