@@ -131,11 +131,20 @@ def kit_words(path):
     return {word.strip().strip('_') for names in lists for word in names.split(',')}
 
 
-def hold_closed(path, shown, specs):
+def specs_used(source, lines):
+    """The files of the crate's specs that a definition can speak of: its own, and those from which its file takes one of its words."""
+    for module, names in re.findall(r'(?m)^use Rattle\.livelock\.specs\.(\w+)\.\{([^}]*)\}', read(source)):
+        if {name.strip().strip('_') for name in names.split(',')} & words(lines):
+            yield 'crates/livelock/specs/%s.antt' % module
+    if '/specs/' in source:
+        yield source
+
+
+def hold_closed(path, shown):
     """What the shown definitions use of the crate's specs is shown, and the text names what they use of the kit's library."""
     there = {name for _, lines in shown for name in names_declared(lines)}
     used = {word for _, lines in shown for word in words(lines)}
-    for source in specs:
+    for source in sorted({file for shown_in, lines in shown for file in specs_used(shown_in, lines)}):
         faults.extend('%s: %s of %s is used and not shown' % (path, name, source) for name in sorted((declared(source) & used) - there))
     named = words(re.findall(r'`([^`]+)`', re.sub(ANTT_BLOCK, '', read(path))))
     missing = {word for source, lines in shown for word in kit_words(source) & words(lines)} - named
@@ -160,7 +169,7 @@ def hold_excerpts(path, theorem):
         return
     if not any(theorem in names_declared(lines) for source, lines in shown if source in proofs):
         faults.append('%s: the theorem %s is not shown' % (path, theorem))
-    hold_closed(path, shown, specs)
+    hold_closed(path, shown)
 
 
 # ---- docs/map.md
