@@ -195,7 +195,8 @@ use Rattle.livelock.specs.Figures.{mostStates, base, perProgress, figuresOf, co
 use Rattle.livelock.specs.CycleSets.{Entry, setEffect}
 use Rattle.livelock.specs.Tests.{every, isDistinct, isWalk, isSimpleCycle, isQuietCycle}
 use Rattle.livelock.proofs.Tests.{isWellFormed}
-use Rattle.livelock.proofs.Graphs.{via, longest}
+use Rattle.livelock.specs.Graphs.{via}
+use Rattle.livelock.proofs.Graphs.{longest}
 use Rattle.livelock.proofs.Decision.{statePotential, isPassing}
 '''
 UNFOLD = ('below sum sumℤ greatest hasProgress canHappen changed after afterAll run isQuietRow isProgressRow '
