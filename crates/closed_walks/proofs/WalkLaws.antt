@@ -13,8 +13,8 @@ use Rattle.livelock.specs.Lists.{below, sum, All}
 use Rattle.livelock.specs.Cycles.{Walk}
 use Rattle.livelock.proofs.ListLaws.{all-below}
 use Rattle.livelock.proofs.SumLaws.{greatest-bound, greatest-attained, greatest-below}
-use Rattle.livelock.specs.Graphs.{Graph, IsEdge, Within, via}
-use Rattle.livelock.proofs.Graphs.{via-edge, Leads, via-leads, via-bound}
+use Rattle.livelock.specs.Graphs.{Graph, IsEdge, via}
+use Rattle.livelock.proofs.Graphs.{Within, via-edge, Leads, via-leads, via-bound}
 use Rattle.deciding.specs.Rounds.{edgeGraph, EdgesIn}
 use Rattle.deciding.proofs.DecisionLaws.{edges-within}
 use Rattle.closed_walks.specs.ClosedWalks.{origin, heaviest, Closes}

@@ -14,12 +14,10 @@ use lib.ListN.{length, getD, set, replicate, getD-replicate, length-replicate, l
 use lib.Seq.{getD-set-same, getD-set-other}
 use lib.IntN.{ℤ, pos, _+ℤ_, _*ℤ_}
 use Rattle.livelock.specs.Lists.{sum}
-use Rattle.livelock.specs.Graphs.{lengthened}
+use Rattle.livelock.specs.Graphs.{lengthened, Graph, IsEdge, WalkLength}
 use Rattle.livelock.proofs.Lengths.{cycle-lengthened, cycle-of-lengthened, lengthened-iff}
-use Rattle.livelock.specs.Graphs.{Graph, IsEdge, Within, PositiveCycle}
-use Rattle.livelock.proofs.Graphs.{longest}
+use Rattle.livelock.proofs.Graphs.{Within, PositiveCycle, longest}
 use Rattle.livelock.proofs.Potentials.{Potential, no-positive-cycle}
-use Rattle.livelock.specs.Graphs.{WalkLength}
 use Rattle.livelock.proofs.Rounds.{walk-without-edges, edge-in-front, longer-positive, pass-longest}
 use Rattle.edge_lists.specs.EdgeLists.{edgeIn}
 use Rattle.deciding.specs.Signs.{rise, fall}

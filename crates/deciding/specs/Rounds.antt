@@ -6,8 +6,7 @@ use Prim.Native.Nat.{ℕ, _+_, _*_, _≤_, _<_}
 use lib.ListN.{length, getD}
 use lib.IntN.{ℤ}
 use Rattle.livelock.specs.Lists.{sum}
-use Rattle.livelock.specs.Graphs.{Graph, Cycle}
-use Rattle.livelock.specs.Graphs.{WalkLength}
+use Rattle.livelock.specs.Graphs.{Graph, Cycle, WalkLength}
 use Rattle.edge_lists.specs.EdgeLists.{edgeIn, HasEdge}
 use Rattle.deciding.specs.Signs.{rise, fall}
 

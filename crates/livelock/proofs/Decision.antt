@@ -17,8 +17,7 @@ use Rattle.livelock.specs.Figures.{mostStates, largestWeight}
 use Rattle.livelock.proofs.ListLaws.{all-or-one}
 use Rattle.livelock.specs.Tests.{every}
 use Rattle.livelock.proofs.Tests.{every-below-iff}
-use Rattle.livelock.specs.Graphs.{PositiveCycle}
-use Rattle.livelock.proofs.Graphs.{longest, longest-bound}
+use Rattle.livelock.proofs.Graphs.{PositiveCycle, longest, longest-bound}
 use Rattle.livelock.proofs.Potentials.{Potential, isPotential, potential-iff, no-positive-cycle, potential-or-positive}
 use Rattle.livelock.proofs.CycleWeights.{sentWeight, takenWeight, below-zero-iff, zero-or-more-iff, sent-bound}
 use Rattle.livelock.proofs.QuietGraphs.{quietGraph, quiet-within, graph-cycle, simple-cycle, quiet-cycle, cycle-machine, positive-iff}

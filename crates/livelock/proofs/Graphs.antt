@@ -2,18 +2,30 @@
 use mathlib.Core.Path.{_≡_, refl, _∙_}
 use mathlib.Core.Logic.{_⊎_, inl, inr}
 use mathlib.Core.Bool.{Bool, true, false, _&&_, cond}
-use mathlib.Core.List.{List, [], _∷_, map}
+use mathlib.Core.List.{List, [], _∷_}
 use Prim.Native.Nat.{ℕ, zero, suc, _+_, _-_, _*_, _≤_, _<_}
 use native.Mathlib.Nat.{le-of-suc-le-suc, not-suc-le-zero, eq-zero-or-pos}
 use native.Mathlib.Omega.{arith}
 use lib.ListN.{length}
 use lib.Dec.{eqb}
 use borrow.Author.Tests.{eqb-true, eq-eqb}
-use Rattle.livelock.specs.Lists.{below, sum, greatest, All, Distinct}
+use Rattle.livelock.specs.Lists.{below, sum, greatest, All}
 use Rattle.livelock.specs.Cycles.{Walk}
-use Rattle.livelock.specs.Graphs.{Graph, IsEdge, Within, Cycle, Positive, PositiveCycle, via}
+use Rattle.livelock.specs.Graphs.{Graph, IsEdge, Cycle, via}
 use Rattle.livelock.proofs.ListLaws.{all-below}
 use Rattle.livelock.proofs.SumLaws.{greatest-bound, greatest-attained, greatest-below}
+
+-- Every edge leads from one of the states 0 to N − 1 to one of them.
+abbrev pub Within : Graph → ℕ → Type 0
+Within g N = (e : ℕ) → IsEdge g e → (g .src e < N) × (g .dst e < N)
+
+-- The edges es together are longer than 0.
+abbrev pub Positive : Graph → List ℕ → Type 0
+Positive g es = sum (g .minus) es < sum (g .plus) es
+
+-- A simple cycle longer than 0.
+abbrev pub PositiveCycle : Graph → Type 0
+PositiveCycle g = (es : List ℕ) × Cycle g es × Positive g es
 
 -- ---- one edge, and on from its end
 

@@ -7,10 +7,10 @@ use native.Mathlib.Nat.{le-of-suc-le-suc, mul-le-mul-left, lt-of-mul-lt-mul-left
 use native.Mathlib.Omega.{arith}
 use lib.ListN.{length}
 use Rattle.livelock.specs.Lists.{sum, All}
-use Rattle.livelock.specs.Graphs.{lengthened}
+use Rattle.livelock.specs.Graphs.{lengthened, Graph, IsEdge, Cycle}
+use Rattle.livelock.proofs.Graphs.{Within, Positive}
 use Rattle.livelock.proofs.ListLaws.{all-weaken, all-always}
 use Rattle.livelock.proofs.Pigeonhole.{left-once}
-use Rattle.livelock.specs.Graphs.{Graph, IsEdge, Within, Cycle, Positive}
 
 -- Edge e weighs up e − down e, and its length is plus e − minus e.
 module _ (n : ℕ) (up down plus minus : ℕ → ℕ) where

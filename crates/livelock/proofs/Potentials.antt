@@ -16,8 +16,8 @@ use Rattle.livelock.proofs.Pigeonhole.{pigeonhole}
 use Rattle.livelock.specs.Tests.{every}
 use Rattle.livelock.proofs.Tests.{every-below-iff, implies-iff, at-most-iff}
 use Rattle.livelock.proofs.Walks.{visited, visited-length, walk-append, HasCycle, distinct-or-cycle}
-use Rattle.livelock.specs.Graphs.{Graph, IsEdge, Within, Cycle, Positive, PositiveCycle}
-use Rattle.livelock.proofs.Graphs.{longest, longest-upper, Attained, longest-attained}
+use Rattle.livelock.specs.Graphs.{Graph, IsEdge, Cycle}
+use Rattle.livelock.proofs.Graphs.{Within, Positive, PositiveCycle, longest, longest-upper, Attained, longest-attained}
 
 -- Along edge e the number h of a state falls by at least the edge's length.
 abbrev pub Falls : Graph → (ℕ → ℕ) → ℕ → Type 0

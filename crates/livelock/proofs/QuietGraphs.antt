@@ -18,7 +18,8 @@ use Rattle.livelock.proofs.SumLaws.{greatest-below}
 use Rattle.livelock.proofs.Pigeonhole.{left-once}
 use Rattle.livelock.proofs.Tests.{both-iff, equal-iff, not-iff}
 use Rattle.livelock.proofs.Walks.{walk-first}
-use Rattle.livelock.specs.Graphs.{Graph, IsEdge, Within, Cycle, Positive}
+use Rattle.livelock.specs.Graphs.{Graph, IsEdge, Cycle}
+use Rattle.livelock.proofs.Graphs.{Within, Positive}
 use Rattle.livelock.proofs.Lengths.{lengths-iff}
 use Rattle.livelock.proofs.CycleWeights.{sentWeight, takenWeight, row-fits, zero-or-more-iff}
 

@@ -4,17 +4,16 @@
 use mathlib.Core.Path.{_≡_, refl, ap}
 use mathlib.Core.Logic.{_⊎_, inl, inr, ⊎-elim}
 use mathlib.Core.Bool.{Bool, true, false, _&&_, cond}
-use mathlib.Core.List.{List, [], _∷_}
+use mathlib.Core.List.{[], _∷_}
 use Prim.Native.Nat.{ℕ, suc, _+_, _-_, _≤_, _<_}
 use native.Mathlib.Omega.{arith}
 use lib.Dec.{eqb}
 use Rattle.livelock.specs.Lists.{below, sum, All}
 use Rattle.livelock.specs.Cycles.{Walk}
-use Rattle.livelock.specs.Graphs.{WalkLength}
+use Rattle.livelock.specs.Graphs.{WalkLength, Graph, IsEdge, via}
 use Rattle.livelock.proofs.ListLaws.{all-below}
 use Rattle.livelock.proofs.SumLaws.{greatest-bound}
-use Rattle.livelock.specs.Graphs.{Graph, IsEdge, Within, PositiveCycle, via}
-use Rattle.livelock.proofs.Graphs.{Leads, via-leads, longest}
+use Rattle.livelock.proofs.Graphs.{Within, PositiveCycle, Leads, via-leads, longest}
 use Rattle.livelock.proofs.Potentials.{telescope, potential-or-positive}
 
 -- The length along an edge asks for f only at the edge's end.

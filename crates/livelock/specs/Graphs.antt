@@ -1,4 +1,4 @@
--- Graphs with signed lengths: walks, cycles, and how far it is along an edge. Nothing here speaks of plants. What decides and searches lists
+-- Graphs with signed lengths: edges, cycles, walks, and how far it is along an edge. Nothing here speaks of plants. What decides and searches lists
 -- of edges promises by these; the calls do not, and no sentence of document 01 stands here.
 use mathlib.Core.Path.{_≡_}
 use mathlib.Core.Bool.{Bool, true, _&&_, cond}
@@ -23,10 +23,6 @@ pub record Graph : Type 0 where
 abbrev pub IsEdge : Graph → ℕ → Type 0
 IsEdge g e = (e < g .size) × (g .counts e ≡ true)
 
--- Every edge leads from one of the states 0 to N − 1 to one of them.
-abbrev pub Within : Graph → ℕ → Type 0
-Within g N = (e : ℕ) → IsEdge g e → (g .src e < N) × (g .dst e < N)
-
 -- A simple cycle of edges, from the state `at` back to it.
 pub record Cycle (g : Graph) (es : List ℕ) : Type 0 where
   pub non-empty : 0 < length es
@@ -34,14 +30,6 @@ pub record Cycle (g : Graph) (es : List ℕ) : Type 0 where
   pub at : ℕ
   pub closed : Walk (g .src) (g .dst) at es at
   pub once : Distinct (map (g .src) es)
-
--- The edges es together are longer than 0.
-abbrev pub Positive : Graph → List ℕ → Type 0
-Positive g es = sum (g .minus) es < sum (g .plus) es
-
--- A simple cycle longer than 0.
-abbrev pub PositiveCycle : Graph → Type 0
-PositiveCycle g = (es : List ℕ) × Cycle g es × Positive g es
 
 -- Some walk from s, of any number of edges, is v long.
 pub record WalkLength (g : Graph) (s v : ℕ) : Type 0 where
