@@ -6,12 +6,16 @@ use borrow.Author.Needs.{needs}
 use Rattle.set_entries.proofs.goes_on.Statement.{statement}
 use Rattle.set_entries.proofs.goes_on.Tie as tie
 
+-- Where the first test is false, nothing else is asked.
+none : {a : Bool} (x : Bool) → a ≡ false → false ≡ (a && x)
+none x p = rw p
+
 -- Where the first three tests are true, the last decides.
 last : {a b d : Bool} (x : Bool) → a ≡ true → b ≡ false → d ≡ true → x ≡ (a && (not b && (d && x)))
 last x p q r = rw (p, q, r)
 
 returns : tie.Need-returns
-returns c = simp (ne-eqb _ _ (c .if1 .taken))
+returns c = none _ (ne-eqb _ _ (c .if1 .taken))
 
 has-progress-requires : tie.Need-has-progress-requires
 has-progress-requires c κs = search needs
