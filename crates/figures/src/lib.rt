@@ -1,4 +1,4 @@
-// The figures F, n and G of demand 3. No entry point: `machines` and `weighing` call it.
+// The figures F, n and G of demand 3. No entry point: `weighing` calls it.
 ghost use mathlib.Core.Path.{_≡_};
 ghost use Prim.Native.Nat.{_-_, _≤_, max};
 ghost use lib.ListN.{length, getD};
