@@ -8,6 +8,7 @@
 - Each row of a table in README.md and docs/ has as many cells as the table's head.
 - The names in README's table of promises are declared in the files that it names.
 - README's section Architecture names every crate, and docs/gate.md has a row for each with the number of its must-fail edits.
+- The crates whose specs README leads a reader through are those that the contracts of the calls, of the exports and of the program's line rest on.
 - The numbers of README's section Tests are figures that a test holds (figures.py).
 - The header of the C interface names every fault number of the table, and each once; its kinds are those of the computed examples of crate cabinet.
 - The version is one number in the header, in the definition and in the Rust wrappers; every export of crate cabinet but that of the version has a
@@ -387,6 +388,49 @@ def hold_crates(readme, gate):
         faults.append('%s: there are %d must-fail edits together' % (gate, sum(edits.values())))
 
 
+# The crates with a call, an export or the program's line.
+DOORS = ('reading', 'weighing', 'quoting', 'listing', 'cycle_sets', 'exclusion', 'answer_line', 'cabinet')
+# An import of specs: the crate, the module and the names; no names where the module is taken under another name.
+SPECS_IMPORT = r'(?m)^(?:ghost )?use Rattle·(\w+)(?:·specs)?\.specs(?:\.specs)?\.([\w.]+?)(?:\.\{([^}]*)\}| as \w+);?$'
+# The clauses of a public function.
+CONTRACT = r'(?m)^pub (?:extern "C" )?fn [^{]*?\n((?:    (?:requires|ensures) .*\n)+)'
+
+
+@functools.lru_cache(maxsize=None)
+def specs_imported(path):
+    """The names that a file takes from specs, each with the file that declares it; of a module under another name all of its names."""
+    found = {}
+    for crate, module, names in re.findall(SPECS_IMPORT, read(path)):
+        source = 'crates/%s/specs/%s.antt' % (crate, module.replace('.', '/'))
+        if os.path.exists(os.path.join(ROOT, source)):
+            found.update({name.strip().strip('_'): source for name in (names.split(',') if names else declared(source))})
+    return found
+
+
+def rests_on(path, lines):
+    """The definitions of specs that lines of a file cite: pairs of file and name."""
+    own = declared(path) if path.endswith('.antt') else set()
+    for word in words(lines):
+        if word in own or word in specs_imported(path):
+            yield specs_imported(path).get(word, path), word
+
+
+def hold_reading_order(readme, doors):
+    """What a reader of the contracts must believe stands in the specs of the crates that the page names, and in no others."""
+    waiting = [cited for path in doors for contract in re.findall(CONTRACT, read(path)) for cited in rests_on(path, contract.split('\n'))]
+    known = set()
+    while waiting:
+        source, name = waiting.pop()
+        if (source, name) not in known:
+            known.add((source, name))
+            waiting += [cited for part in definitions(source) if name in names_declared(part) for cited in rests_on(source, part)]
+    crates = re.findall(r'(?m)^(\w+):', read('crates.txt'))
+    order = re.sub(r'\([^)]*\)', '', read(readme).split('in this\norder: ')[1].split('. [')[0])
+    needed, named = {source.split('/')[1] for source, _ in known}, set(re.findall(r'\w+', order))
+    faults.extend('%s: the order of reading names %s, which no contract rests on' % (readme, crate) for crate in sorted(named - needed))
+    faults.extend('%s: the order of reading does not name %s' % (readme, crate) for crate in crates if crate in needed - named)
+
+
 def hold_figures():
     """The section Tests has the figures alone. Two are counted here: every check of interface.c stands on a line and is made once."""
     faults.extend(figures.faults([read(path) for path in files('tests/*.py')]))
@@ -399,6 +443,7 @@ def main():
         hold_tables(path)
     hold_promises('README.md')
     hold_crates('README.md', 'docs/gate.md')
+    hold_reading_order('README.md', ['crates/%s/src/lib.rt' % crate for crate in DOORS])
     hold_figures()
     hold_examples()
     hold_header('include/hemtaluq.h')
