@@ -116,8 +116,8 @@ static unsigned least_from(const int16_t *edges, size_t count, unsigned states, 
     return limit + 1;
 }
 
-static unsigned show_noted(const int16_t *edges, size_t count, unsigned states, uint16_t *cycle, uint8_t *noted, size_t each) {
-    unsigned start = 0, length = states + 1;
+static unsigned show_noted(const int16_t *edges, size_t count, unsigned states, unsigned limit, uint16_t *rows, uint8_t *noted, size_t each) {
+    unsigned start = 0, length = limit + 1;
     int64_t walks[128] = {0};
     needed(noted), needed(walks);
     for (unsigned s = 0; s < states; s++) {
@@ -125,22 +125,41 @@ static unsigned show_noted(const int16_t *edges, size_t count, unsigned states, 
         if (k < length) start = s;
         length = k;
     }
+    if (length > limit) return limit + 1;
     least_from(edges, count, states, start, length, noted, each, walks);
     for (unsigned i = 0, s = start; i < length; i++) {
         const int16_t *e = edges + 4 * noted[(length - i - 1) * each + s];
-        cycle[i] = (uint16_t)e[3];
+        rows[i] = (uint16_t)e[3];
         s = (unsigned)e[1];
     }
     return length;
 }
 
-static unsigned show(const int16_t *edges, size_t count, unsigned states, uint16_t *cycle) {
+static unsigned show(const int16_t *edges, size_t count, unsigned states, unsigned limit, uint16_t *rows) {
     if (states <= 8) {
         uint8_t noted[512] = {0};
-        return show_noted(edges, count, states, cycle, noted, 64);
+        return show_noted(edges, count, states, limit, rows, noted, 64);
     }
     uint8_t noted[4096] = {0};
-    return show_noted(edges, count, states, cycle, noted, 64);
+    return show_noted(edges, count, states, limit, rows, noted, 64);
+}
+
+/* Lists the quiet rows of one machine after the other, from machine m up to the first with a cycle that weighs zero or more. */
+static unsigned first_failing(const struct shape *c, const uint8_t *table, unsigned m, const uint16_t *weights, size_t count, int64_t n, int16_t *edges, size_t *listed) {
+    for (; m < c->machines; m++) {
+        *listed = 0;
+        for (unsigned r = c->first[m]; r < c->first[m + 1]; r++) {
+            const uint8_t *row = table + 8 * r;
+            int16_t *e = edges + 4 * *listed;
+            e[0] = row[1];
+            e[1] = row[2];
+            e[2] = (int16_t)((row[3] < count ? weights[row[3]] : 0) - (row[4] < count ? weights[row[4]] : 0));
+            e[3] = (int16_t)r;
+            *listed += !row[5];
+        }
+        if (!decide(edges, *listed, c->states[m], n)) return m;
+    }
+    return m;
 }
 
 static hemtaluq_weigh_answer weigh_in(const uint8_t *file, size_t length, const uint16_t *weights, size_t count, uint16_t *cycle, size_t room,
@@ -163,22 +182,22 @@ static hemtaluq_weigh_answer weigh_in(const uint8_t *file, size_t length, const 
         less += c.states[m] - 1u;
     }
     for (size_t i = 0; i < count; i++) w = weights[i] > w ? weights[i] : w;
-    for (unsigned m = 0; m < c.machines; m++) {
-        size_t listed = 0;
-        for (unsigned r = c.first[m]; r < c.first[m + 1]; r++) {
-            const uint8_t *row = table + 8 * r;
-            int16_t *e = edges + 4 * listed;
-            e[0] = row[1];
-            e[1] = row[2];
-            e[2] = (int16_t)((row[3] < count ? weights[row[3]] : 0) - (row[4] < count ? weights[row[4]] : 0));
-            e[3] = (int16_t)r;
-            listed += !row[5];
+    size_t listed;
+    unsigned m = first_failing(&c, table, 0, weights, count, (int64_t)n, edges, &listed);
+    if (m < c.machines) {
+        uint16_t rows[64] = {0};
+        needed(rows);
+        unsigned least = show(edges, listed, c.states[m], c.states[m], rows);
+        for (m++; m < c.machines; m++) {
+            m = first_failing(&c, table, m, weights, count, (int64_t)n, edges, &listed);
+            if (m == c.machines) break;
+            unsigned limit = c.states[m] < least - 1 ? c.states[m] : least - 1, k = show(edges, listed, c.states[m], limit, rows);
+            if (k <= limit) least = k;
         }
-        if (!decide(edges, listed, c.states[m], (int64_t)n)) {
-            a.kind = HEMTALUQ_CYCLE;
-            a.rows = show(edges, listed, c.states[m], cycle);
-            return a;
-        }
+        for (unsigned i = 0; i < least; i++) cycle[i] = rows[i];
+        a.kind = HEMTALUQ_CYCLE;
+        a.rows = least;
+        return a;
     }
     a.kind = HEMTALUQ_PASSED;
     a.base = less + n * w * less;

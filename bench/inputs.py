@@ -70,14 +70,16 @@ ORDINARY_PASSES = [1, 10, 9, 8, 7, 6, 5, 4, 3, 2]
 ORDINARY_FAILS = [10, 9, 8, 7, 6, 5, 4, 3, 2, 1]  # the last machine's cycle weighs 9
 
 
-def chains(machines, states, rows, closing=1):
+def chains(machines, states, rows, open_ends=0):
     """Machines with a chain of sending rows in the order that needs all rounds; the rows back take type 1.
 
-    Each state has rows / states parallel rows. With closing 0 the last machine's rows back take nothing."""
+    The rows of a machine are parallel ones, as many for each state as can be. So many of the last machines have rows back that take
+    nothing: their cycles, of as many rows as there are states, do not weigh below zero."""
     made = []
     for m in range(machines):
-        back = takes if closing or m < machines - 1 else lambda a, b, t: steps(a, b)
-        made.append((states, [sends(s, s + 1, 0) if s + 1 < states else back(s, 0, 1) for s in range(states) for _ in range(rows // states)]))
+        back = takes if m < machines - open_ends else lambda a, b, t: steps(a, b)
+        made.append((states, [sends(s, s + 1, 0) if s + 1 < states else back(s, 0, 1)
+                              for s in range(states) for _ in range(rows * (s + 1) // states - rows * s // states)]))
     return 2, made
 
 

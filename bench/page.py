@@ -3,12 +3,12 @@ import textwrap
 
 # How far whole runs lie apart. Look again when the crates have changed.
 RUNS = (
-    'Two full runs of the same code, one after the other, of which this page has the second. The first had, for plant A, 1.33 where weights pass, 1.69 where '
-    'a cycle is shown and 1.23 for quoting; the other rows against C differ by a sixteenth or less. The library as it was before a graph had 16-bit numbers and '
-    'before the table of walks was lent to each start, measured in turn with this one in four layouts: showing a cycle of plant A took 2.02 times as long as C '
-    '(now 1.84), listing its machine 1 took 2.33 times as long (now 2.05). Ten more rows measured so are the same within their spread: weighing plant A and at the '
-    'limits that passes, showing a cycle of ten machines and at the limits, quoting for plant A and at the limits, counting and filling the ring of 12, counting '
-    'the chain that leads back over a state that was left, and confirming.')
+    'Two full runs of the same code, one after the other, of which this page has the second. The first had, for plant A, 1.25 where weights pass, 1.88 where '
+    'a cycle is shown and 1.22 for quoting; where every machine is searched, 1.16 and 0.97; at the limits 1.26 where weights pass, and 1.27 and 1.25 for quoting. '
+    'These three depend on the machine: C with the arrays of the proved call misses the goal there as well, and on another machine the same loop took 1.10 to 1.12 '
+    'times as long as the peer. Against the library before the cycle shown was a shortest one of all machines (`bench/run --against`, twice on this machine), plant A takes '
+    '0.90 and 0.90 of the time where weights pass, 0.96 and 1.01 where a cycle is shown, 0.85 and 0.94 for quoting; every other row with the same work is within 3 hundredths of it. Where 16 '
+    'machines fail and none has a cycle of fewer than 64 rows, all are searched, which takes 15 times as long as to search the first.')
 
 # Why a goal is missed: for keys of bench/run that begin with the first word. The evidence is from `perf` and from the machine
 # code (`objdump -d dist/libhemtaluq.a`) of the library at the time of writing; look again when the crates have changed.
@@ -137,7 +137,7 @@ The proved calls against the same calls in plain C, against SPIN and against GLP
 
     bench/run
 
-which builds everything, measures, prints the tables and writes this page; `bench/run --quick` has fewer inputs and does not write it.
+which builds everything, measures, prints the tables and writes this page; `bench/run --quick` has fewer inputs and does not write it, and `bench/run --against OTHER.a` measures against another build of the library, such as the one before a change, and does not write it either.
 It needs gcc, binutils, spin and glpk-utils, all from Debian, and the kit's `rt`, which builds dist/ anew where the source changed. The gate does not run it.
 
 Every figure of time is a ratio of two things that were measured in turn, in one program (generating and compiling for SPIN: by processes, in turn).
@@ -152,7 +152,8 @@ work: a ratio moves by a tenth from run to run, on plant A and the ring of 16 by
 relaxation in place in 32 bits, the same search for a cycle by exact lengths, depth-first listing over adjacency lists with bits for the states left and for dead ends, price classes by leading
 zeros. Before measuring, both gave the same answers and left the same in the lent lists on {cases} random inputs, whole and damaged, and on
 every input below. The files are in the cache; no buffer is cleared between two calls. Below 1 the proved call is faster. The goal is 1.2; 1.4 on plant A where weights pass, 2 where a cycle is shown, and 2 for listing.
-Both show a cycle with the fewest rows; a program that may show any cycle could take it from the predecessors of the last round, without a search, and this was not measured.
+Both show a cycle with the fewest rows of all machines, by the same search with the same falling limit: at worst every machine fails and has no shorter cycle than the first, and the search makes 64 rounds
+from each of 64 states over 1,024 rows, less a round from each state for every machine behind the first. A program that may show any cycle could take it from the predecessors of the last round, without a search, and this was not measured.
 
 {calls}
 
@@ -186,7 +187,7 @@ logarithm of the time over that of the size. It is below 1 where reading and the
 
 ## Stack and size
 
-The stack was painted, the call was run on it, and the deepest byte that changed was looked for. No call allocates.
+The stack was painted, the call was run on it, and the deepest byte that changed was looked for; the loader has bound all symbols before. No call allocates.
 
 {stack}
 

@@ -161,11 +161,11 @@ static int decide(const struct edge *e, unsigned count, unsigned states, int32_t
 
 #define NO_WALK (-1000000000)
 
-/* The closed walk with the fewest rows that weighs zero or more: exact lengths from each start, then back through the tables. */
-static unsigned show(const struct edge *e, unsigned count, unsigned states, uint16_t *cycle) {
+/* The closed walk with the fewest rows, at most `limit`, that weighs zero or more: exact lengths from each start, then back through the
+ * tables. Its rows go to `best`; one more than the limit, and nothing written, if there is none. */
+static unsigned show(const struct edge *e, unsigned count, unsigned states, unsigned limit, uint16_t *best) {
     int32_t walk[65][64];
-    uint16_t best[64];
-    unsigned length = states + 1;
+    unsigned length = limit + 1;
     for (unsigned start = 0; start < states && length > 1; start++) {
         for (unsigned s = 0; s < states; s++) walk[0][s] = NO_WALK;
         walk[0][start] = 0;
@@ -188,7 +188,6 @@ static unsigned show(const struct edge *e, unsigned count, unsigned states, uint
             break;
         }
     }
-    for (unsigned i = 0; i < length; i++) cycle[i] = best[i];
     return length;
 }
 
@@ -216,20 +215,27 @@ static void figures(const struct table *t, const int32_t *laid, hemtaluq_weigh_a
     a->per_progress = n - 1 + n * n * w;
 }
 
-/* F, n and G for weights that pass; otherwise the rows of a cycle, if they are wanted. */
+/* F, n and G for weights that pass; otherwise the rows of a shortest cycle of all machines, if they are wanted. */
 INLINE hemtaluq_weigh_answer weigh_table(const struct table *t, const int32_t *laid, uint16_t *cycle, int shown) {
     hemtaluq_weigh_answer a = {0};
     struct edge e[256];
+    uint16_t best[64];
+    unsigned least = 65;
     figures(t, laid, &a);
     a.kind = HEMTALUQ_PASSED;
     for (unsigned m = 0; m < t->machines; m++) {
-        unsigned count = edges_of(t, m, laid, e);
-        if (decide(e, count, t->states[m], (int32_t)a.most_states)) continue;
-        a.base = a.most_states = a.per_progress = 0;
+        unsigned count = edges_of(t, m, laid, e), states = t->states[m];
+        if (decide(e, count, states, (int32_t)a.most_states)) continue;
         a.kind = HEMTALUQ_CYCLE;
-        if (shown) a.rows = show(e, count, t->states[m], cycle);
-        break;
+        if (!shown) break;
+        unsigned limit = states < least - 1 ? states : least - 1, k = show(e, count, states, limit, best);
+        if (k <= limit) least = k;
     }
+    if (a.kind == HEMTALUQ_PASSED) return a;
+    a.base = a.most_states = a.per_progress = 0;
+    if (!shown) return a;
+    a.rows = least;
+    for (unsigned i = 0; i < least; i++) cycle[i] = best[i];
     return a;
 }
 

@@ -12,8 +12,9 @@
  * Versions: the linker's name of a call carries its revision, which the macros below add. A call whose struct or arguments
  * change gets the next revision, and then an object compiled with the old header does not link: its symbol is missing.
  * HEMTALUQ_VERSION rises with every change of what this header declares, also where structs and arguments stay (a kind,
- * a fault number, a limit). hemtaluq_version answers the version of the library that was linked, so a program can see at
- * its start whether that is the library of its header: hemtaluq_version() == HEMTALUQ_VERSION.
+ * what a kind promises, a fault number, a limit). hemtaluq_version answers the version of the library that was linked, so
+ * a program can see at its start whether that is the library of its header: hemtaluq_version() == HEMTALUQ_VERSION.
+ * 1: the first. 2: the cycle that weigh shows is a shortest one.
  */
 #ifndef HEMTALUQ_H
 #define HEMTALUQ_H
@@ -21,7 +22,7 @@
 #include <stddef.h>
 #include <stdint.h>
 
-#define HEMTALUQ_VERSION 1
+#define HEMTALUQ_VERSION 2
 
 #define hemtaluq_read hemtaluq_read_v1
 #define hemtaluq_weigh hemtaluq_weigh_v1
@@ -41,7 +42,7 @@ enum hemtaluq_kind {
     HEMTALUQ_REFUSED = 0,   /* a fault: number and place */
     HEMTALUQ_COUNTS = 1,    /* read: the file reads as a plant */
     HEMTALUQ_PASSED = 2,    /* weigh: every quiet simple cycle weighs below zero */
-    HEMTALUQ_CYCLE = 3,     /* weigh: a quiet simple cycle that weighs zero or more was written to the lent list */
+    HEMTALUQ_CYCLE = 3,     /* weigh: a shortest quiet simple cycle that weighs zero or more was written to the lent list */
     HEMTALUQ_CEILING = 4,   /* quote: a ceiling and its price class */
     HEMTALUQ_LISTED = 5,    /* list: the simple cycles were written to the lent list */
     HEMTALUQ_CONFIRMED = 6, /* confirm: the set is balanced */
@@ -103,8 +104,9 @@ hemtaluq_read_answer hemtaluq_read(const uint8_t *file, size_t file_length);
  * Passed: from any states and any contents, in whichever order the machines move and whatever the bus loses, the quiet
  * rows that happen number at most base + most_states * W + per_progress * g, where W sums weight times opening content
  * over the types and g counts the progress rows that happen. The list keeps its contents.
- * Cycle: the first entries of the list are the rows of a quiet simple cycle that weighs zero or more, in running order;
- * its later entries are kept. */
+ * Cycle: the first entries of the list are the rows of a shortest quiet simple cycle that weighs zero or more, in running
+ * order: no such cycle of any machine has fewer rows. Which of equally short ones it is, and with which of its rows it
+ * begins, is free. The later entries of the list are kept. */
 typedef struct {
     uint8_t kind;          /* HEMTALUQ_PASSED, HEMTALUQ_CYCLE or HEMTALUQ_REFUSED */
     uint8_t number;        /* refused: the number of the fault */

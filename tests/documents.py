@@ -259,7 +259,7 @@ def proved_bytes(path, name, argument=None):
 def hold_examples():
     run, proved = 'crates/worked_examples_run/src/plants.rt', 'crates/worked_examples/specs/Files.antt'
     for folder, const, name in (('plant_a', 'PLANT_A', 'fileA'), ('plant_b', 'PLANT_B', 'fileB'), ('two_clients', 'TWO_CLIENTS', 'twoClients'),
-                                ('two_clients_in_turn', 'TWO_CLIENTS_IN_TURN', 'twoClientsInTurn')):
+                                ('two_clients_in_turn', 'TWO_CLIENTS_IN_TURN', 'twoClientsInTurn'), ('detour', 'DETOUR', 'detour')):
         with open(os.path.join(ROOT, 'examples', folder, 'plant.bin'), 'rb') as source:
             held = source.read()
         literal = re.search(const + r': \[u8; \d+\] =\s+\*b"([^"]*)"', read(run)).group(1)

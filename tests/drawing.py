@@ -1,8 +1,8 @@
 """Compare the Graphviz text of tools/draw with texts written by hand from the plants.
 
-Plant A is compared whole. For the published test's running example, the rows of the cycle that `ceiling` shows are the
-red ones, and each client's computation is an edge without a message, client 0's with the mark of progress. tools/draw builds
-`ceiling` itself.
+Plant A is compared whole. For the published test's running example, the rows of the shortest quiet cycle that `ceiling` shows are
+the red ones, and each client's computation is an edge without a message, client 0's with the mark of progress. In the plant with a
+detour the feeder's two rows are red, and not the fan's five. tools/draw builds `ceiling` itself.
 
     python3 tests/drawing.py
 """
@@ -33,6 +33,7 @@ PLANT_A = '''digraph plant {
 '''
 SERVER_RED = ['m2s0 -> m2s3 [label="11 ?3", color=red, fontcolor=red];', 'm2s3 -> m2s4 [label="12 !4", color=red, fontcolor=red];',
               'm2s4 -> m2s0 [label="13 ?5", color=red, fontcolor=red];']
+FEEDER_RED = ['m3s0 -> m3s1 [label="9", color=red, fontcolor=red];', 'm3s1 -> m3s0 [label="13", color=red, fontcolor=red];']
 COMPUTATIONS = ['m0s2 -> m0s3 [label="2 ★", color="black:white:black"];', 'm1s2 -> m1s3 [label="6"];']
 
 
@@ -52,9 +53,11 @@ def main():
     lines = [line.strip() for line in text.split('\n')]
     if code != 0 or [line for line in lines if 'red' in line] != SERVER_RED or any(line not in lines for line in COMPUTATIONS):
         sys.exit('drawing.py: the running example is drawn otherwise')
+    if [line.strip() for line in draw(*files('detour'))[1].split('\n') if 'red' in line] != FEEDER_RED:
+        sys.exit('drawing.py: the plant with a detour is drawn otherwise')
     if 'red' in draw(*files('two_clients_in_turn'))[1] or draw('README.md')[0] == 0:
         sys.exit('drawing.py: weights that pass have no red rows, and what is no plant is not drawn')
-    print('drawing.py: three plants are drawn as they are')
+    print('drawing.py: four plants are drawn as they are')
 
 
 if __name__ == '__main__':

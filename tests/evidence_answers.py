@@ -51,7 +51,7 @@ def owed(other, call, plant, q, got):
         return answer + ' kept'
     first, *rows, last = got.split()
     shown = first == 'cycle' and last == 'kept' and all(x.isdigit() for x in rows) and other.shows(plant, q.weights, [int(x) for x in rows])
-    return got if shown else 'a quiet simple cycle of weight zero or more, the rest kept'
+    return got if shown else 'a shortest quiet simple cycle of weight zero or more, the rest kept'
 
 
 def disagreement(other, q, got):
@@ -154,6 +154,8 @@ def edges():
             yield calls.request(bytes([1, 1, 1, 0]), [1], contents=[min(amount, 1000000)], calls=('quote',))
     for last in (3, 4, 5, 6, 254, 255):
         yield calls.request(bytes([5, 0] + ([1, 255] + [16] * 255) * 4 + [1, last] + [16] * last))
+    for machines in plants.detours():
+        yield calls.request(plants.plant_file(random.Random(0), 2, machines), [1, 2], calls=('weigh',))
     for weight in (999, 1000, 1001):
         yield calls.request(plants.PLANT_A, [weight, 1], contents=[0, 0], calls=('weigh', 'quote'))
 

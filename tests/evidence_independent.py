@@ -1,8 +1,9 @@
 """An independent implementation of the scope document: reading, weighing, quoting, listing, confirming, and the line of `ceiling`.
 
 It was written from the document, not from the definitions or the code, and goes through all cycles wherever that is
-feasible: weights are judged on every quiet simple cycle, listings are made by enumeration and sorting. Where a machine
-has too many cycles for that, weights are judged by the greatest mean weight of a quiet cycle (weighing.py).
+feasible: weights are judged on every quiet simple cycle, the fewest rows of one are counted there, listings are made by
+enumeration and sorting. Where a machine has too many cycles for that, weights are judged by the greatest mean weight of a
+quiet cycle, and the fewest rows by walks of exact lengths (weighing.py).
 
 Each decision that a reader of the document could get wrong is a method of its own. PLANTED has copies with one error
 each; the comparisons in evidence_answers.py and evidence_program.py must find every one of them.
@@ -145,7 +146,7 @@ class Independent:
             self.by_mean += 1
             mean = weighing.greatest_mean(plant.states[machine], weighing.quiet_edges(plant, machine, weights))
             return mean is None or self.good(mean)
-        return all(self.good(sum(w * e for w, e in zip(weights, self.effect(plant, c)))) for c in cycles)
+        return all(self.good(self.weight(plant, weights, c)) for c in cycles)
 
     def passes(self, plant, weights):
         """Weighing and quoting ask the same of one plant; the last answer is kept."""
@@ -167,15 +168,38 @@ class Independent:
             if w > 1000:
                 raise Refused(10, i)
 
+    def weight(self, plant, weights, cycle):
+        return sum(w * e for w, e in zip(weights, self.effect(plant, cycle)))
+
+    def fewest_in(self, cycles):
+        """The fewest rows of cycles that are given with their weights."""
+        return min(len(c) for c, _ in cycles)
+
+    def searched(self, counts):
+        """Of the fewest rows of each machine that fails, those that are compared."""
+        return counts
+
+    def fewest(self, plant, weights):
+        """The fewest rows of a quiet simple cycle that weighs zero or more, of all machines."""
+        counts = []
+        for m in range(len(plant.states)):
+            try:
+                failing = [(c, w) for c, w in ((c, self.weight(plant, weights, c)) for c in self.quiet_cycles(plant, m)) if not self.good(w)]
+                counts += [self.fewest_in(failing)] if failing else []
+            except TooMany:
+                count = weighing.fewest_rows(plant.states[m], weighing.quiet_edges(plant, m, weights), self.good)
+                counts += [count] if count else []
+        return min(self.searched(counts))
+
     def shows(self, plant, weights, cycle):
-        """Whether a list of rows is a quiet simple cycle that weighs zero or more."""
+        """Whether a list of rows is a quiet simple cycle that weighs zero or more, and none has fewer rows."""
         if not cycle or any(k >= len(plant.rows) for k in cycle):
             return False
         rows = [plant.rows[k] for k in cycle]
         turned = rows[1:] + rows[:1]
         return (all(r.machine == rows[0].machine and r.entered == t.left for r, t in zip(rows, turned))
                 and len({r.left for r in rows}) == len(rows) and self.is_quiet(rows)
-                and not self.good(sum(w * e for w, e in zip(weights, self.effect(plant, cycle)))))
+                and not self.good(self.weight(plant, weights, cycle)) and len(rows) == self.fewest(plant, weights))
 
     def weigh(self, plant, weights, room):
         """What is owed: figures, or None where a cycle is to be shown."""
@@ -281,7 +305,7 @@ class Independent:
             return None if line == owed + '\n' else owed
         words = line[:-1].split(' ')
         right = line.endswith('\n') and words[0] == 'cycle' and all(w.isdigit() and str(int(w)) == w for w in words[1:])
-        return None if right and self.shows(plant, weights, [int(w) for w in words[1:]]) else 'a cycle that weighs zero or more'
+        return None if right and self.shows(plant, weights, [int(w) for w in words[1:]]) else 'a shortest cycle that weighs zero or more'
 
 
 # ---- planted errors
@@ -310,6 +334,10 @@ WEIGHING_ERRORS = [
     planted('only cycles through state 0 are judged', starts=lambda self, states: range(1)),
     planted('a cycle with one progress row is quiet', is_quiet=lambda self, rows: sum(r.progress for r in rows) <= 1),
     planted('n is taken from the first machine', most_states=lambda self, plant: plant.states[0]),
+    planted('the shortest cycle of the first machine that fails is shown', searched=lambda self, counts: counts[:1]),
+    planted('the shortest cycle of the last machine that fails is shown', searched=lambda self, counts: counts[-1:]),
+    planted('the first cycle found is shown', fewest_in=lambda self, cycles: len(cycles[0][0])),
+    planted('the lightest cycle is shown', fewest_in=lambda self, cycles: len(min(cycles, key=lambda c: c[1])[0])),
 ]
 QUOTING_ERRORS = [
     planted('an edge equal to the ceiling does not count', price_class=lambda self, c: sum(2 ** k < c for k in range(43))),
@@ -333,4 +361,5 @@ PROGRAM_ERRORS = [
     planted('an odd last byte is dropped', weights_of=lambda self, data: Independent.weights_of(self, data[:len(data) // 2 * 2])),
     planted('the count of weights is not judged', check_weights=lambda self, plant, weights: None),
     planted('weight zero is good', good=lambda self, weight: weight <= 0),
+    planted('the shortest cycle of the first machine that fails is shown', searched=lambda self, counts: counts[:1]),
 ]

@@ -125,7 +125,42 @@ def exchange(rng):
     return types, machines
 
 
-SHAPES = [(small, 340), (exchange, 50), (many_machines, 90), (first_not_largest, 120), (one_state, 70), (many_types, 80), (rings, 90), (passing, 140), (large, 20)]
+def quiet_ring(states, sent=None):
+    """A ring through so many states; its first row sends a type or nothing."""
+    return states, [(s, (s + 1) % states, sent if s == 0 else None, None, False) for s in range(states)]
+
+
+def detours():
+    """Plants whose shortest failing cycle is not the first, the last or the lightest; types 0 and 1 weigh 1 and 2, and no other row is sent or taken."""
+    passing, loop = (2, [(0, 1, 0, None, False), (1, 0, None, 1, False)]), (1, [(0, 0, None, None, False)])
+    yield [quiet_ring(3), quiet_ring(2, 1)]
+    yield [quiet_ring(2, 1), quiet_ring(3)]
+    yield [quiet_ring(64), loop]
+    yield [loop, quiet_ring(64)]
+    yield [quiet_ring(64), quiet_ring(63), quiet_ring(64)]
+    yield [quiet_ring(5), quiet_ring(5, 0), quiet_ring(5)]
+    yield [passing, quiet_ring(4), passing, quiet_ring(3), passing]
+    yield [passing, quiet_ring(64), passing]
+    yield [quiet_ring(64)] * 16
+    # From state 0 the cycle found has three rows and weighs 0; one of two rows, which weighs 2, goes from state 1.
+    yield [(3, [(0, 1, None, None, False), (1, 2, None, None, False), (2, 0, None, None, False), (2, 1, 1, None, False)])]
+    # A row cuts the first ring short, to 41 rows; there is no cycle in the second machine, and one of 42 rows in the third.
+    yield [(64, quiet_ring(64)[1] + [(40, 0, 0, None, False)]), (2, []), quiet_ring(42)]
+
+
+def short_cuts(rng):
+    """Machines with a ring of many states and rows that cut it short, most of it quiet: failing cycles of many lengths and weights."""
+    types, machines = rng.choice([1, 2, 3]), []
+    for _ in range(rng.randint(1, 5)):
+        states = rng.choice([1, 2, 3, 5, 8, 13, 64])
+        rows = [(s, (s + 1) % states) + message(rng, types) + (rng.random() < 0.04,) for s in range(states)]
+        rows += [(rng.randrange(states), rng.randrange(states)) + message(rng, types) + (rng.random() < 0.3,) for _ in range(rng.randint(0, 4))]
+        rng.shuffle(rows)
+        machines.append((states, rows))
+    return types, machines
+
+
+SHAPES = [(small, 300), (short_cuts, 60), (exchange, 50), (many_machines, 90), (first_not_largest, 100), (one_state, 70), (many_types, 80), (rings, 90), (passing, 140), (large, 20)]
 
 
 def weights_for(rng, types):

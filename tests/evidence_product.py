@@ -48,6 +48,17 @@ WEIGHING = [
     Edit('w is the sum of the weights', ('weigh', 'quote'), 'if ((uint64_t)laid[i] > w) w = ', 'w += '),
     Edit('G lacks n - 1', ('weigh',), 'n - 1 + n * n * w', 'n * n * w'),
     Edit('rows are shown by their place in the machine', ('weigh',), 'best[i] = e[j].row', 'best[i] = (uint16_t)j'),
+    Edit('the shortest cycle of the first machine that fails is shown', ('weigh',), 'if (k <= limit) least = k;', 'if (k <= limit) least = k;\n        break;'),
+    Edit('the shortest cycle of the last machine that fails is shown', ('weigh',), 'states < least - 1 ? states : least - 1', 'states'),
+    Edit('the first cycle found is shown', ('weigh',), 'length > 1; start++', 'length > limit; start++'),
+    Edit('of the machines\' shortest cycles the lightest is shown', ('weigh',),
+         'unsigned limit = states < least - 1 ? states : least - 1, k = show(e, count, states, limit, best);\n        if (k <= limit) least = k;',
+         'uint16_t own[64];\n        unsigned k = show(e, count, states, states, own);\n        int32_t mine = 0, lightest = 0;\n'
+         '        for (unsigned i = 0; i < k; i++) mine += laid[t->sent[own[i]]] - laid[t->taken[own[i]]];\n'
+         '        for (unsigned i = 0; least < 65 && i < least; i++) lightest += laid[t->sent[best[i]]] - laid[t->taken[best[i]]];\n'
+         '        if (least == 65 || mine < lightest) memcpy(best, own, sizeof own), least = k;'),
+    Edit('a longer cycle leaves its rest behind a shorter one', ('weigh',), 'uint16_t best[64];\n    unsigned least', 'uint16_t *best = cycle;\n    unsigned least'),
+    Edit('a cycle as long as the machine has states is passed over', ('weigh',), 'states < least - 1 ? states :', 'states < least - 1 ? states - 1 :'),
     Shim('the list is changed where weights pass', ('weigh',), 'if (a.kind == HEMTALUQ_PASSED) cycle[63] ^= 1;'),
     Shim('the list is changed with a refusal', ('weigh',), 'if (a.kind == HEMTALUQ_REFUSED && cycle_length) cycle[0] ^= 1;'),
     Shim('the entry behind the cycle is changed', ('weigh',), 'if (a.kind == HEMTALUQ_CYCLE && a.rows < cycle_length) cycle[a.rows] ^= 1;'),

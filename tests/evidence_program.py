@@ -3,6 +3,8 @@
 Each case is a folder with plant.bin and weights.bin, whole, damaged, of odd length, empty or missing; in place of a file
 there may also be a link to nothing or a folder, which cannot be read and counts as empty. Where standard output is full or
 closed, a line on standard error says that nothing was written; the exit code is 0 then too, for the kit has no other.
+The stored runs of the gate are held so too, and a stored cycle must be the only shortest one of its plant, of one row: a cycle may begin at
+any of its rows, so that no other line is right.
 """
 import os
 import random
@@ -44,12 +46,14 @@ def fixed_cases():
         yield data, bytes(2 * 64)
         yield data, bytes(2 * 64 + 1)
         yield data, b''
+    for machines in plants.detours():
+        yield plants.plant_file(random.Random(0), 2, machines), weights_bytes([1, 2])
     for length in (126, 127, 128, 129, 130, 131, 4095, 4096, 4097, 70000):
         yield bytes([1, 64, 1, 0]), b'\x01\x00' * (length // 2) + b'\x01' * (length % 2)
 
 
 def drawn_cases(rng, count):
-    makers = [plants.small, plants.passing, plants.rings, plants.exchange, plants.first_not_largest, plants.many_types, plants.large]
+    makers = [plants.small, plants.short_cuts, plants.passing, plants.rings, plants.exchange, plants.first_not_largest, plants.many_types, plants.large]
     for _ in range(count):
         types, machines = rng.choice(makers)(rng)
         data = plants.plant_file(rng, types, machines)
@@ -91,6 +95,35 @@ def hold_not_written():
             sys.exit('evidence: program: ceiling %s: exit code %d, %r, %r' % (output, done.returncode, done.stdout, done.stderr))
 
 
+def stored(crate, *names):
+    """A file of a stored run, or None."""
+    path = os.path.join(building.ROOT, 'crates', crate, *names)
+    if not os.path.exists(path):
+        return None
+    with open(path, 'rb') as source:
+        return source.read()
+
+
+def hold_stored():
+    """The stored runs: each line is a right one, and the only one."""
+    shown = 0
+    for crate in sorted(os.listdir(os.path.join(building.ROOT, 'crates'))):
+        line = stored(crate, 'stdout') if crate.startswith('ceiling') else None
+        if line is None:
+            continue
+        plant, weights = stored(crate, 'data', 'plant.bin'), stored(crate, 'data', 'weights.bin')
+        owed = INDEPENDENT.judge_line(plant, weights, line.decode('ascii'))
+        if owed:
+            sys.exit('evidence: program: the stored run of %s has %r, but owed is %s' % (crate, line, owed))
+        if line.startswith(b'cycle'):
+            read, numbers = INDEPENDENT.plant(plant), INDEPENDENT.weights_of(weights)
+            if INDEPENDENT.fewest(read, numbers) != 1 or sum(INDEPENDENT.shows(read, numbers, [k]) for k in range(len(read.rows))) != 1:
+                sys.exit('evidence: program: the stored run of %s shows a cycle where several qualify' % crate)
+            shown += 1
+    if not shown:
+        sys.exit('evidence: program: no stored run shows a cycle')
+
+
 def changed_line(line, first, change):
     words = line.split()
     return ' '.join([first, *change(*words[1:])]) + '\n' if words[0] == first else line
@@ -109,6 +142,7 @@ def catches(pairs):
 
 def main(seed, long):
     hold_not_written()
+    hold_stored()
     cases = list(fixed_cases()) + list(drawn_cases(random.Random(seed + 4), CASES * (5 if long else 1)))
     pairs = [(plant, weights, line_of(plant, weights, i % 3)) for i, (plant, weights) in enumerate(cases)]
     kinds = {}

@@ -114,6 +114,11 @@ static void weighing(void) {
     weigh_is("a list of 63", plant_a, sizeof plant_a, weights_2_1, 2, 63, r11, 0);
     hemtaluq_weigh_answer a = hemtaluq_weigh(plant_a, sizeof plant_a, w11, 2, cycle, 64);
     check("the probe's rows are shown", a.rows == 2 && ((cycle[0] == 2 && cycle[1] == 3) || (cycle[0] == 3 && cycle[1] == 2)));
+    /* A ring of three rows, one of two and one of three: the shortest, in the second machine, and nothing of the first behind it. */
+    const uint8_t rings[] = {3, 0, 3, 3, 2, 1, 3, 1, 2, 3, 2, 0, 2, 2, 2, 1, 3, 1, 0, 3, 3, 2, 1, 3, 1, 2, 3, 2, 0};
+    weigh_is("three rings, later entries", rings, sizeof rings, no_weights, 0, 64, shown, 2);
+    a = hemtaluq_weigh(rings, sizeof rings, no_weights, 0, cycle, 64);
+    check("the shortest ring is shown", a.rows == 2 && ((cycle[0] == 3 && cycle[1] == 4) || (cycle[0] == 4 && cycle[1] == 3)));
     a = hemtaluq_weigh(largest, HEMTALUQ_LONGEST_FILE, ones, 64, cycle, 64);
     /* S is 16 * 63, n 64 and w 1. */
     check("the largest plant passes", a.kind == HEMTALUQ_PASSED && a.base == 1008 + 64 * 1008 && a.most_states == 64 && a.per_progress == 63 + 64 * 64);

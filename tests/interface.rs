@@ -6,6 +6,8 @@ use hemtaluq::{Confirmed, Counts, Fault, Quote, Weighed};
 
 const PLANT_A: [u8; 20] = [2, 2, 2, 2, 0x06, 1, 0, 0x1B, 1, 0, 1, 2, 2, 0x0A, 1, 0, 0x07, 1, 0, 1];
 const PLANT_B: [u8; 20] = [2, 2, 2, 2, 0x06, 1, 0, 0x0B, 1, 0, 1, 2, 2, 0x0A, 1, 0, 0x07, 1, 0, 1];
+// A ring of three rows, and one of two.
+const RINGS: [u8; 19] = [2, 0, 3, 3, 2, 1, 3, 1, 2, 3, 2, 0, 2, 2, 2, 1, 3, 1, 0];
 
 fn fault(number: u8, place: usize) -> Fault {
     Fault { number, place }
@@ -19,6 +21,8 @@ fn main() {
     assert_eq!(hemtaluq::weigh(&PLANT_A, &[2, 1]), Ok(Weighed::Passed { base: 10, most_states: 2, per_progress: 9 }));
     let shown = hemtaluq::weigh(&PLANT_A, &[1, 1]);
     assert!(shown == Ok(Weighed::Cycle(vec![2, 3])) || shown == Ok(Weighed::Cycle(vec![3, 2])));
+    let shortest = hemtaluq::weigh(&RINGS, &[]);
+    assert!(shortest == Ok(Weighed::Cycle(vec![3, 4])) || shortest == Ok(Weighed::Cycle(vec![4, 3])));
     assert_eq!(hemtaluq::weigh(&PLANT_A, &[2, 1001]), Err(fault(10, 1)));
     assert_eq!(hemtaluq::quote(&PLANT_A, &[2, 1], &[3, 4], 1), Ok(Quote { ceiling: 39, price_class: 6 }));
     assert_eq!(hemtaluq::quote(&PLANT_A, &[2, 1], &[3, 4], 1_000_001), Err(fault(21, 2)));

@@ -3,7 +3,8 @@
 The second one was written from the scope document, in another way than the proved code: it reads with the second reader
 of reading.py and finds the greatest mean weight of a machine's quiet cycles (Karp's algorithm, in fractions); weights
 pass when every mean is below zero. On small machines it also goes through all simple cycles. A cycle that is shown is
-held to the words of the scope document. For weights that pass, random runs that put progress off are held to the bound.
+held to the words of the documents: it must have as few rows as any of the plant, which the heaviest walks of each exact
+length tell. For weights that pass, random runs that put progress off are held to the bound.
 
 `tests/compiled.py` runs it.
 """
@@ -49,31 +50,72 @@ def greatest_mean(states, edges):
 
 
 def cycles(states, edges):
-    """The weights of all simple cycles, each from its lowest state."""
+    """The weights and the numbers of rows of all simple cycles, each from its lowest state."""
     def extend(start, at, left, weight):
         for a, b, w in edges:
             if a != at:
                 continue
             if b == start:
-                yield weight + w
+                yield weight + w, len(left)
             elif b > start and b not in left:
                 yield from extend(start, b, left | {b}, weight + w)
     for s in range(states):
         yield from extend(s, s, {s}, 0)
 
 
-def passes(plant, weights):
+def on_cycles(edges):
+    """The edges without those from a state that nothing enters, or to one that nothing leaves: these are on no cycle."""
+    while True:
+        left, entered = {a for a, _, _ in edges}, {b for _, b, _ in edges}
+        kept = [(a, b, w) for a, b, w in edges if a in entered and b in left]
+        if len(kept) == len(edges):
+            return kept
+        edges = kept
+
+
+def fewest_rows(states, edges, good=lambda weight: weight < 0):
+    """The least number of edges of a closed walk that is not good, or None: a shortest such walk is a simple cycle.
+
+    For each number, and each pair of states, the heaviest walk of exactly so many edges from the one to the other."""
+    edges = on_cycles(edges)
+    walks = {(s, s): 0 for s, _, _ in edges}
+    for k in range(1, states + 1):
+        longer = {}
+        for (start, at), weight in walks.items():
+            for a, b, w in edges:
+                if a == at and weight + w > longer.get((start, b), -10 ** 9):
+                    longer[start, b] = weight + w
+        walks = longer
+        if any(start == at and not good(weight) for (start, at), weight in walks.items()):
+            return k
+    return None
+
+
+def failing(plant, weights):
+    """The count of states and the quiet edges of each machine with a cycle that weighs zero or more."""
     _, states, _ = plant
     for m, n in enumerate(states):
         edges = quiet_edges(plant, m, weights)
         mean = greatest_mean(n, edges)
-        if n <= 4 and len(edges) <= 8:
-            greatest = max(cycles(n, edges), default=None)
-            if (greatest is None or greatest < 0) != (mean is None or mean < 0):
-                sys.exit('weighing.py: the two ways to judge a machine differ')
-        if mean is not None and mean >= 0:
-            return False
-    return True
+        fails = mean is not None and mean >= 0
+        if n <= 4 and len(edges) <= 8 and fails != any(w >= 0 for w, _ in cycles(n, edges)):
+            sys.exit('weighing.py: the two ways to judge a machine differ')
+        if fails:
+            yield n, edges
+
+
+def passes(plant, weights):
+    return next(failing(plant, weights), None) is None
+
+
+def fewest_of_all(plant, weights):
+    """The least number of rows of a quiet simple cycle that weighs zero or more, of all machines, or None where the weights pass."""
+    counts = []
+    for n, edges in failing(plant, weights):
+        counts.append(fewest_rows(n, edges))
+        if n <= 4 and len(edges) <= 8 and counts[-1] != min(k for w, k in cycles(n, edges) if w >= 0):
+            sys.exit('weighing.py: the two ways to count the fewest rows differ')
+    return min(counts, default=None)
 
 
 def figures(plant, weights):
@@ -111,13 +153,13 @@ def judge(data, weights, room, before, line):
         if answer != ['refused'] + [str(x) for x in fault.args] or after != before:
             return 'refused %d %d, list kept' % fault.args
         return None
-    if passes(plant, weights):
+    k = fewest_of_all(plant, weights)
+    if k is None:
         owed = 'passed %d %d %d' % figures(plant, weights)
         return None if ' '.join(answer) == owed and after == before else owed + ', list kept'
-    k = int(answer[1]) if answer[0] == 'cycle' else 0
-    if answer[0] == 'cycle' and 1 <= k <= 64 and is_failing_cycle(plant, weights, after[:k]) and after[k:] == before[k:]:
+    if answer == ['cycle', str(k)] and is_failing_cycle(plant, weights, after[:k]) and after[k:] == before[k:]:
         return None
-    return 'a quiet simple cycle of weight zero or more, the rest of the list kept'
+    return 'a quiet simple cycle of weight zero or more with %d rows, the rest of the list kept' % k
 
 
 # ---- runs

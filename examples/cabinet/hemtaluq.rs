@@ -1,7 +1,7 @@
 //! Safe wrappers around the C interface of Hemtaluq: slices in, enums out.
 
 /// The version of the interface that these wrappers are written for.
-pub const VERSION: u32 = 1;
+pub const VERSION: u32 = 2;
 
 /// Why a call was refused: the number of the fault and where it was met.
 #[derive(Debug, Clone, Copy, PartialEq, Eq)]
@@ -48,7 +48,7 @@ pub struct Counts {
     pub rows: usize,
 }
 
-/// What weighing says: F, n and G, or the rows of a quiet simple cycle that weighs zero or more.
+/// What weighing says: F, n and G, or the rows of a shortest quiet simple cycle that weighs zero or more.
 #[derive(Debug, Clone, PartialEq, Eq)]
 pub enum Weighed {
     Passed { base: u64, most_states: u64, per_progress: u64 },

@@ -70,7 +70,7 @@ pub struct ConfirmAnswer {
     pub sum: i64,
 }
 
-const VERSION: u32 = 1;
+const VERSION: u32 = 2;
 
 // The version of this library's interface. This export has no revision: what it means never changes.
 #[no_mangle]

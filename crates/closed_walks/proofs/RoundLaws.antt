@@ -36,9 +36,9 @@ halves-in (inl h) = (omega (arith, h .0), omega (arith, h .1))
 halves-in (inr h) = (omega (arith, h .0), omega (arith, h .1))
 
 -- and after a round they change places.
-pub halves-swap : (old : ℕ) → Halves old (64 - old) → Halves (64 - old) (64 - (64 - old))
-halves-swap old (inl h) = inr (h .1, omega (arith, h .1))
-halves-swap old (inr h) = inl (h .1, omega (arith, h .1))
+pub halves-swap : {old new : ℕ} → Halves old new → Halves new old
+halves-swap (inl h) = inr (h .1, h .0)
+halves-swap (inr h) = inl (h .1, h .0)
 
 -- ---- clearing a table
 

@@ -92,8 +92,8 @@ module _ {g : Graph} {states k old new : ℕ} {before after edges-before edges :
       go (no e) = rw (r .edges-kept (j * 64 + s) (omega (arith, ok .states-in))) (h j s (omega arith) l m)
 
 -- After k rounds from `start` the table at `old` has the walks of exactly k edges, and the first edges of the walks of 1 to k edges are noted.
-pub record Searched (g : Graph) (states start k old : ℕ) (walks noted : List ℕ) : Type 0 where
-  pub halves : Halves old (64 - old)
+pub record Searched (g : Graph) (states start k old new : ℕ) (walks noted : List ℕ) : Type 0 where
+  pub halves : Halves old new
   pub room : length walks ≡ 128
   pub edge-room : NotedRoom states noted
   pub exact : Exactly g states start k old walks
@@ -101,7 +101,7 @@ pub record Searched (g : Graph) (states start k old : ℕ) (walks noted : List �
 
 -- Before the first round.
 pub searched-first : (g : Graph) (states start : ℕ) (before walks noted : List ℕ) → states ≤ 64 → start < states → length before ≡ 128 → Cleared states 0 before walks
-    → NotedRoom states noted → Searched g states start 0 0 (set walks start origin) noted
+    → NotedRoom states noted → Searched g states start 0 0 64 (set walks start origin) noted
 searched-first g states start before walks noted few h long cleared room =
     record {
       halves = inl (refl, refl);
@@ -111,8 +111,8 @@ searched-first g states start before walks noted few h long cleared room =
       first-edges = λ j s x l m. absurd (not-suc-le-zero x);
     }
 
-module _ {g : Graph} {states start k old : ℕ} {walks noted cleared : List ℕ} (ok : Searchable g states) (h : Searched g states start k old walks noted)
-    (c : Cleared states (64 - old) walks cleared) where
+module _ {g : Graph} {states start k old new : ℕ} {walks noted cleared : List ℕ} (ok : Searchable g states) (h : Searched g states start k old new walks noted)
+    (c : Cleared states new walks cleared) where
   -- The table for the next round is cleared, and the walks of k edges are kept,
   exact-kept : Exactly g states start k old cleared
   exact-kept s l = cleared-other (h .halves) c s (omega (arith, ok .states-in)) ∙ h .exact s l
@@ -121,12 +121,12 @@ module _ {g : Graph} {states start k old : ℕ} {walks noted cleared : List ℕ}
   pub searched-low : k ≤ 64 → Low states old cleared
   searched-low = exactly-low ok start k old cleared exact-kept
 
-  module _ {after edges : List ℕ} (r : Round g (g .size) states old (64 - old) k cleared after noted edges) where
+  module _ {after edges : List ℕ} (r : Round g (g .size) states old new k cleared after noted edges) where
     -- One round more.
-    pub searched-next : Searched g states start (k + 1) (64 - old) after edges
+    pub searched-next : Searched g states start (k + 1) new old after edges
     searched-next =
         record {
-          halves = halves-swap old (h .halves);
+          halves = halves-swap (h .halves);
           room = r .same-length ∙ c .same-length ∙ h .room;
           edge-room = omega (arith, r .same-edges, h .edge-room);
           exact = exactly-next ok start exact-kept r;
@@ -134,14 +134,14 @@ module _ {g : Graph} {states start k old : ℕ} {walks noted cleared : List ℕ}
         }
 
 -- A walk of the table is worth no more than a round takes.
-pub searched-worth : {g : Graph} {states start k old : ℕ} {walks noted : List ℕ} → Searchable g states → Searched g states start k old walks noted
+pub searched-worth : {g : Graph} {states start k old new : ℕ} {walks noted : List ℕ} → Searchable g states → Searched g states start k old new walks noted
     → start < states → k ≤ 64 → entry walks old start ≤ 2199023255552
 searched-worth {start = start} {k = k} {old = old} {walks = walks} ok h l few = exactly-low ok start k old walks (h .exact) few start l
 
 -- ---- the sign of a walk's weight
 
 -- The code's signed number z is the weight of the heaviest closed walk of k edges from the start.
-module _ {g : Graph} {states start k old : ℕ} {walks noted : List ℕ} (h : Searched g states start k old walks noted) (l : start < states)
+module _ {g : Graph} {states start k old new : ℕ} {walks noted : List ℕ} (h : Searched g states start k old new walks noted) (l : start < states)
     (z : ℤ) (fits : SFits w64 z) (is-weight : z ≡ pos (entry walks old start) -ℤ pos origin) where
   is-difference : Difference (toZ w64 (ofZ w64 z)) (entry walks old start) origin
   is-difference = rw (toZ-ofZ fits, is-weight) (difference-minus (entry walks old start) origin)

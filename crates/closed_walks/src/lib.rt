@@ -4,7 +4,7 @@
 // `walks` has two tables, from 0 and from 64 on: for each state, the greatest weight of a walk of exactly k edges to the start, and of k + 1 edges.
 // `noted` has, from 64 × k on, the first edge of a heaviest walk of k + 1 edges from each state, so that the walk found can be written without a search.
 ghost use mathlib.Core.Path.{_≡_};
-ghost use Prim.Native.Nat.{_-_, _≤_, _<_};
+ghost use Prim.Native.Nat.{_≤_, _<_};
 ghost use lib.ListN.{length};
 ghost use lib.IntN.{pos, _-ℤ_};
 ghost use lib.Signed.{leZ};
@@ -44,21 +44,29 @@ fn clear(walks: &mut [u64; 128], at: usize, states: usize)
     }
 }
 
-// One edge, and on as far as the table at `old` says, from each state, into the other table; the edge is noted in the first edges from 64 × k on.
+// Where the table of the round before begins, and that of this round. Both are variables: from 64 - old the compiler would work out one place from the
+// other at each edge.
+struct Sides {
+    old: usize,
+    new: usize,
+}
+
+// One edge, and on as far as the old table says, from each state, into the new one; the edge is noted in the first edges from 64 × k on.
 // The number of a is read first: read just before the test, the compiler would store it at every edge, raised or not.
 fn round(
     edges: &[i16],
     count: usize,
     states: usize,
     walks: &mut [u64; 128],
-    old: usize,
+    sides: Sides,
     noted: &mut [u8],
     k: usize,
 )
-    requires { ⌜ EdgesIn states count (now edges) × RoundReady states old k (now walks) (now noted) ⌝ }
-    ensures { λ r. ⌜ Round (edgeGraph count (now (edges .entry))) count states old (64 - old) k (now (walks .entry)) (now (walks .exit)) (now (noted .entry)) (now (noted .exit)) ⌝ }
+    requires { ⌜ EdgesIn states count (now edges) × RoundReady states (sides .old) (sides .new) k (now walks) (now noted) ⌝ }
+    ensures { λ r. ⌜ Round (edgeGraph count (now (edges .entry))) count states (sides .old) (sides .new) k (now (walks .entry)) (now (walks .exit)) (now (noted .entry)) (now (noted .exit)) ⌝ }
 {
-    let new = 64 - old;
+    let old = sides.old;
+    let new = sides.new;
     let mut i = 0;
     while i < count {
         let a = edge_lists::from_of(edges, i);
@@ -93,12 +101,14 @@ pub fn least_from(
     clear(walks, 0, states);
     walks[start] = ORIGIN;
     let mut old = 0;
+    let mut new = 64;
     let mut k = 0;
     while k < limit {
-        let new = 64 - old;
         clear(walks, new, states);
-        round(edges, count, states, walks, old, noted, k);
+        round(edges, count, states, walks, Sides { old, new }, noted, k);
+        let before = old;
         old = new;
+        new = before;
         k += 1;
         let closed = walk_weight(walks[old + start]);
         if zero_or_more(closed) {

@@ -61,6 +61,10 @@ AllBelowZero g = (es : List ℕ) → Cycle g es → sum (g .plus) es < sum (g .m
 abbrev pub SomeZeroOrMore : Graph → Type 0
 SomeZeroOrMore g = (es : List ℕ) × Cycle g es × (sum (g .minus) es ≤ sum (g .plus) es)
 
+-- Every simple cycle that is zero or more has at least k edges.
+abbrev pub NoneBelow : Graph → ℕ → Type 0
+NoneBelow g k = (es : List ℕ) → Cycle g es → sum (g .minus) es ≤ sum (g .plus) es → k ≤ length es
+
 -- What the answer of `decide` says.
 abbrev pub Decided : Graph → Bool → Type 0
 Decided g true = AllBelowZero g

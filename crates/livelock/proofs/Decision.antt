@@ -1,22 +1,24 @@
 -- Weights pass, or a quiet simple cycle weighs zero or more; and whatever potentials the machines have, they make the weights pass.
-use mathlib.Core.Path.{_≡_}
-use mathlib.Core.Logic.{_↔_, Iff·trans, _⊎_, ⊎-elim, ⊎-map}
-use mathlib.Core.Bool.{Bool, true}
-use mathlib.Core.List.{List}
+use mathlib.Core.Path.{_≡_, sym}
+use mathlib.Core.Logic.{_≢_, _↔_, Iff·trans, _⊎_, ⊎-elim, ⊎-map}
+use mathlib.Core.Bool.{Bool, true, not}
+use mathlib.Core.List.{List, [], _∷_}
 use Prim.Native.Nat.{ℕ, _+_, _-_, _*_, _≤_, _<_}
-use native.Mathlib.Nat.{mul-comm, mul-le-mul-left}
+use native.Mathlib.Nat.{not-suc-le-zero, mul-comm, mul-le-mul-left}
 use native.Mathlib.Decide.{decLt}
 use native.Mathlib.Omega.{arith}
+use lib.ListN.{length}
+use lib.Dec.{eqb}
 use lib.IntN.{pos}
 use lib.Signed.{_<ℤ_, clashℤ}
-use Rattle.livelock.specs.Lists.{below, sum}
-use Rattle.livelock.specs.Plants.{Plant, machineCount, stateCount, WellFormed}
-use Rattle.livelock.specs.Cycles.{SimpleCycle, Quiet}
-use Rattle.livelock.specs.Weights.{cycleWeight, Passes, FailingCycle}
+use Rattle.livelock.specs.Lists.{below, sum, All}
+use Rattle.livelock.specs.Plants.{Plant, rowCount, machineCount, stateCount, WellFormed}
+use Rattle.livelock.specs.Cycles.{Walk, leaves, enters, SimpleCycle, Quiet}
+use Rattle.livelock.specs.Weights.{cycleWeight, Passes, FailingCycle, FewestRows}
 use Rattle.livelock.specs.Figures.{mostStates, largestWeight}
 use Rattle.livelock.proofs.ListLaws.{all-or-one}
 use Rattle.livelock.specs.Tests.{every}
-use Rattle.livelock.proofs.Tests.{every-below-iff}
+use Rattle.livelock.proofs.Tests.{differ-iff, every-below-iff}
 use Rattle.livelock.proofs.Graphs.{PositiveCycle, longest, longest-bound}
 use Rattle.livelock.proofs.Potentials.{Potential, isPotential, potential-iff, no-positive-cycle, potential-or-positive}
 use Rattle.livelock.proofs.CycleWeights.{sentWeight, takenWeight, below-zero-iff, zero-or-more-iff, sent-bound}
@@ -68,6 +70,22 @@ decision P wf ws =
 -- and never both.
 pub not-both : (P : Plant) (weights c : List ℕ) → Passes P weights → FailingCycle P weights c → ⊥
 not-both P ws c ok bad = clashℤ (ok (bad .machine) c (bad .simple) (bad .quiet)) (bad .weighs)
+
+-- Two such cycles with the fewest rows have as many.
+pub fewest-as-many : {P : Plant} {ws a b : List ℕ} → FailingCycle P ws a → FewestRows P ws a → FailingCycle P ws b → FewestRows P ws b → length a ≡ length b
+fewest-as-many f a-fewest g b-fewest = omega (arith, a-fewest _ g, b-fewest _ f)
+
+-- Whether no row leads back to the state that it leaves.
+abbrev pub noRowBack : Plant → Bool
+noRowBack P = every (λ j. not (eqb (leaves P j) (enters P j))) (below (rowCount P))
+
+-- Then no cycle has fewer than two rows.
+pub two-rows-fewest : (P : Plant) (ws rows : List ℕ) → noRowBack P ≡ true → length rows ≡ 2 → FewestRows P ws rows
+unfolding All Walk
+two-rows-fewest P ws rows apart two [] f = absurd (not-suc-le-zero (f .simple .non-empty))
+two-rows-fewest P ws rows apart two (j ∷ []) f =
+    absurd (every-below-iff _ (λ i. leaves P i ≢ enters P i) (λ i. differ-iff (leaves P i) (enters P i)) (rowCount P) .0 apart j (f .simple .of-machine .0 .0) (sym (f .simple .closed .1)))
+two-rows-fewest P ws rows apart two (j ∷ k ∷ c) f = omega (arith, two)
 
 -- ---- what passing weights give
 

@@ -7,13 +7,13 @@ use lib.Signed.{leZ-yes}
 use Rattle.livelock.specs.Lists.{below, sum, sumℤ, greatest}
 use Rattle.livelock.specs.Plants.{hasProgress, WellFormed}
 use Rattle.livelock.specs.Runs.{Configuration, Event, quietRows, progressRows}
-use Rattle.livelock.specs.Weights.{cycleWeight, Passes, FailingCycle}
+use Rattle.livelock.specs.Weights.{cycleWeight, Passes, FailingCycle, FewestRows}
 use Rattle.livelock.specs.Figures.{contentsWeight}
 use Rattle.livelock.specs.Tests.{every}
 use Rattle.livelock.proofs.Tests.{well-formed-iff}
 use Rattle.livelock.specs.Graphs.{via}
 use Rattle.livelock.proofs.Graphs.{longest}
-use Rattle.livelock.proofs.Decision.{statePotential, passing-iff}
+use Rattle.livelock.proofs.Decision.{statePotential, passing-iff, two-rows-fewest}
 use Rattle.livelock.proofs.Ceiling.{ceiling}
 use Rattle.livelock.proofs.Exclusion.{exclusion}
 use Rattle.livelock.proofs.BasicExamples.{panelAndProbe, plantA, probe-cycle, probe-quiet, panel, probe, plantB, both-balanced, tight}
@@ -37,6 +37,11 @@ runs-of-A = ceiling plantA formed-A (2 ∷ 1 ∷ []) passes-2-1
 pub shown-1-1 : FailingCycle plantA (1 ∷ 1 ∷ []) (2 ∷ 3 ∷ [])
 unfolding panelAndProbe below sum sumℤ cycleWeight
 shown-1-1 = record { machine = 1; simple = probe-cycle true; quiet = probe-quiet; weighs = leZ-yes tt }
+
+-- No row of plant A leads back to the state that it leaves, so two rows are the fewest that a cycle of it can have.
+pub fewest-in-A : (ws : List ℕ) → FewestRows plantA ws (2 ∷ 3 ∷ [])
+unfolding panelAndProbe below every
+fewest-in-A ws = two-rows-fewest plantA ws (2 ∷ 3 ∷ []) refl refl
 
 -- The plant that meets its ceiling passes with weight 1.
 tight-passes : Passes tight (1 ∷ [])

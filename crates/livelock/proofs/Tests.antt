@@ -46,7 +46,8 @@ pub implies-iff : {B : Type 0} (a b : Bool) → (b ≡ true) ↔ B → ((not a |
 implies-iff true b q = (λ h t. q .0 h, λ h. q .1 (h refl))
 implies-iff false b q = (λ h t. absurd (false≢true t), λ h. refl)
 
-differ-iff : (a b : ℕ) → (not (eqb a b) ≡ true) ↔ (a ≢ b)
+-- The test for different numbers exactly where they are.
+pub differ-iff : (a b : ℕ) → (not (eqb a b) ≡ true) ↔ (a ≢ b)
 differ-iff a b = (λ h. eqb-false a b (not-true (eqb a b) h), λ h. ap not (ne-eqb a b h))
 
 -- ---- lists

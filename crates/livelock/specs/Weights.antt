@@ -1,8 +1,8 @@
 -- Weights (document 01, "Cycles and weighing").
 use mathlib.Core.Option.{Option, none, some}
 use mathlib.Core.List.{List}
-use Prim.Native.Nat.{ℕ}
-use lib.ListN.{getD}
+use Prim.Native.Nat.{ℕ, _≤_}
+use lib.ListN.{length, getD}
 use lib.IntN.{ℤ, pos, _*ℤ_}
 use lib.Signed.{_<ℤ_, _≤ℤ_}
 use Rattle.livelock.specs.Lists.{below, sumℤ}
@@ -27,6 +27,10 @@ pub record FailingCycle (P : Plant) (ws c : List ℕ) : Type 0 where
   pub simple : SimpleCycle P machine c
   pub quiet : Quiet P c
   pub weighs : pos 0 ≤ℤ cycleWeight P ws c
+
+-- "the cycle shown has the fewest rows of all quiet simple cycles weighing zero or more. Every other such cycle has at least as many."
+abbrev pub FewestRows : Plant → List ℕ → List ℕ → Type 0
+FewestRows P ws rows = (c : List ℕ) → FailingCycle P ws c → length rows ≤ length c
 
 -- The weight of a message; 0 where there is none.
 abbrev pub messageWeight : List ℕ → Option ℕ → ℕ

@@ -28,7 +28,8 @@ use Rattle.decoding.proofs.FirstRowLaws.{row-of-machine, machine-rows}
 use Rattle.deciding.specs.Signs.{rise, fall}
 use Rattle.edge_lists.specs.EdgeLists.{Edge, edgeIn}
 use Rattle.edges.specs.Edges.{Has, Listed, RowsBetween}
-use Rattle.deciding.specs.Rounds.{edgeGraph, AllBelowZero, Decided}
+use Rattle.machines.specs.Machines.{MachinePasses}
+use Rattle.deciding.specs.Rounds.{edgeGraph, AllBelowZero, NoneBelow, Decided}
 use Rattle.deciding.proofs.SignLaws.{rise-fall, difference-same}
 
 -- ---- edges and rows
@@ -146,10 +147,25 @@ module _ (P : Plant) (formed : WellFormed P) (ws : List ℕ) (m count : ℕ) (li
         record { edges = first .place ∷ rest .edges; within = (first .within, rest .within); are = rw (first .is, rest .are) }
 
     -- Where every cycle of the edges is below zero, every quiet simple cycle is.
-    cycles-pass : AllBelowZero (edgeGraph count list) → (c : List ℕ) → SimpleCycle P m c → Quiet P c → cycleWeight P ws c <ℤ pos 0
+    cycles-pass : AllBelowZero (edgeGraph count list) → MachinePasses P ws m
     cycles-pass h c s q =
         let f = edges-for c (all-both (RowOf P m) _ c (s .of-machine) q) in
         subst (λ (x : List ℕ). SimpleCycle P m x → cycleWeight P ws x <ℤ pos 0) (f .are) (edges-pass h (f .edges) (f .within)) s
+
+    -- Where every cycle of the edges that is zero or more has at least k, every quiet simple cycle that weighs zero or more has at least k rows:
+    -- it is the rows of edges, as many, which are such a cycle.
+    cycles-long : (k : ℕ) → NoneBelow (edgeGraph count list) k → (c : List ℕ) → SimpleCycle P m c → Quiet P c → pos 0 ≤ℤ cycleWeight P ws c
+        → k ≤ length c
+    cycles-long k h c s q w =
+        let f = edges-for c (all-both (RowOf P m) _ c (s .of-machine) q) in
+        let simple : SimpleCycle P m (map rowOfEdge (f .edges)) = subst (SimpleCycle P m) (sym (f .are)) s in
+        let weighs = zero-or-more-iff P formed ws (map rowOfEdge (f .edges)) .0 (subst (λ (x : List ℕ). pos 0 ≤ℤ cycleWeight P ws x) (sym (f .are)) w) in
+        omega (
+          arith,
+          h (f .edges) (edges-cycle (f .edges) (f .within) simple) (omega (arith, weighs, same-weights (f .edges) (f .within))),
+          length-map (f .edges) rowOfEdge,
+          ap length (f .are),
+        )
 
 -- ---- a decoded table
 
@@ -209,8 +225,13 @@ module _ (shape : Shape) (table : List ℕ) (ready : Ready shape table) (limits 
         listed .every j (omega (arith, between .0, low-is m within)) (omega (arith, between .1, high-is m within)) (sym (ap hasProgress is) ∙ r .1)
 
     -- Where every cycle of the edges is below zero, every quiet simple cycle of the machine is.
-    pub machine-passes : AllBelowZero (edgeGraph count list) → (c : List ℕ) → SimpleCycle (plantOf shape table) m c → Quiet (plantOf shape table) c → cycleWeight (plantOf shape table) ws c <ℤ pos 0
+    pub machine-passes : AllBelowZero (edgeGraph count list) → MachinePasses (plantOf shape table) ws m
     machine-passes = cycles-pass (plantOf shape table) (limits .formed) ws m count list edge-row row-edge
+
+    -- Where every cycle of the edges that is zero or more has at least k, every such quiet simple cycle of the machine has at least k rows.
+    pub machine-long : (k : ℕ) → NoneBelow (edgeGraph count list) k → (c : List ℕ) → SimpleCycle (plantOf shape table) m c → Quiet (plantOf shape table) c
+        → pos 0 ≤ℤ cycleWeight (plantOf shape table) ws c → k ≤ length c
+    machine-long = cycles-long (plantOf shape table) (limits .formed) ws m count list edge-row row-edge
 
     -- The rows of a cycle of edges that is zero or more are a quiet simple cycle of the machine that weighs zero or more.
     pub machine-fails : (es : List ℕ) → Cycle (edgeGraph count list) es
@@ -220,7 +241,7 @@ module _ (shape : Shape) (table : List ℕ) (ready : Ready shape table) (limits 
 
     -- What `decide` says of the edges, it says of the machine: true exactly when every quiet simple cycle weighs below zero.
     pub machine-decided : (b : Bool) → Decided (edgeGraph count list) b
-        → (b ≡ true) ↔ ((c : List ℕ) → SimpleCycle (plantOf shape table) m c → Quiet (plantOf shape table) c → cycleWeight (plantOf shape table) ws c <ℤ pos 0)
+        → (b ≡ true) ↔ MachinePasses (plantOf shape table) ws m
     machine-decided true d = (λ q. machine-passes d, λ p. refl)
     machine-decided false d =
         let x = machine-fails (d .0) (d .1) (d .2) in

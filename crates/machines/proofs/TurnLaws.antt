@@ -1,7 +1,7 @@
 -- Laws of one machine after the other: what deciding says of its edges, it says of the machine.
 use mathlib.Core.Path.{_≡_, sym, subst, _∙_}
 use mathlib.Core.Bool.{Bool, true, false, false≢true}
-use mathlib.Core.List.{List}
+use mathlib.Core.List.{List, map}
 use Prim.Native.Nat.{ℕ, _+_, _-_, _≤_, _<_}
 use native.Mathlib.Decide.{decLt}
 use native.Mathlib.Omega.{arith}
@@ -10,9 +10,12 @@ use lib.IntN.{ℤ}
 use Rattle.livelock.specs.Plants.{machineCount, stateCount}
 use Rattle.livelock.specs.Figures.{mostStates}
 use Rattle.livelock.proofs.SumLaws.{greatest-below}
-use Rattle.livelock.specs.Graphs.{Graph}
+use Rattle.livelock.specs.Graphs.{Graph, Cycle}
+use Rattle.livelock.specs.Lists.{sum}
+use Rattle.livelock.specs.Weights.{Passes, FailingCycle}
+use Rattle.livelock.proofs.Decision.{not-both}
 use Rattle.tables.specs.Tables.{RoomFor}
-use Rattle.edge_lists.specs.EdgeLists.{EdgeRoom}
+use Rattle.edge_lists.specs.EdgeLists.{EdgeRoom, edgeIn}
 use Rattle.decoding.specs.Tables.{plantOf}
 use Rattle.decoding.specs.declared.Shape.{Shape}
 use Rattle.decoding.proofs.TableLaws.{machines-counted, states-at}
@@ -20,8 +23,8 @@ use Rattle.deciding.specs.Rounds.{edgeGraph, EdgesIn, AllBelowZero, SomeZeroOrM
 use Rattle.edges.specs.Edges.{Listed}
 use Rattle.edges.proofs.ListedLaws.{edges-in}
 use Rattle.figures.proofs.FigureLaws.{states-limit, most-limit}
-use Rattle.machines.specs.Machines.{Weighable, EdgesBeside, PassingRows, FailingRows}
-use Rattle.machines.proofs.MachineLaws.{rows-between}
+use Rattle.machines.specs.Machines.{Weighable, EdgesBeside, MachinePasses, FailingRows}
+use Rattle.machines.proofs.MachineLaws.{rows-between, machine-passes, machine-fails}
 
 -- ---- deciding
 
@@ -63,6 +66,18 @@ module _ (s : Shape) (table ws : List ℕ) (ok : Weighable s table ws) where
       omega (arith, n-is, most-limit (plantOf s table) (ok .limits)),
     )
 
+    -- The rows of a cycle of the machine's edges that is zero or more are a quiet simple cycle of the plant that weighs zero or more.
+    pub edges-fail : {count : ℕ} {edges : List ℤ} → FailingRows table ws (getD (s .first) m 0) (getD (s .first) (m + 1) 0) count edges
+        → (es : List ℕ) → Cycle (edgeGraph count edges) es → sum (edgeGraph count edges .minus) es ≤ sum (edgeGraph count edges .plus) es
+        → FailingCycle (plantOf s table) ws (map (λ i. edgeIn edges i .row) es)
+    edges-fail {count} {edges} failing es simple weighs =
+        let f = machine-fails s table (ok .ready) (ok .limits) ws m within count edges (failing .listed) es simple weighs in
+        record { machine = m; simple = f .0; quiet = f .1; weighs = f .2 }
+
+    -- So where the machine fails, the weights do not pass.
+    pub one-fails : {count : ℕ} {edges : List ℤ} → FailingRows table ws (getD (s .first) m 0) (getD (s .first) (m + 1) 0) count edges → Passes (plantOf s table) ws → ⊥
+    one-fails failing p = let x = failing .zero-or-more in not-both (plantOf s table) ws _ p (edges-fail failing (x .0) (x .1) (x .2))
+
     module _ (low high : ℕ) (low-is : low ≡ getD (s .first) m 0) (high-is : high ≡ getD (s .first) (m + 1) 0) where
       -- The rows are few enough for an edge list.
       pub turn-rows : (edges : List ℤ) → EdgesBeside table edges → RoomFor high table × (high ≤ 1024) × (low ≤ high) × EdgeRoom (high - low) edges
@@ -82,8 +97,8 @@ module _ (s : Shape) (table ws : List ℕ) (ok : Weighable s table ws) where
             (edges-in table ws (ok .light) (getD (s .first) m 0) (getD (s .first) (m + 1) 0) count edges turn-listed (stateCount (plantOf s table) m) (states-in .0) (states-in .1) (rows-between s table (ok .ready) (ok .limits) m within))
 
         -- The machine passes if every cycle is below zero,
-        pub turn-passes : AllBelowZero (edgeGraph count edges) → PassingRows table ws (getD (s .first) m 0) (getD (s .first) (m + 1) 0)
-        turn-passes below-zero = record { count = count; edges = edges; listed = turn-listed; below-zero = below-zero }
+        pub turn-passes : AllBelowZero (edgeGraph count edges) → MachinePasses (plantOf s table) ws m
+        turn-passes = machine-passes s table (ok .ready) (ok .limits) ws m within count edges turn-listed
 
         -- and fails if one is not.
         pub turn-fails : SomeZeroOrMore (edgeGraph count edges) → FailingRows table ws (getD (s .first) m 0) (getD (s .first) (m + 1) 0) count edges

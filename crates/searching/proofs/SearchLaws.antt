@@ -19,10 +19,10 @@ use Rattle.livelock.proofs.SumLaws.{sum-append}
 use Rattle.livelock.proofs.Pigeonhole.{left-once}
 use Rattle.livelock.proofs.Walks.{visited, walk-append, HasCycle, distinct-or-cycle}
 use Rattle.livelock.specs.Graphs.{Graph, IsEdge, Cycle}
-use Rattle.deciding.specs.Rounds.{SomeZeroOrMore}
+use Rattle.deciding.specs.Rounds.{NoneBelow}
 use Rattle.closed_walks.specs.ClosedWalks.{origin, heaviest, Closes, entry, FirstEdge, LeastFrom, Noted}
 use Rattle.closed_walks.proofs.WalkLaws.{Searchable, ClosedWalk, walk-closes}
-use Rattle.searching.specs.Searches.{Least, Written}
+use Rattle.searching.specs.Searches.{LeastWithin, Written}
 
 -- ---- a shortest closed walk is simple
 
@@ -135,20 +135,20 @@ shortest-is-cycle g a (e ∷ es) l w none = record { non-empty = l; edges = w .e
 
 -- ---- the least number of edges from any start
 
--- From the first s states no fewer than k edges close; k edges do from `start`, unless k is one more than the number of states.
-pub record Sought (g : Graph) (states start k s : ℕ) : Type 0 where
+-- From the first s states no fewer than k edges close; k edges do from `start`, unless k is one more than the limit.
+pub record Sought (g : Graph) (states limit start k s : ℕ) : Type 0 where
   pub passed : s ≤ states
   pub some-edge : 1 ≤ k
-  pub few : k ≤ states + 1
+  pub few : k ≤ limit + 1
   pub none : (a j : ℕ) → a < s → 1 ≤ j → j < k → Closes g a j → ⊥
-  pub closes : k ≤ states → (start < states) × Closes g start k
+  pub closes : k ≤ limit → (start < states) × Closes g start k
 
 -- Before the first state.
-pub sought-none : (g : Graph) (states : ℕ) → Sought g states 0 (states + 1) 0
-sought-none g states =
+pub sought-none : (g : Graph) (states limit : ℕ) → Sought g states limit 0 (limit + 1) 0
+sought-none g states limit =
     record { passed = omega arith; some-edge = omega arith; few = omega arith; none = λ a j x y z q. omega arith; closes = λ x. absurd (omega arith) }
 
-module _ {g : Graph} {states start k s r : ℕ} (h : Sought g states start k s) (l : s < states) (f : LeastFrom g s (k - 1) r) where
+module _ {g : Graph} {states limit start k s r : ℕ} (h : Sought g states limit start k s) (l : s < states) (f : LeastFrom g s (k - 1) r) where
   none-more : (a j : ℕ) → a < s + 1 → 1 ≤ j → j < r → Closes g a j → ⊥
   none-more a j x y z q = go (ℕ-discrete a s)
     where
@@ -157,12 +157,12 @@ module _ {g : Graph} {states start k s r : ℕ} (h : Sought g states start k s) 
       go (no e) = h .none a j (omega arith) y (omega (arith, f .few, h .some-edge)) q
 
   -- From s fewer edges close,
-  pub sought-fewer : r < k → Sought g states s r (s + 1)
+  pub sought-fewer : r < k → Sought g states limit s r (s + 1)
   sought-fewer m =
       record { passed = omega arith; some-edge = f .some-edge; few = omega (arith, h .few); none = none-more; closes = λ x. (l, f .closes (omega arith)) }
 
   -- or not.
-  pub sought-same : k ≤ r → Sought g states start r (s + 1)
+  pub sought-same : k ≤ r → Sought g states limit start r (s + 1)
   sought-same m =
       let e : k ≡ r = omega (arith, f .few, h .some-edge) in
       record {
@@ -170,8 +170,12 @@ module _ {g : Graph} {states start k s r : ℕ} (h : Sought g states start k s) 
         some-edge = f .some-edge;
         few = omega (arith, h .few);
         none = none-more;
-        closes = subst (λ (i : ℕ). i ≤ states → (start < states) × Closes g start i) e (h .closes);
+        closes = subst (λ (i : ℕ). i ≤ limit → (start < states) × Closes g start i) e (h .closes);
       }
+
+-- After the last state the number is the least from any, up to the limit.
+pub sought-all : {g : Graph} {states limit start k s : ℕ} → states ≤ s → Sought g states limit start k s → LeastWithin g states limit start k
+sought-all e h = record { some-edge = h .some-edge; few = h .few; closes = h .closes; least = λ a j x y z q. h .none a j (omega arith) y z q }
 
 -- A walk with an edge begins at one of the states.
 begins-in : {g : Graph} {states : ℕ} → Searchable g states
@@ -180,37 +184,50 @@ unfolding All Walk
 begins-in ok a t [] l u w = absurd (not-suc-le-zero l)
 begins-in {states = states} ok a t (e ∷ es) l u w = subst (λ (x : ℕ). x < states) (w .0) (ok .within e (u .0) .0)
 
--- Where some simple cycle weighs zero or more, the search ends with the least number of edges:
--- the cycle has at most as many edges as there are states, so the number is no more than that.
-pub sought-all : {g : Graph} {states start k s : ℕ} → Searchable g states → SomeZeroOrMore g → states ≤ s
-    → Sought g states start k s → Least g states start k
-sought-all {g} {states} {start} {k} ok some e h = go (decLe k states)
-  where
-    es : List ℕ
-    es = some .0
+-- ---- no cycle has fewer edges
 
-    c : Cycle g es
-    c = some .1
+module _ {g : Graph} {states : ℕ} (ok : Searchable g states) (es : List ℕ) (c : Cycle g es) where
+  -- A simple cycle has at most as many edges as there are states.
+  pub cycle-few : length es ≤ states
+  cycle-few = left-once (g .src) states es (c .once) (all-weaken (IsEdge g) (λ e. g .src e < states) (λ e u. ok .within e u .0) es (c .edges))
 
-    cycle-few : length es ≤ states
-    cycle-few = left-once (g .src) states es (c .once) (all-weaken (IsEdge g) (λ e. g .src e < states) (λ e u. ok .within e u .0) es (c .edges))
+  -- One that weighs zero or more is a closed walk from one of the states, so it has at least as many edges as were found.
+  cycle-long : {limit start k : ℕ} → LeastWithin g states limit start k → sum (g .minus) es ≤ sum (g .plus) es → k ≤ length es
+  cycle-long {k = k} h w =
+      elim (decLt (length es) k) [
+        | yes l ↦
+            absurd (h .least
+            (c .at)
+            (length es)
+            (begins-in ok (c .at) (c .at) es (c .non-empty) (c .edges) (c .closed))
+            (c .non-empty)
+            l
+            (walk-closes (record { edges = c .edges; closed = c .closed; weighs = w })))
+        | no l ↦ omega arith
+      ]
 
-    cycle-closes : Closes g (c .at) (length es)
-    cycle-closes = walk-closes (record { edges = c .edges; closed = c .closed; weighs = some .2 })
+-- So no cycle that weighs zero or more has fewer edges than were found.
+pub none-below : {g : Graph} {states limit start k : ℕ} → Searchable g states → LeastWithin g states limit start k → NoneBelow g k
+none-below ok h es c w = cycle-long ok es c h w
 
-    least : (a j : ℕ) → a < states → 1 ≤ j → j < k → Closes g a j → ⊥
-    least a j x y z q = h .none a j (omega arith) y z q
+-- If none has as few as there are states, there is none, and none below any number.
+pub none-at-all : {g : Graph} {states k : ℕ} → Searchable g states → states < k → NoneBelow g k → (least : ℕ) → NoneBelow g least
+none-at-all ok many h least es c w = absurd (omega (arith, h es c w, cycle-few ok es c))
 
-    go : Dec (k ≤ states) → Least g states start k
-    go (yes x) = record { start-in = h .closes x .0; some-edge = h .some-edge; few = x; closes = h .closes x .1; least = least }
-    go (no x) =
-        absurd (least
-        (c .at)
-        (length es)
-        (begins-in ok (c .at) (c .at) es (c .non-empty) (c .edges) (c .closed))
-        (c .non-empty)
-        (omega (arith, cycle-few))
-        cycle-closes)
+-- ---- the number that was found
+
+-- It is the least of all, for the limit is no more than the number of states.
+pub record Least (g : Graph) (states start k : ℕ) : Type 0 where
+  pub start-in : start < states
+  pub some-edge : 1 ≤ k
+  pub few : k ≤ states
+  pub closes : Closes g start k
+  pub least : (s j : ℕ) → s < states → 1 ≤ j → j < k → Closes g s j → ⊥
+
+-- The search found it.
+pub least-found : {g : Graph} {states limit start k : ℕ} → limit ≤ states → k ≤ limit → LeastWithin g states limit start k → Least g states start k
+least-found below found h =
+    record { start-in = h .closes found .0; some-edge = h .some-edge; few = omega arith; closes = h .closes found .1; least = h .least }
 
 -- A search from the start that was found, up to the length that was found, finds this length again.
 pub least-again : {g : Graph} {states start k r : ℕ} → Least g states start k → LeastFrom g start k r → r ≡ k

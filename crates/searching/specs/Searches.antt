@@ -1,21 +1,21 @@
 -- The search for a closed walk with the fewest edges that weighs zero or more.
 use mathlib.Core.Path.{_≡_}
 use mathlib.Core.List.{List, _++_, map}
-use Prim.Native.Nat.{ℕ, _≤_, _<_}
+use Prim.Native.Nat.{ℕ, _+_, _≤_, _<_}
 use lib.ListN.{length, drop}
 use lib.IntN.{ℤ}
 use Rattle.livelock.specs.Lists.{sum}
 use Rattle.livelock.specs.Graphs.{Graph, Cycle}
 use Rattle.edge_lists.specs.EdgeLists.{edgeIn}
-use Rattle.deciding.specs.Rounds.{edgeGraph}
+use Rattle.deciding.specs.Rounds.{edgeGraph, NoneBelow}
 use Rattle.closed_walks.specs.ClosedWalks.{Closes}
 
--- k is the least number of edges of a closed walk that weighs zero or more, from whatever state, and one goes from `start`.
-pub record Least (g : Graph) (states start k : ℕ) : Type 0 where
-  pub start-in : start < states
+-- k is the least number of edges, up to a limit, of a closed walk that weighs zero or more, from whatever state, and one goes from `start`;
+-- limit + 1 stands for none.
+pub record LeastWithin (g : Graph) (states limit start k : ℕ) : Type 0 where
   pub some-edge : 1 ≤ k
-  pub few : k ≤ states
-  pub closes : Closes g start k
+  pub few : k ≤ limit + 1
+  pub closes : k ≤ limit → (start < states) × Closes g start k
   pub least : (s j : ℕ) → s < states → 1 ≤ j → j < k → Closes g s j → ⊥
 
 -- The front of the list has the rows of a simple cycle of k edges that weighs zero or more; the rest is kept.
@@ -26,8 +26,10 @@ pub record Written (g : Graph) (row : ℕ → ℕ) (k : ℕ) (before after : Lis
   pub weighs : sum (g .minus) cycle ≤ sum (g .plus) cycle
   pub shown : after ≡ map row cycle ++ drop k before
 
--- A cycle of k edges of the list was written; k is at least 1, and no more than the machine has states.
-pub record ShownRows (count : ℕ) (edges : List ℤ) (states k : ℕ) (before after : List ℕ) : Type 0 where
+-- A shortest cycle of at most `limit` edges that weighs zero or more was written, and has k; or there is none, k is limit + 1 and the list is kept.
+pub record ShownWithin (count : ℕ) (edges : List ℤ) (limit k : ℕ) (before after : List ℕ) : Type 0 where
   pub some-row : 1 ≤ k
-  pub few : k ≤ states
-  pub written : Written (edgeGraph count edges) (λ e. edgeIn edges e .row) k before after
+  pub few : k ≤ limit + 1
+  pub fewest : NoneBelow (edgeGraph count edges) k
+  pub written : k ≤ limit → Written (edgeGraph count edges) (λ e. edgeIn edges e .row) k before after
+  pub kept : limit < k → after ≡ before

@@ -2,19 +2,17 @@
 use mathlib.Core.Path.{_≡_, refl, sym, ap, _∙_, subst}
 use mathlib.Core.Logic.{_↔_, _⊎_, inl, inr}
 use mathlib.Core.Bool.{Bool, true, false, false≢true}
-use mathlib.Core.List.{List, _++_, map}
+use mathlib.Core.List.{List, _++_}
 use Prim.Native.Nat.{ℕ, _≤_, _<_}
 use native.Mathlib.Omega.{arith}
-use lib.ListN.{length, getD, take, drop, length-map}
+use lib.ListN.{length, take, drop}
 use lib.IntN.{ℤ}
-use Rattle.livelock.specs.Lists.{sum}
 use Rattle.livelock.specs.Plants.{Plant, WellFormed}
 use Rattle.livelock.specs.Weights.{Passes, FailingCycle}
 use Rattle.livelock.specs.Figures.{mostStates, figuresOf}
 use Rattle.livelock.specs.Figures as Theory
-use Rattle.livelock.specs.Graphs.{Cycle}
 use Rattle.livelock.proofs.QuietGraphs.{cycle-machine}
-use Rattle.livelock.proofs.Decision.{decision, not-both}
+use Rattle.livelock.proofs.Decision.{decision, not-both, fewest-as-many}
 use Rattle.livelock.proofs.Ceiling.{ceiling}
 use Rattle.plant.specs.Found.{Found, found, fault, andThen}
 use Rattle.plant.specs.Reading.{readPlant}
@@ -23,98 +21,80 @@ use Rattle.plant.specs.Steps.{endFound}
 use Rattle.plant.specs.declared.End.{End}
 use Rattle.decoding.specs.declared.Shape.{Shape}
 use Rattle.plant.proofs.OneToOne.{same-fault}
-use Rattle.decoding.proofs.TableLaws.{states-at}
 use Rattle.weight_checks.specs.Checks.{checkedWeights, judgedWeights, checkedRoom, judged, WeightsChecked, RoomChecked}
 use Rattle.weight_checks.proofs.CheckLaws.{none-above, judged-weights, judged-good, judged-limits}
 use Rattle.weighing.specs.Answers.{Answer, passed, cycle, refused, answerOf, HasFigures, Judgement, judgementOf}
 use Rattle.weighing.specs.Answers as Answers
 use Rattle.weighing.specs.Weighing.{OnPassing, OnFailing, Owed, for-fault, for-plant, OnPassingVerdict, OwedVerdict, verdict-for-fault, verdict-for-plant}
 use Rattle.machines.specs.Machines.{Weighable, FirstFailing}
-use Rattle.machines.proofs.TurnLaws.{machines-are, states-in, turn-edges}
-use Rattle.weighing.specs.Inner.Judging.{Shows}
-use Rattle.edge_lists.specs.EdgeLists.{edgeIn}
+use Rattle.machines.proofs.TurnLaws.{machines-are, one-fails}
+use Rattle.weighing.specs.Inner.Judging.{OwedTable, OwedTableVerdict}
 use Rattle.figures.specs.FigureSums.{figuresIn, FiguresOf}
-use Rattle.deciding.specs.Rounds.{edgeGraph}
-use Rattle.searching.specs.Searches.{ShownRows}
+use Rattle.shortest_cycles.specs.ShortestCycles.{ShownShortest}
 use Rattle.figures.specs.declared.Figures.{Figures}
 use Rattle.weighing.specs.declared.Weighed.{Weighed}
 use Rattle.weighing.specs.declared.Weighed.the-variants as Variants
 use Rattle.weighing.specs.declared.Verdict.{Verdict}
 use Rattle.weighing.specs.declared.Verdict.the-variants as Verdicts
 use Rattle.figures.proofs.FigureLaws.{same-figures}
-use Rattle.machines.proofs.MachineLaws.{machine-passes, machine-fails}
 
 -- ---- the machines of a table
 
 module _ (s : Shape) (table ws : List ℕ) (ok : Weighable s table ws) where
-  -- The verdict with the figures f: it is owed where the weights pass, and the bound holds.
   module _ (f : Figures) (figures : FiguresOf (take (s .machines) (s .states)) ws f) where
-    -- They are the plant's,
+    -- The figures f are the plant's,
     figures-are : figuresIn f ≡ figuresOf (plantOf s table) ws
     figures-are = figures (plantOf s table) refl (sym (ok .one-each))
 
-    -- and so is n among them,
+    -- and so is n among them.
     pub most-is : f .«most_states» ≡ mostStates (plantOf s table)
     most-is = ap (λ (x : Theory.Figures). x .«most_states») figures-are
 
-    -- and the verdict is owed.
-    pub passing-verdict : Passes (plantOf s table) ws → (end : ℕ) → OwedVerdict ws (Answers.passing (figuresIn f)) (found (plantOf s table) end)
+    -- Where the weights pass, the bound holds; the verdict with these figures is owed,
+    pub passing-verdict : Passes (plantOf s table) ws → OwedTableVerdict s table ws (Answers.passing (figuresIn f))
     passing-verdict p end =
         verdict-for-plant
         (λ q. record { figures = ap Answers.passing figures-are; bounded = ceiling (plantOf s table) (ok .limits .formed) ws p })
         (λ q. absurd (q p))
 
+    -- and the answer with them, the list being kept.
+    pub passing-owed : Passes (plantOf s table) ws → (before : List ℕ) → OwedTable s table ws before before (passed (figuresIn f))
+    passing-owed p before end =
+        for-plant
+        (λ q. record { figures = ap passed figures-are; whole-kept = refl; bounded = ceiling (plantOf s table) (ok .limits .formed) ws p })
+        (λ q. absurd (q p))
+
   -- Machine m is the first that fails, and the first `size` edges are its.
-  module _ (m size : ℕ) (edges : List ℤ) (failing : FirstFailing s table ws m size edges) where
+  module _ (m size : ℕ) (edges : List ℤ) (failing : FirstFailing s table ws 0 m size edges) where
     -- Where there is none, the weights pass.
     pub none-fails : s .machines ≤ m → Passes (plantOf s table) ws
     none-fails h k rows c q =
-        let within : k < s .machines = omega (arith, cycle-machine (plantOf s table) (ok .limits .formed) k rows c, machines-are s table ws ok) in
-        let p = failing .before k (omega arith) in
-        machine-passes s table (ok .ready) (ok .limits) ws k within (p .count) (p .edges) (p .listed) (p .below-zero) rows c q
+        failing .before
+        k
+        (omega (arith, cycle-machine (plantOf s table) (ok .limits .formed) k rows c, machines-are s table ws ok))
+        (omega arith)
+        rows
+        c
+        q
 
-    module _ (within : m < s .machines) where
-      -- Else the rows of a cycle of the edges that is zero or more are a failing cycle,
-      failing-rows : (es : List ℕ) → Cycle (edgeGraph size edges) es → sum (edgeGraph size edges .minus) es ≤ sum (edgeGraph size edges .plus) es → FailingCycle (plantOf s table) ws (map (λ i. edgeIn edges i .row) es)
-      failing-rows es simple weighs =
-          let f = machine-fails s table (ok .ready) (ok .limits) ws m within size edges (failing .fails within .listed) es simple weighs in
-          record { machine = m; simple = f .0; quiet = f .1; weighs = f .2 }
+    -- Else the verdict that they do not is owed.
+    pub failing-verdict : m < s .machines → OwedTableVerdict s table ws Answers.failing
+    failing-verdict within end = verdict-for-plant (λ p. absurd (one-fails s table ws ok m within (failing .fails within) p)) (λ q. refl)
 
-      -- so the weights do not pass,
-      one-fails : Passes (plantOf s table) ws → ⊥
-      one-fails p = let x = failing .fails within .zero-or-more in not-both (plantOf s table) ws _ p (failing-rows (x .0) (x .1) (x .2))
-
-      -- the verdict that they fail is owed,
-      pub failing-verdict : (end : ℕ) → OwedVerdict ws Answers.failing (found (plantOf s table) end)
-      failing-verdict end = verdict-for-plant (λ p. absurd (one-fails p)) (λ q. refl)
-
-      -- and the cycle that is shown is owed.
-      failing-owed : (n : ℕ) → n ≡ getD (s .states) m 0 → (k : ℕ) (before after : List ℕ) → ShownRows size edges n k before after
-          → (end : ℕ) → Owed ws before after (cycle k) (found (plantOf s table) end)
-      failing-owed n n-is k before after x end =
-          let w = x .written in
-          let rows : List ℕ = map (λ i. edgeIn edges i .row) (w .cycle) in
-          let long : length rows ≡ k = length-map (w .cycle) (λ i. edgeIn edges i .row) ∙ w .long in
-          for-plant
-          (λ p. absurd (one-fails p))
-          (λ q.
-          record {
-            rows = rows;
-            fails = failing-rows (w .cycle) (w .simple) (w .weighs);
-            few = omega (arith, long, x .few, n-is, states-at s table m within, states-in s table ws ok m within .1);
-            count = ap cycle (sym long);
-            shown = subst (λ (i : ℕ). after ≡ rows ++ drop i before) (sym long) (w .shown);
-          })
-
-      -- So the search can begin with the edges.
-      pub failing-shows : (n : ℕ) → n ≡ getD (s .states) m 0 → (end : ℕ) → Shows ws edges size n (found (plantOf s table) end)
-      failing-shows n n-is end =
-          let x = failing .fails within in
-          record {
-            edges-in = turn-edges s table ws ok m within _ _ refl refl size edges (x .listed) n n-is;
-            zero-or-more = x .zero-or-more;
-            owed = λ k before after y. failing-owed n n-is k before after y end;
-          }
+  -- A shortest cycle that is shown is owed.
+  pub shown-owed : {k : ℕ} {before after : List ℕ} → ShownShortest (plantOf s table) ws k before after → OwedTable s table ws before after (cycle k)
+  shown-owed {before = before} {after = after} h end =
+      for-plant
+      (λ p. absurd (not-both (plantOf s table) ws (h .rows) p (h .fails)))
+      (λ q.
+      record {
+        rows = h .rows;
+        fails = h .fails;
+        fewest = h .fewest;
+        few = omega (arith, h .long, h .few);
+        count = ap cycle (sym (h .long));
+        shown = subst (λ (i : ℕ). after ≡ h .rows ++ drop i before) (sym (h .long)) (h .shown);
+      })
 
 -- ---- the whole answer
 
@@ -134,14 +114,34 @@ verdict-refusal ws number place x e = subst (OwedVerdict ws (Answers.refusing nu
 pub verdict-told : {ws : List ℕ} {v w : Verdict} {x : Found Plant} → v ≡ w → OwedVerdict ws (judgementOf v) x → OwedVerdict ws (judgementOf w) x
 verdict-told {ws} {x = x} e h = subst (λ (u : Verdict). OwedVerdict ws (judgementOf u) x) e h
 
--- A table that reading the file gave, where it ended, and where the checks of the weights and of the lent list ended: so it is judged.
-pub checks-judged : {t : Shape} {table : List ℕ} → Ready t table → (file ws : List ℕ) (read : End) → endFound read (plantOf t table) ≡ readPlant file
-    → (weighed : End) (types : ℕ) → WeightsChecked types ws read weighed → t .types ≡ types
-    → (room : ℕ) (end : End) → RoomChecked room weighed end → (told-end : End) → end ≡ told-end → endFound told-end (plantOf t table) ≡ judged file ws room
-checks-judged {t} {table} ready file ws read reads weighed types weights types-are room end in-room told-end e =
-    ap (λ (x : End). endFound x (plantOf t table)) (sym e)
-    ∙ in-room (plantOf t table)
-    ∙ ap (λ (x : Found Plant). andThen x (checkedRoom room)) (weights (plantOf t table) types-are ∙ ap (λ (x : Found Plant). andThen x (checkedWeights ws)) reads)
+-- A table that reading the file gave, and where the checks of the weights ended: so the file and the weights are judged,
+pub weights-judged : (s : Shape) (table file ws : List ℕ) (read : End) → endFound read (plantOf s table) ≡ readPlant file
+    → (end : End) (types : ℕ) → WeightsChecked types ws read end → s .types ≡ types
+    → (told-end : End) → end ≡ told-end → endFound told-end (plantOf s table) ≡ judgedWeights file ws
+weights-judged s table file ws read reads end types weights types-are told-end e =
+    ap (λ (x : End). endFound x (plantOf s table)) (sym e) ∙ weights (plantOf s table) types-are ∙ ap (λ (x : Found Plant). andThen x (checkedWeights ws)) reads
+
+-- and where the check of the lent list ended, with its room.
+pub checks-judged : (s : Shape) (table file ws : List ℕ) (read : End) → endFound read (plantOf s table) ≡ readPlant file
+    → (weighed : End) (types : ℕ) → WeightsChecked types ws read weighed → s .types ≡ types
+    → (room : ℕ) (end : End) → RoomChecked room weighed end → (told-end : End) → end ≡ told-end → endFound told-end (plantOf s table) ≡ judged file ws room
+checks-judged s table file ws read reads weighed types weights types-are room end in-room told-end e =
+    ap (λ (x : End). endFound x (plantOf s table)) (sym e)
+    ∙ in-room (plantOf s table)
+    ∙ ap (λ (x : Found Plant). andThen x (checkedRoom room)) (weights-judged s table file ws read reads weighed types weights types-are weighed refl)
+
+-- Where that is a plant, the table can be weighed;
+pub weights-weighable : {s : Shape} {table : List ℕ} → Ready s table → (file ws : List ℕ) (end : ℕ) → found (plantOf s table) end ≡ judgedWeights file ws → Weighable s table ws
+weights-weighable ready file ws end e =
+    let good = judged-weights file ws _ end (sym e) in
+    record { ready = ready; limits = good .0; one-each = good .1 .one-each; light = none-above 1000 ws (good .1 .light) }
+
+-- and where the lent list was judged too, there is room for a cycle.
+pub judged-weighable : {s : Shape} {table : List ℕ} → Ready s table → (file ws : List ℕ) (room end : ℕ) → found (plantOf s table) end ≡ judged file ws room
+    → Weighable s table ws × (64 ≤ room)
+judged-weighable ready file ws room end e =
+    let good = judged-good file ws room _ end (sym e) in
+    (record { ready = ready; limits = good .0 .0; one-each = good .0 .1 .one-each; light = none-above 1000 ws (good .0 .1 .light) }, good .1)
 
 -- ---- what the answer says
 
@@ -174,41 +174,31 @@ owed-iff : (ws before after : List ℕ) (a : Answer) (P : Plant) (end : ℕ) →
 owed-iff ws before after a P end formed (for-plant passing failing) =
     (passes-for ws before after a P formed passing failing, figures-for ws before after a P formed passing failing)
 
--- So the table that holds it can be weighed.
-pub judged-weighable : {s : Shape} {table : List ℕ} → Ready s table → (file ws : List ℕ) (room end : ℕ) → found (plantOf s table) end ≡ judged file ws room → Weighable s table ws
-judged-weighable ready file ws room end e =
-    let good = judged-good file ws room _ end (sym e) .0 in
-    record { ready = ready; limits = good .0; one-each = good .1 .one-each; light = none-above 1000 ws (good .1 .light) }
-
 -- For every input that is judged to be a plant, figures are handed back exactly when every quiet simple cycle weighs below zero.
 pub passed-iff : (file ws before after : List ℕ) (a : Answer) (P : Plant) (end : ℕ) → judged file ws (length before) ≡ found P end
     → Owed ws before after a (judged file ws (length before)) → HasFigures a ↔ Passes P ws
 passed-iff file ws before after a P end e owed =
     owed-iff ws before after a P end (judged-limits file ws (length before) P end e .formed) (owed-same ws before after a (judged file ws (length before)) (found P end) e owed)
 
--- The sorts of answers: figures, a count of rows, a refusal.
-abbrev pub sortOf : Answer → ℕ
-sortOf (passed f) = 0
-sortOf (cycle k) = 1
-sortOf (refused number place) = 2
-
--- Two answers that are owed for one thing found are of one sort: for a plant it is the weights that decide.
-same-sort : {ws before after after′ : List ℕ} {a b : Answer} (x : Found Plant) → ((P : Plant) (end : ℕ) → x ≡ found P end → WellFormed P)
-    → Owed ws before after a x → Owed ws before after′ b x → sortOf a ≡ sortOf b
-same-sort (fault number place) formed (for-fault h) (for-fault i) = ap sortOf (h .refusal ∙ sym (i .refusal))
-same-sort {ws} {a = a} {b = b} (found P end) formed (for-plant h f) (for-plant i g) = go (decision P (formed P end refl) ws)
+-- Two answers that are owed for one thing found are one: for a plant it is the weights that decide, and two cycles with the fewest rows have as many.
+same-answer : {ws before after after′ : List ℕ} {a b : Answer} (x : Found Plant) → ((P : Plant) (end : ℕ) → x ≡ found P end → WellFormed P)
+    → Owed ws before after a x → Owed ws before after′ b x → a ≡ b
+same-answer (fault number place) formed (for-fault h) (for-fault i) = h .refusal ∙ sym (i .refusal)
+same-answer {ws} {a = a} {b = b} (found P end) formed (for-plant h f) (for-plant i g) = go (decision P (formed P end refl) ws)
   where
-    go : Passes P ws ⊎ ((c : List ℕ) × FailingCycle P ws c) → sortOf a ≡ sortOf b
-    go (inl p) = ap sortOf (h p .figures) ∙ sym (ap sortOf (i p .figures))
+    go : Passes P ws ⊎ ((c : List ℕ) × FailingCycle P ws c) → a ≡ b
+    go (inl p) = h p .figures ∙ sym (i p .figures)
     go (inr x) =
         let fails : Passes P ws → ⊥ = λ p. not-both P ws (x .0) p (x .1) in
-        ap sortOf (f fails .count) ∙ sym (ap sortOf (g fails .count))
+        let one = f fails in
+        let other = g fails in
+        one .count ∙ (ap cycle (fewest-as-many (one .fails) (one .fewest) (other .fails) (other .fewest)) ∙ sym (other .count))
 
--- So for every input the sort of the answer is determined.
-pub sort-determined : (file ws before after after′ : List ℕ) (a b : Answer) → Owed ws before after a (judged file ws (length before))
-    → Owed ws before after′ b (judged file ws (length before)) → sortOf a ≡ sortOf b
-sort-determined file ws before after after′ a b =
-    same-sort (judged file ws (length before)) (λ P end e. judged-limits file ws (length before) P end e .formed)
+-- So for every input the answer is determined; only which of equally short cycles stands in the list is free.
+pub answer-determined : (file ws before after after′ : List ℕ) (a b : Answer) → Owed ws before after a (judged file ws (length before))
+    → Owed ws before after′ b (judged file ws (length before)) → a ≡ b
+answer-determined file ws before after after′ a b =
+    same-answer (judged file ws (length before)) (λ P end e. judged-limits file ws (length before) P end e .formed)
 
 -- Different answers never mean the same.
 pub one-to-one : (a b : Weighed) → answerOf a ≡ answerOf b → a ≡ b
@@ -250,14 +240,6 @@ sortOfVerdict (Answers.passing f) = 0
 sortOfVerdict Answers.failing = 1
 sortOfVerdict (Answers.refusing number place) = 2
 
--- Figures are another verdict than that the weights do not pass,
-pub passing-other : {A : Type 0} {f : Theory.Figures} → Answers.passing f ≡ Answers.failing → A
-passing-other e = absurd (omega (arith, ap sortOfVerdict e))
-
--- and so is a refusal.
-pub refusing-other : {A : Type 0} {number place : ℕ} → Answers.refusing number place ≡ Answers.failing → A
-refusing-other e = absurd (omega (arith, ap sortOfVerdict e))
-
 -- A refusal is owed for that fault alone,
 pub verdict-refused : {ws : List ℕ} {number place : ℕ} (x : Found Plant) → OwedVerdict ws (Answers.refusing number place) x → fault number place ≡ x
 verdict-refused (fault n q) (verdict-for-fault h) = cc
@@ -279,7 +261,7 @@ verdict-passes {ws} {f} (found P end) formed (verdict-for-plant passes fails) = 
     go (inl p) = (P, end, refl, p, passes p)
     go (inr x) = absurd (omega (arith, ap sortOfVerdict (fails (λ p. not-both P ws (x .0) p (x .1)))))
 
--- So where figures are the verdict, weighing owes them too, with the list kept,
+-- So where figures are the verdict, weighing owes them too, with the list kept.
 pub verdict-owed : {ws : List ℕ} {f : Theory.Figures} (before : List ℕ) (x : Found Plant) → OwedVerdict ws (Answers.passing f) x → Owed ws before before (passed f) x
 verdict-owed before (fault n q) (verdict-for-fault h) = absurd (omega (arith, ap sortOfVerdict h))
 verdict-owed before (found P end) (verdict-for-plant passes fails) =
@@ -289,10 +271,6 @@ verdict-owed before (found P end) (verdict-for-plant passes fails) =
   where
     passing-is : {f g : Theory.Figures} → Answers.passing f ≡ Answers.passing g → passed f ≡ passed g
     passing-is e = cc
-
--- and where the weights fail, the list was long enough.
-pub verdict-room : (file ws : List ℕ) (room : ℕ) → OwedVerdict ws Answers.failing (judged file ws room) → 64 ≤ room
-verdict-room file ws room v = let x = verdict-fails (judged file ws room) v in judged-good file ws room (x .0) (x .1) (x .2) .1
 
 -- Different verdicts never mean the same.
 pub verdicts-differ : (a b : Verdict) → judgementOf a ≡ judgementOf b → a ≡ b

@@ -4,7 +4,7 @@ use mathlib.Core.List.{List, _++_}
 use Prim.Native.Nat.{ℕ, _≤_}
 use lib.ListN.{length, drop}
 use Rattle.livelock.specs.Plants.{Plant}
-use Rattle.livelock.specs.Weights.{Passes, FailingCycle}
+use Rattle.livelock.specs.Weights.{Passes, FailingCycle, FewestRows}
 use Rattle.livelock.specs.Figures.{figuresOf, Bounded}
 use Rattle.plant.specs.Found.{Found, found, fault}
 use Rattle.weighing.specs.Answers.{Answer, passed, cycle, refused, Judgement, passing, failing, refusing}
@@ -15,11 +15,12 @@ pub record OnPassing (P : Plant) (ws before after : List ℕ) (a : Answer) : Typ
   pub whole-kept : after ≡ before
   pub bounded : Bounded P ws
 
--- "Otherwise the rows of one quiet simple cycle weighing zero or more fill the front of a second lent list, and their count is handed back.
--- Which one is free; its later entries keep their contents."
+-- "Otherwise the rows of one quiet simple cycle weighing zero or more fill the front of a second lent list, and their count is handed back";
+-- it "has the fewest rows" of all such cycles, "which one of equally short ones is still free"; "its later entries keep their contents."
 pub record OnFailing (P : Plant) (ws before after : List ℕ) (a : Answer) : Type 0 where
   pub rows : List ℕ
   pub fails : FailingCycle P ws rows
+  pub fewest : FewestRows P ws rows
   pub few : length rows ≤ 64
   pub count : a ≡ cycle (length rows)
   pub shown : after ≡ rows ++ drop (length rows) before

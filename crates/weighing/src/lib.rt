@@ -1,13 +1,12 @@
 // Weighing a plant.
-ghost use Prim.Native.Nat.{min};
-ghost use mathlib.Core.Path.{_≡_};
+ghost use Prim.Native.Nat.{_≤_, min};
 ghost use lib.ListN.{length};
 ghost use Rattle.weighing.specs.Answers.{answerOf, judgementOf};
 ghost use Rattle.weighing.specs.Weighing.{Owed, OwedVerdict};
 ghost use Rattle.tables.specs.Tables.{RoomFor};
 ghost use Rattle.machines.specs.Machines.{Weighable, EdgesBeside};
 ghost use Rattle.weight_checks.specs.Checks.{judgedWeights, judged};
-ghost use Rattle.weighing.specs.Inner.Judging.{OwedJudged, JudgedFor};
+ghost use Rattle.weighing.specs.Inner.Judging.{OwedTable, OwedTableVerdict};
 use decoding::Shape;
 use figures::Figures;
 use plant::End;
@@ -42,68 +41,29 @@ pub enum Verdict {
     Refused(Fault),
 }
 
-// A verdict. Where the weights do not pass: how many edges the first machine has that fails, and how many states.
-struct Judged {
-    verdict: Verdict,
-    count: usize,
-    states: usize,
-}
-
-// A verdict without edges to search: figures, or a refusal.
-fn without_edges(verdict: Verdict) -> Judged
-    ensures { λ r. ⌜ r ≡ record { verdict = verdict; count = 0; states = 0 } ⌝ }
-{
-    Judged {
-        verdict,
-        count: 0,
-        states: 0,
-    }
-}
-
-// Decides whether the weights pass the machines of a table. Where they do not, the edges of the first machine that fails stay in the list.
-fn judge_table(table: &[u8], shape: Shape, weights: &[u16], edges: &mut [i16]) -> Judged
-    requires { ⌜ Weighable shape (now table) (now weights) × EdgesBeside (now table) (now edges) ⌝ }
-    ensures { λ r. ⌜ JudgedFor shape (now (table .entry)) (now (weights .entry)) (now (edges .exit)) r ⌝ }
+// Weighs the machines of a table: the figures, or a shortest cycle.
+fn weigh_table(
+    table: &[u8],
+    shape: Shape,
+    weights: &[u16],
+    cycle: &mut [u16],
+    edges: &mut [i16],
+) -> Weighed
+    requires { ⌜ Weighable shape (now table) (now weights) × EdgesBeside (now table) (now edges) × (64 ≤ length (now cycle)) ⌝ }
+    ensures { λ r. ⌜ OwedTable shape (now (table .entry)) (now (weights .entry)) (now (cycle .entry)) (now (cycle .exit)) (answerOf r) ⌝ }
 {
     let states = shape.states;
     let figures = figures::figures_of(&states[..shape.machines], weights);
-    let failing = machines::first_failing(table, shape, weights, figures.most_states, edges);
-    let m = failing.machine;
-    if m < shape.machines {
-        return Judged {
-            verdict: Verdict::Fails,
-            count: failing.count,
-            states: casts::index_u8(states[m]),
-        };
+    let n = figures.most_states;
+    let failing = machines::first_failing(table, shape, 0, weights, n, edges);
+    if failing.machine < shape.machines {
+        let rows = shortest_cycles::show(table, shape, failing, weights, n, edges, cycle);
+        return Weighed::Cycle { rows };
     }
-    without_edges(Verdict::Passes(figures))
+    Weighed::Passed(figures)
 }
 
-// Reads a file into a lent table, makes the checks 9 to 11 and decides.
-fn judge_in(
-    file: &[u8],
-    weights: &[u16],
-    room: usize,
-    table: &mut [u8],
-    edges: &mut [i16],
-) -> Judged
-    requires { ⌜ RoomFor (min 1024 (length (now file))) (now table) × EdgesBeside (now table) (now edges) ⌝ }
-    ensures { λ r. ⌜ OwedJudged (now (weights .entry)) (now (edges .exit)) r (judged (now (file .entry)) (now (weights .entry)) room) ⌝ }
-{
-    let decoded = decoding::decode(file, table);
-    let read = decoded.end;
-    let shape = decoded.shape;
-    let end = weight_checks::check_room(
-        weight_checks::check_weights(read, shape.types as usize, weights),
-        room,
-    );
-    match end {
-        End::Fault(fault) => without_edges(Verdict::Refused(fault)),
-        End::At(_) => judge_table(table, shape, weights, edges),
-    }
-}
-
-// Weighs the plant of a file with a lent table and a lent list of edges.
+// Reads a file into a lent table, makes the checks 9 to 11 and weighs, with a lent list of edges.
 fn weigh_in(
     file: &[u8],
     weights: &[u16],
@@ -114,17 +74,16 @@ fn weigh_in(
     requires { ⌜ RoomFor (min 1024 (length (now file))) (now table) × EdgesBeside (now table) (now edges) ⌝ }
     ensures { λ r. ⌜ Owed (now (weights .entry)) (now (cycle .entry)) (now (cycle .exit)) (answerOf r) (judged (now (file .entry)) (now (weights .entry)) (length (now (cycle .entry)))) ⌝ }
 {
-    let judged = judge_in(file, weights, cycle.len(), table, edges);
-    let verdict = judged.verdict;
-    match verdict {
-        Verdict::Passes(figures) => Weighed::Passed(figures),
-        Verdict::Fails => {
-            let count = judged.count;
-            let own = judged.states;
-            let rows = searching::show(edges, count, own, cycle);
-            Weighed::Cycle { rows }
-        }
-        Verdict::Refused(fault) => Weighed::Refused(fault),
+    let decoded = decoding::decode(file, table);
+    let read = decoded.end;
+    let shape = decoded.shape;
+    let end = weight_checks::check_room(
+        weight_checks::check_weights(read, shape.types as usize, weights),
+        cycle.len(),
+    );
+    match end {
+        End::Fault(fault) => Weighed::Refused(fault),
+        End::At(_) => weigh_table(table, shape, weights, cycle, edges),
     }
 }
 
@@ -142,13 +101,33 @@ pub fn weigh(file: &[u8], weights: &[u16], cycle: &mut [u16]) -> Weighed
     weigh_in(file, weights, cycle, &mut table, &mut edges)
 }
 
-// The verdict alone, with a lent table and a lent list of edges. There is no lent list for a cycle, so that check 11 finds nothing.
-fn verdict_in(file: &[u8], weights: &[u16], table: &mut [u8], edges: &mut [i16]) -> Verdict
+// Decides whether the weights pass the machines of a table; no cycle is searched for.
+fn judge_table(table: &[u8], shape: Shape, weights: &[u16], edges: &mut [i16]) -> Verdict
+    requires { ⌜ Weighable shape (now table) (now weights) × EdgesBeside (now table) (now edges) ⌝ }
+    ensures { λ r. ⌜ OwedTableVerdict shape (now (table .entry)) (now (weights .entry)) (judgementOf r) ⌝ }
+{
+    let states = shape.states;
+    let figures = figures::figures_of(&states[..shape.machines], weights);
+    let failing = machines::first_failing(table, shape, 0, weights, figures.most_states, edges);
+    if failing.machine == shape.machines {
+        return Verdict::Passes(figures);
+    }
+    Verdict::Fails
+}
+
+// The verdict alone. There is no lent list for a cycle, and no check 11.
+fn judge_in(file: &[u8], weights: &[u16], table: &mut [u8], edges: &mut [i16]) -> Verdict
     requires { ⌜ RoomFor (min 1024 (length (now file))) (now table) × EdgesBeside (now table) (now edges) ⌝ }
     ensures { λ r. ⌜ OwedVerdict (now (weights .entry)) (judgementOf r) (judgedWeights (now (file .entry)) (now (weights .entry))) ⌝ }
 {
-    let judged = judge_in(file, weights, 64, table, edges);
-    judged.verdict
+    let decoded = decoding::decode(file, table);
+    let read = decoded.end;
+    let shape = decoded.shape;
+    let end = weight_checks::check_weights(read, shape.types as usize, weights);
+    match end {
+        End::Fault(fault) => Verdict::Refused(fault),
+        End::At(_) => judge_table(table, shape, weights, edges),
+    }
 }
 
 // Weighs without a cycle to show: where the weights do not pass, deciding is a small part of the work.
@@ -158,9 +137,9 @@ pub fn judge(file: &[u8], weights: &[u16]) -> Verdict
     if file.len() <= SHORT {
         let mut table = [0; SHORT_TABLE];
         let mut edges = [0; SHORT_EDGES];
-        return verdict_in(file, weights, &mut table, &mut edges);
+        return judge_in(file, weights, &mut table, &mut edges);
     }
     let mut table = [0; TABLE];
     let mut edges = [0; EDGES];
-    verdict_in(file, weights, &mut table, &mut edges)
+    judge_in(file, weights, &mut table, &mut edges)
 }

@@ -13,7 +13,7 @@ use Rattle.livelock.specs.CycleSets.{setEffect}
 use Rattle.livelock.specs.Tests.{every, isWalk, isDistinct}
 use Rattle.livelock.proofs.Decision.{not-both}
 use Rattle.livelock.proofs.BasicExamples.{panelAndProbe, plantA, plantB, probe-cycle, probe-quiet}
-use Rattle.livelock.proofs.PassingExamples.{passes-2-1, shown-1-1, none-pass-in-B}
+use Rattle.livelock.proofs.PassingExamples.{passes-2-1, shown-1-1, fewest-in-A, none-pass-in-B}
 use Rattle.plant.specs.Found.{found}
 use Rattle.weight_checks.specs.Checks.{firstAbove, checkedSizes, checkedWeights}
 use Rattle.price_classes.specs.Classes.{edges, classOf}
@@ -29,7 +29,7 @@ use Rattle.worked_examples.specs.Files.{fileA, oneState, oneRow}
 use Rattle.worked_examples.specs.Table.{Examples}
 use Rattle.worked_examples.proofs.Plants.{onePlant, rowPlant, reads-A, reads-B, reads-one-state, reads-quiet-row, reads-progress-row}
 use Rattle.worked_examples.proofs.Plants.{passes-1-0, shown-1-2, one-state-passes, quiet-row-fails, progress-row-passes}
-use Rattle.worked_examples.proofs.AnswerLaws.{figures-owed, failing-owed, quote-owed}
+use Rattle.worked_examples.proofs.AnswerLaws.{figures-owed, shown-owed, quote-owed}
 
 -- The probe's cycle is the one of machine 1, and takes 3 entries.
 needs-3 : Listing.judged fileA 1 3 ≡ found (2 ∷ 2 ∷ 3 ∷ []) 20
@@ -54,11 +54,12 @@ examples =
             end = 20;
             reads = reads-A;
             rightful = shown-1-1;
+            fewest = fewest-in-A (1 ∷ 1 ∷ []);
             weighs = refl;
             not-passing = λ p. not-both plantA (1 ∷ 1 ∷ []) (2 ∷ 3 ∷ []) p shown-1-1;
             answer =
                 λ before after a room owed.
-                failing-owed fileA (1 ∷ 1 ∷ []) before after a plantA 20 reads-A refl (le-refl 2) (λ p. not-both plantA (1 ∷ 1 ∷ []) (2 ∷ 3 ∷ []) p shown-1-1) room owed;
+                shown-owed fileA (1 ∷ 1 ∷ []) before after (2 ∷ 3 ∷ []) a plantA 20 reads-A refl (le-refl 2) shown-1-1 (fewest-in-A (1 ∷ 1 ∷ [])) room owed;
           };
       weights-1-2 =
           record {
@@ -66,11 +67,12 @@ examples =
             end = 20;
             reads = reads-A;
             rightful = shown-1-2;
+            fewest = fewest-in-A (1 ∷ 2 ∷ []);
             weighs = refl;
             not-passing = λ p. not-both plantA (1 ∷ 2 ∷ []) (2 ∷ 3 ∷ []) p shown-1-2;
             answer =
                 λ before after a room owed.
-                failing-owed fileA (1 ∷ 2 ∷ []) before after a plantA 20 reads-A refl (le-refl 2) (λ p. not-both plantA (1 ∷ 2 ∷ []) (2 ∷ 3 ∷ []) p shown-1-2) room owed;
+                shown-owed fileA (1 ∷ 2 ∷ []) before after (2 ∷ 3 ∷ []) a plantA 20 reads-A refl (le-refl 2) shown-1-2 (fewest-in-A (1 ∷ 2 ∷ [])) room owed;
           };
       quote-39 =
           record {

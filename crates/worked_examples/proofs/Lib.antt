@@ -3,3 +3,4 @@ pub mod Plants
 pub mod AnswerLaws
 pub mod Collected
 pub mod Published
+pub mod Detour

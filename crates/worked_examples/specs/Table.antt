@@ -6,7 +6,7 @@ use lib.ListN.{length}
 use lib.IntN.{ℤ, pos, negsuc}
 use Rattle.livelock.specs.Plants.{Plant}
 use Rattle.livelock.specs.Cycles.{SimpleCycle, Quiet}
-use Rattle.livelock.specs.Weights.{cycleWeight, Passes, FailingCycle}
+use Rattle.livelock.specs.Weights.{cycleWeight, Passes, FailingCycle, FewestRows}
 use Rattle.livelock.specs.Figures.{contentsWeight}
 use Rattle.plant.specs.Found.{found}
 use Rattle.plant.specs.Reading.{readPlant}
@@ -20,7 +20,7 @@ use Rattle.listing.specs.Answers as ListingAnswers
 use Rattle.listing.specs.Listing as Listing
 use Rattle.cycle_sets.specs.Answers as ConfirmingAnswers
 use Rattle.cycle_sets.specs.Confirming as Confirming
-use Rattle.worked_examples.specs.Files.{fileA, fileB, oneState, oneRow, twoClients, twoClientsInTurn}
+use Rattle.worked_examples.specs.Files.{fileA, fileB, oneState, oneRow, twoClients, twoClientsInTurn, detour}
 
 -- Every answer that meets the contract of `weigh`, for a lent list of 64 entries or more, has these figures.
 abbrev pub PassedWith : List ℕ → List ℕ → ℕ → ℕ → ℕ → Type 0
@@ -37,17 +37,18 @@ pub record CycleWeighs (file ws : List ℕ) (m : ℕ) (rows : List ℕ) (z : ℤ
   pub quiet : Quiet plant rows
   pub weighs : cycleWeight plant ws rows ≡ z
 
--- "shown": the rows are rightful to show, their weight is this number, and the weights do not pass; and every answer that meets the
--- contract of `weigh`, for a lent list of 64 entries or more, shows a quiet simple cycle that weighs zero or more.
+-- "shown": the rows are rightful to show, none has fewer, their weight is this number, and the weights do not pass; and every answer that
+-- meets the contract of `weigh`, for a lent list of 64 entries or more, shows such a cycle of as many rows.
 pub record Shown (file ws rows : List ℕ) (z : ℤ) : Type 0 where
   pub plant : Plant
   pub end : ℕ
   pub reads : readPlant file ≡ found plant end
   pub rightful : FailingCycle plant ws rows
+  pub fewest : FewestRows plant ws rows
   pub weighs : cycleWeight plant ws rows ≡ z
   pub not-passing : Passes plant ws → ⊥
   pub answer : (before after : List ℕ) (a : WeighingAnswers.Answer) → 64 ≤ length before → Weighing.Owed ws before after a (WeightChecks.judged file ws (length before))
-      → Weighing.OnFailing plant ws before after a
+      → Weighing.OnFailing plant ws before after a × (a ≡ WeighingAnswers.cycle (length rows))
 
 -- "no weights pass": none of the right count.
 pub record NoWeightsPass (file : List ℕ) : Type 0 where
@@ -115,3 +116,12 @@ pub record PublishedExample : Type 0 where
   pub none-pass : NoWeightsPass twoClients
   -- "has no solutions, which implies livelock freedom": weights pass for the corrected example.
   pub corrected : PassedWith twoClientsInTurn (2 ∷ 0 ∷ 0 ∷ 0 ∷ 1 ∷ 0 ∷ []) 143 6 77
+
+-- Request L1 of document 02, with weights 2, 1 for the plant with a detour.
+pub record ShortestExample : Type 0 where
+  -- The fan's five rows are a quiet simple cycle that weighs zero, and the fan comes before the feeder;
+  pub longer : CycleWeighs detour (2 ∷ 1 ∷ []) 2 (4 ∷ 5 ∷ 6 ∷ 7 ∷ 8 ∷ []) (pos 0)
+  -- so are the feeder's four,
+  pub round-trip : CycleWeighs detour (2 ∷ 1 ∷ []) 3 (9 ∷ 10 ∷ 11 ∷ 12 ∷ []) (pos 0)
+  -- but "the cycle shown has the fewest rows": two, as the feeder's over its row back.
+  pub shortest : Shown detour (2 ∷ 1 ∷ []) (9 ∷ 13 ∷ []) (pos 0)

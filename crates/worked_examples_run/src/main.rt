@@ -1,5 +1,5 @@
-// Runs every worked example of document 01, its tempting errors and the published test's running example through the calls, and
-// prints a line for each.
+// Runs every worked example of document 01, its tempting errors, the published test's running example and a plant with a detour through
+// the calls, and prints a line for each.
 use cycle_sets::Confirmation;
 use listing::Listed;
 use quoting::Quoted;
@@ -39,7 +39,7 @@ fn weigh(title: &[u8], file: &[u8], weights: &[u16]) {
         }
         Weighed::Cycle { rows } => {
             printing::say(b"not passed, shown are the rows");
-            printing::entries(&cycle, rows);
+            printing::cycle(&cycle, rows);
         }
         Weighed::Refused(fault) => printing::refused(fault),
     }
@@ -253,6 +253,15 @@ fn two_clients_in_turn() {
     );
 }
 
+// The cycle shown is a shortest one of all machines.
+fn detour() {
+    weigh(
+        b"A fan's five rows, a feeder's four and two of these, weights 2, 1: ",
+        &plants::DETOUR,
+        &[2, 1],
+    );
+}
+
 fn main() {
     reading();
     weighing_a();
@@ -264,4 +273,5 @@ fn main() {
     tempting_set_and_states();
     two_clients();
     two_clients_in_turn();
+    detour();
 }

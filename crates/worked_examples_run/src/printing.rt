@@ -1,4 +1,6 @@
 // Printing words, numbers and lists.
+ghost use Prim.Native.Nat.{_≤_};
+ghost use lib.ListN.{length};
 use libc::STDOUT_FILENO;
 use plant::Fault;
 
@@ -29,6 +31,31 @@ pub fn entries(list: &[u16], count: usize) {
             entry(list[i]);
         }
         i += 1;
+    }
+}
+
+// Where the lowest of the first entries of a list stands.
+fn lowest(list: &[u16], count: usize) -> usize
+    requires { ⌜ count ≤ length (now list) ⌝ }
+    ensures { λ r. ⌜ r ≤ count ⌝ }
+{
+    let mut low = 0;
+    let mut i = 0;
+    while i < count {
+        if list[i] < list[low] {
+            low = i;
+        }
+        i += 1;
+    }
+    low
+}
+
+// The rows of a cycle from the lowest on: it may be shown from any of them.
+pub fn cycle(list: &[u16], count: usize) {
+    if count <= list.len() {
+        let low = lowest(list, count);
+        entries(&list[low..], count - low);
+        entries(list, low);
     }
 }
 

@@ -25,11 +25,11 @@ use Rattle.closed_walks.proofs.least_from.Statement.{statement}
 use Rattle.closed_walks.proofs.least_from.Tie as tie
 
 abbrev Inv-loop : tie.InvT-loop
-Inv-loop edges count states start limit walks₀ noted₀ old₀ k₀ walks noted old k =
-    (k ≤ limit) × Searched (edgeGraph count edges) states start k old walks noted × NoneUpTo (edgeGraph count edges) start k × (length noted ≡ length noted₀)
+Inv-loop edges count states start limit walks₀ noted₀ old₀ new₀ k₀ walks noted old new k =
+    (k ≤ limit) × Searched (edgeGraph count edges) states start k old new walks noted × NoneUpTo (edgeGraph count edges) start k × (length noted ≡ length noted₀)
 
 abbrev μ-loop : tie.MeasureT-loop
-μ-loop edges count states start limit walks₀ noted₀ old₀ k₀ walks noted old k = limit - k
+μ-loop edges count states start limit walks₀ noted₀ old₀ new₀ k₀ walks noted old new k = limit - k
 
 clear-requires : tie.Need-clear-requires Inv-loop μ-loop
 clear-requires c κs = let p = c .before .before .pre in (p .3, omega arith, p .0 .states-in)
@@ -45,9 +45,6 @@ loop-holds c =
     let a = c .before .before .before .args in
     let p = c .before .before .before .pre in
     (search needs, searched-first _ (a .states) (a .start) (a .walks .now) _ (a .noted .now) (p .0 .states-in) (p .1) (p .3) (c .clear .ensures) (p .4), none-at-first _ _, refl)
-
-sub-new : tie.Need-sub-new Inv-loop μ-loop
-sub-new c = halves-in (c .before .loop .inv .1 .halves) .0
 
 clear-requires-2 : tie.Need-clear-requires-2 Inv-loop μ-loop
 clear-requires-2 c κs =
@@ -76,7 +73,7 @@ add-k : tie.Need-add-k Inv-loop μ-loop
 add-k c = search needs
 
 -- The start has an entry in the table of the round.
-start-low : (c : tie.After-slice-known2 Inv-loop μ-loop) → (64 - c .before .before .before .before .before .before .before .before .loop .old) + c .before .before .before .before .before .before .before .before .before .before .before .before .args .start < 128
+start-low : (c : tie.After-slice-known2 Inv-loop μ-loop) → c .before .before .before .before .before .before .before .before .loop .new + c .before .before .before .before .before .before .before .before .before .before .before .before .args .start < 128
 start-low c =
     let p = c .before .before .before .before .before .before .before .before .before .before .before .before .pre in
     omega (arith, p .1, p .0 .states-in, halves-in (c .before .before .before .before .before .before .before .before .loop .inv .1 .halves) .1)
@@ -144,7 +141,6 @@ least-from-spec =
     mul-walks
     element-write-walks
     loop-holds
-    sub-new
     clear-requires-2
     round-requires
     add-k

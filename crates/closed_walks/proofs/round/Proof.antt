@@ -15,18 +15,19 @@ use Rattle.closed_walks.proofs.round.Statement.{statement}
 use Rattle.closed_walks.proofs.round.Tie as tie
 
 abbrev Inv-loop : tie.InvT-loop
-Inv-loop edges count states walks₀ old noted₀ k new i₀ walks noted i = (i ≤ count) × Round (edgeGraph count edges) i states old (64 - old) k walks₀ walks noted₀ noted
+Inv-loop edges count states walks₀ noted₀ k old new i₀ walks noted i =
+    (i ≤ count) × Round (edgeGraph count edges) i states old new k walks₀ walks noted₀ noted
 
 abbrev μ-loop : tie.MeasureT-loop
-μ-loop edges count states walks₀ old noted₀ k new i₀ walks noted i = count - i
+μ-loop edges count states walks₀ noted₀ k old new i₀ walks noted i = count - i
 
 -- Both states of an edge have an entry in each table.
-left-low : (c : tie.After-from-of Inv-loop μ-loop) → (64 - c .before .before .before .before .args .old) + c .from-of .result < 128
+left-low : (c : tie.After-from-of Inv-loop μ-loop) → c .before .before .before .before .args .sides .new + c .from-of .result < 128
 left-low c =
     let p = c .before .before .before .before .pre in
     omega (arith, c .from-of .ensures, p .0 .from-in (c .before .before .loop .i) (c .before .loop-test .taken), p .0 .states-in, halves-in (p .1 .halves) .1)
 
-entered-low : (c : tie.After-to-of Inv-loop μ-loop) → c .before .before .before .before .before .before .args .old + c .to-of .result < 128
+entered-low : (c : tie.After-to-of Inv-loop μ-loop) → c .before .before .before .before .before .before .args .sides .old + c .to-of .result < 128
 entered-low c =
     let p = c .before .before .before .before .before .before .pre in
     omega (arith, c .to-of .ensures, p .0 .to-in (c .before .before .before .before .loop .i) (c .before .before .before .loop-test .taken), p .0 .states-in, halves-in (p .1 .halves) .0)
@@ -41,9 +42,6 @@ edge-index : (c : tie.After-from-of Inv-loop μ-loop) → c .before .before .bef
 edge-index c =
     let p = c .before .before .before .before .pre in
     omega (arith, c .from-of .ensures, p .0 .from-in (c .before .before .loop .i) (c .before .loop-test .taken), p .0 .states-in, p .1 .few)
-
-sub-new : tie.Need-sub-new Inv-loop μ-loop
-sub-new c = halves-in (c .before .pre .1 .halves) .0
 
 loop-holds : tie.Need-loop-holds Inv-loop μ-loop
 loop-holds c = let a = c .before .args in let p = c .before .pre in (search needs, round-starts (a .count) (a .states) (a .edges .now) (p .0) (p .1 .halves) (a .k) (a .walks .now) (a .noted .now) (p .1 .zeros))
@@ -147,7 +145,7 @@ returns c =
     let a = c .before .before .before .args in
     let l = c .before .loop in
     let done : l .i ≡ a .count = omega (arith, l .inv .0, c .loop-test .left) in
-    subst (λ (x : ℕ). Round (edgeGraph (a .count) (a .edges .now)) x (a .states) (a .old) (64 - a .old) (a .k) (a .walks .now) (l .walks) (a .noted .now) (l .noted)) done (l .inv .1)
+    subst (λ (x : ℕ). Round (edgeGraph (a .count) (a .edges .now)) x (a .states) (a .sides .old) (a .sides .new) (a .k) (a .walks .now) (l .walks) (a .noted .now) (l .noted)) done (l .inv .1)
 
 pub round-spec : {M : Type 1} → statement M
 round-spec =
@@ -155,7 +153,6 @@ round-spec =
     (tie.spec
     Inv-loop
     μ-loop
-    sub-new
     loop-holds
     from-of-requires
     add-at

@@ -2,7 +2,7 @@
 use mathlib.Core.Path.{_≡_}
 use mathlib.Core.Logic.{_⊎_}
 use mathlib.Core.List.{List}
-use Prim.Native.Nat.{ℕ, _+_, _-_, _*_, _≤_, _<_}
+use Prim.Native.Nat.{ℕ, _+_, _*_, _≤_, _<_}
 use lib.ListN.{length, getD}
 use Rattle.livelock.specs.Lists.{below, greatest}
 use Rattle.livelock.specs.Graphs.{Graph, via}
@@ -27,11 +27,11 @@ pub record Cleared (states at : ℕ) (before after : List ℕ) : Type 0 where
   pub kept-below : (j : ℕ) → j < at → getD after j 0 ≡ getD before j 0
   pub kept-above : (j : ℕ) → at + 64 ≤ j → getD after j 0 ≡ getD before j 0
 
--- What a round asks: walks of at most as many edges as there are states, in the table at `old`, and zeros in the other.
-pub record RoundReady (states old k : ℕ) (walks noted : List ℕ) : Type 0 where
-  pub halves : Halves old (64 - old)
+-- What a round asks: walks of at most as many edges as there are states, in the table at `old`, and zeros in that at `new`.
+pub record RoundReady (states old new k : ℕ) (walks noted : List ℕ) : Type 0 where
+  pub halves : Halves old new
   pub low : Low states old walks
-  pub zeros : Zeros states (64 - old) walks
+  pub zeros : Zeros states new walks
   pub few : k < states
   pub room : length walks ≡ 128
   pub edge-room : NotedRoom states noted

@@ -1,24 +1,25 @@
 -- `first_failing` meets its contract: the machines so far pass; the first for which deciding says no ends the loop.
 use borrow.Author.Needs.{needs}
 use mathlib.Core.Path.{_≡_, refl, _∙_}
-use Prim.Native.Nat.{ℕ, _+_, _-_, _≤_, _<_}
+use Prim.Native.Nat.{ℕ, _-_, _≤_, _<_}
 use native.Mathlib.Omega.{arith}
-use lib.ListN.{length, getD}
+use lib.ListN.{length}
 use borrow.Author.Tests.{not-true, not-false}
-use Rattle.machines.specs.Machines.{PassingRows}
+use Rattle.decoding.specs.Tables.{plantOf}
+use Rattle.machines.specs.Machines.{MachinePasses}
 use Rattle.machines.proofs.TurnLaws.{when-true, when-false, below-next, turn-rows, turn-edges, turn-states, turn-passes, turn-fails}
 use Rattle.machines.proofs.first_failing.Statement.{statement}
 use Rattle.machines.proofs.first_failing.Tie as tie
 
 abbrev Inv-loop : tie.InvT-loop
-Inv-loop table weights n edges₀ shape m₀ edges m =
-    (m ≤ shape .machines) × ((j : ℕ) → j < m → PassingRows table weights (getD (shape .first) j 0) (getD (shape .first) (j + 1) 0)) × (length edges ≡ length edges₀)
+Inv-loop table from weights n edges₀ shape m₀ edges m =
+    (m ≤ shape .machines) × ((j : ℕ) → j < m → from ≤ j → MachinePasses (plantOf shape table) weights j) × (length edges ≡ length edges₀) × (from ≤ m)
 
 abbrev μ-loop : tie.MeasureT-loop
-μ-loop table weights n edges₀ shape m₀ edges m = shape .machines - m
+μ-loop table from weights n edges₀ shape m₀ edges m = shape .machines - m
 
 loop-holds : tie.Need-loop-holds Inv-loop μ-loop
-loop-holds c = (search needs, λ j l. absurd (omega arith), refl)
+loop-holds c = let p = c .before .before .pre in (omega (arith, p .1), λ j l k. absurd (omega arith), refl, omega arith)
 
 mul-index-u16 : tie.Need-mul-index-u16 Inv-loop μ-loop
 mul-index-u16 c = record { fits = omega (arith, c .loop-test .taken, c .before .before .before .before .pre .0 .ready .sound .few-machines) }
@@ -45,7 +46,7 @@ edges-of-requires : tie.Need-edges-of-requires Inv-loop μ-loop
 edges-of-requires c κs =
     let p = c .before .before .before .before .before .before .before .before .before .pre in
     let l = c .before .before .before .before .before .before .loop in
-    let rows = turn-rows _ _ _ (p .0) (l .m) (c .before .before .before .before .before .loop-test .taken) _ _ (c .before .before .before .index-u16 .ensures) (c .before .index-u162 .ensures) (l .edges) (omega (arith, l .inv .2, p .2)) in
+    let rows = turn-rows _ _ _ (p .0) (l .m) (c .before .before .before .before .before .loop-test .taken) _ _ (c .before .before .before .index-u16 .ensures) (c .before .index-u162 .ensures) (l .edges) (omega (arith, l .inv .2, p .3)) in
     (rows .0, rows .1, rows .2, rows .3, p .0 .light)
 
 element-copy-out-index-u8 : tie.Need-element-copy-out-index-u8 Inv-loop μ-loop
@@ -59,7 +60,7 @@ decide-requires c κs =
     let p = c .before .before .before .before .before .before .before .before .before .before .before .before .before .before .pre in
     let m = c .before .before .before .before .before .before .before .before .before .before .before .loop .m in
     let more = c .before .before .before .before .before .before .before .before .before .before .loop-test .taken in
-    let few = turn-states _ _ _ (p .0) m more _ _ (c .index-u8 .ensures) (p .1) in
+    let few = turn-states _ _ _ (p .0) m more _ _ (c .index-u8 .ensures) (p .2) in
     (turn-edges _ _ _ (p .0) m more _ _ (c .before .before .before .before .before .before .before .before .index-u16 .ensures) (c .before .before .before .before .before .before .index-u162 .ensures) _ _ (c .before .before .before .before .edges-of .ensures) _ (c .index-u8 .ensures), few .0, few .1)
 
 same-length : tie.Need-same-length Inv-loop μ-loop
@@ -70,6 +71,7 @@ returns c =
     let l = c .before .before .before .before .before .before .before .before .before .before .before .before .before .loop in
     let no = when-false _ (c .before .decide .result) (not-true _ (c .if1 .taken)) (c .before .decide .ensures) in
     record {
+      from-there = l .inv .3;
       within = l .inv .0;
       before = l .inv .1;
       fails = λ h. turn-fails _ _ _ (c .before .before .before .before .before .before .before .before .before .before .before .before .before .before .before .before .pre .0) (l .m) (c .before .before .before .before .before .before .before .before .before .before .before .before .loop-test .taken) _ _ (c .before .before .before .before .before .before .before .before .before .before .index-u16 .ensures) (c .before .before .before .before .before .before .before .before .index-u162 .ensures) _ _ (c .before .before .before .before .before .before .edges-of .ensures) no;
@@ -87,7 +89,7 @@ loop-again c =
     let more = c .before .before .before .before .before .before .before .before .before .before .before .before .loop-test .taken in
     let yes = when-true _ (c .before .decide .result) (not-false _ (c .if1 .left)) (c .before .decide .ensures) in
     let passes = turn-passes _ _ _ (c .before .before .before .before .before .before .before .before .before .before .before .before .before .before .before .before .pre .0) (l .m) more _ _ (c .before .before .before .before .before .before .before .before .before .before .index-u16 .ensures) (c .before .before .before .before .before .before .before .before .index-u162 .ensures) _ _ (c .before .before .before .before .before .before .edges-of .ensures) yes in
-    (omega (arith, more), below-next _ (l .m) (l .inv .1) passes, c .before .before .before .before .before .edges .given ∙ l .inv .2)
+    (omega (arith, more), below-next _ (l .m) (l .inv .1) (λ there. passes), c .before .before .before .before .before .edges .given ∙ l .inv .2, omega (arith, l .inv .3))
 
 same-length-2 : tie.Need-same-length-2 Inv-loop μ-loop
 same-length-2 c = c .before .loop .inv .2
@@ -95,7 +97,7 @@ same-length-2 c = c .before .loop .inv .2
 returns-2 : tie.Need-returns-2 Inv-loop μ-loop
 returns-2 c =
     let l = c .before .loop in
-    record { within = l .inv .0; before = l .inv .1; fails = λ h. absurd (omega (arith, h, c .loop-test .left)) }
+    record { from-there = l .inv .3; within = l .inv .0; before = l .inv .1; fails = λ h. absurd (omega (arith, h, c .loop-test .left)) }
 
 pub first-failing-spec : {M : Type 1} → statement M
 first-failing-spec =

@@ -6,23 +6,22 @@ use Prim.Native.Nat.{_-_}
 use native.Mathlib.Omega.{arith}
 use lib.ListN as List
 use Rattle.deciding.specs.Rounds.{edgeGraph}
-use Rattle.closed_walks.proofs.WalkLaws.{edges-searchable}
 use Rattle.searching.proofs.SearchLaws.{Sought, sought-none, sought-fewer, sought-same, sought-all}
 use Rattle.searching.proofs.least.Statement.{statement}
 use Rattle.searching.proofs.least.Tie as tie
 
 abbrev Inv-loop : tie.InvT-loop
-Inv-loop edges count states walks₀ noted₀ start₀ length₀ s₀ walks noted start length s =
-    Sought (edgeGraph count edges) states start length s × (List.length noted ≡ List.length noted₀) × (List.length walks ≡ 128)
+Inv-loop edges count states limit walks₀ noted₀ start₀ length₀ s₀ walks noted start length s =
+    Sought (edgeGraph count edges) states limit start length s × (List.length noted ≡ List.length noted₀) × (List.length walks ≡ 128)
 
 abbrev μ-loop : tie.MeasureT-loop
-μ-loop edges count states walks₀ noted₀ start₀ length₀ s₀ walks noted start length s = states - s
+μ-loop edges count states limit walks₀ noted₀ start₀ length₀ s₀ walks noted start length s = states - s
 
 add-length : tie.Need-add-length Inv-loop μ-loop
-add-length c = record { fits = omega (arith, c .before .pre .0 .states-in) }
+add-length c = record { fits = omega (arith, c .before .pre .1, c .before .pre .0 .states-in) }
 
 loop-holds : tie.Need-loop-holds Inv-loop μ-loop
-loop-holds c = (sought-none _ _, refl, c .before .pre .2)
+loop-holds c = (sought-none _ _ _, refl, c .before .pre .2)
 
 sub-least-from : tie.Need-sub-least-from Inv-loop μ-loop
 sub-least-from c = c .before .loop .inv .0 .some-edge
@@ -31,7 +30,7 @@ least-from-requires : tie.Need-least-from-requires Inv-loop μ-loop
 least-from-requires c κs =
     let p = c .before .before .before .before .before .pre in
     let l = c .before .before .before .loop in
-    (p .0, omega (arith, c .before .before .loop-test .taken), omega (arith, l .inv .0 .few), l .inv .2, omega (arith, l .inv .1, p .3))
+    (p .0, omega (arith, c .before .before .loop-test .taken), omega (arith, l .inv .0 .few, p .1), l .inv .2, omega (arith, l .inv .1, p .3))
 
 add-s : tie.Need-add-s Inv-loop μ-loop
 add-s c = search needs
@@ -54,9 +53,8 @@ same-length c = c .before .loop .inv .1
 
 returns : tie.Need-returns Inv-loop μ-loop
 returns c =
-    let p = c .before .before .before .pre in
     let i = c .before .loop .inv in
-    (sought-all (edges-searchable (p .0)) (p .1) (c .loop-test .left) (i .0), i .2)
+    (sought-all (c .loop-test .left) (i .0), i .2)
 
 pub least-spec : {M : Type 1} → statement M
 least-spec =

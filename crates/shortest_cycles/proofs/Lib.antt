@@ -1,0 +1,2 @@
+-- Laws of the shortest cycle.
+pub mod ShortestLaws

@@ -1,0 +1,3 @@
+-- The shortest cycle of all machines.
+pub mod ShortestCycles
+pub mod Inner
