@@ -8,6 +8,7 @@
  *     bench quote REPS FILE WEIGHTS             contents and g are 1,000
  *     bench list REPS FILE MACHINE ROOM         above 50,000,000 entries the list is only reserved, not held in memory
  *     bench confirm REPS FILE SET
+ *     bench write REPS LIST                     16-bit numbers; the buffer has room for every file
  *     bench glpk REPS FILE WEIGHTS CYCLES       the inequalities (1) to (4) of CYCLES, solved by the library of GLPK
  *     bench process REPS FILE WEIGHTS COMMAND.. weighing against a process
  *     bench growth REPS WEIGHTS FILE..          weighing each file, against the first
@@ -51,13 +52,14 @@ static void *load(const char *name, size_t *length) {
 /* ---- what the calls are given */
 
 static const uint8_t *file;
-static size_t file_length, weight_count, set_length, room;
-static const uint16_t *weights;
+static size_t file_length, weight_count, set_length, number_count, room, bytes_room = HEMTALUQ_LONGEST_FILE;
+static const uint16_t *weights, *numbers;
 static const uint32_t *set;
 static uint32_t contents[64], machine, g = 1000;
 static uint16_t cycle_ours[64], cycle_peer[64], *out_ours, *out_peer;
+static uint8_t bytes_ours[HEMTALUQ_LONGEST_FILE + 8], bytes_peer[HEMTALUQ_LONGEST_FILE + 8];
 
-static union { hemtaluq_read_answer r; hemtaluq_weigh_answer w; hemtaluq_quote_answer q; hemtaluq_list_answer l; hemtaluq_confirm_answer c; } a, b;
+static union { hemtaluq_read_answer r; hemtaluq_weigh_answer w; hemtaluq_quote_answer q; hemtaluq_list_answer l; hemtaluq_confirm_answer c; hemtaluq_write_answer f; } a, b;
 
 static void ours_read(void) { a.r = hemtaluq_read(file, file_length); }
 static void peers_read(void) { b.r = peer_read(file, file_length); }
@@ -71,12 +73,15 @@ static void ours_list(void) { a.l = hemtaluq_list(file, file_length, machine, ou
 static void peers_list(void) { b.l = peer_list(file, file_length, machine, out_peer, room); }
 static void ours_confirm(void) { a.c = hemtaluq_confirm(file, file_length, set, set_length); }
 static void peers_confirm(void) { b.c = peer_confirm(file, file_length, set, set_length); }
+static void ours_write(void) { a.f = hemtaluq_write(numbers, number_count, bytes_ours, bytes_room); }
+static void peers_write(void) { b.f = peer_write(numbers, number_count, bytes_peer, bytes_room); }
 
 static int same_read(void) { return a.r.kind == b.r.kind && a.r.number == b.r.number && a.r.types == b.r.types && a.r.place == b.r.place && a.r.machines == b.r.machines && a.r.rows == b.r.rows; }
 static int same_weigh(void) { return a.w.kind == b.w.kind && a.w.number == b.w.number && a.w.place == b.w.place && a.w.base == b.w.base && a.w.most_states == b.w.most_states && a.w.per_progress == b.w.per_progress && a.w.rows == b.w.rows && !memcmp(cycle_ours, cycle_peer, sizeof cycle_ours); }
 static int same_quote(void) { return a.q.kind == b.q.kind && a.q.number == b.q.number && a.q.place == b.q.place && a.q.price_class == b.q.price_class && a.q.ceiling == b.q.ceiling; }
 static int same_list(void) { return a.l.kind == b.l.kind && a.l.number == b.l.number && a.l.place == b.l.place && a.l.entries == b.l.entries && (a.l.kind != HEMTALUQ_LISTED || !memcmp(out_ours, out_peer, 2 * room)); }
 static int same_confirm(void) { return a.c.kind == b.c.kind && a.c.number == b.c.number && a.c.place == b.c.place && a.c.message_type == b.c.message_type && a.c.sum == b.c.sum; }
+static int same_write(void) { return a.f.kind == b.f.kind && a.f.number == b.f.number && a.f.place == b.f.place && a.f.length == b.f.length && !memcmp(bytes_ours, bytes_peer, sizeof bytes_ours); }
 
 /* ---- measuring */
 
@@ -181,9 +186,59 @@ static size_t random_set(uint32_t *s, unsigned machines) {
     return at;
 }
 
+static size_t random_rows(uint16_t *n, unsigned rows, unsigned states, unsigned types) {
+    size_t at = 0;
+    unsigned left = 0;
+    for (unsigned k = 0; k < rows; k++) {
+        unsigned kind = types ? below(3) : 0;
+        if (below(2)) left = below(states);
+        n[at++] = (uint16_t)left;
+        n[at++] = (uint16_t)(below(2) ? left : below(states));
+        n[at++] = (uint16_t)kind;
+        n[at++] = (uint16_t)(kind ? below(types) : 0);
+        n[at++] = (uint16_t)!below(4);
+    }
+    return at;
+}
+
+/* A list that says a plant, now and then with a wrong number, cut or with a number more, and with 1,024 rows or more. */
+static size_t random_list(uint16_t *n) {
+    unsigned machines = PICK(1, 1, 2, 3, 5, 16), types = PICK(0, 1, 2, 8, 64), most = below(50) ? 20 : 255, total = 0;
+    size_t at = 0;
+    n[at++] = (uint16_t)machines;
+    n[at++] = (uint16_t)types;
+    for (unsigned m = 0; m < machines; m++) {
+        unsigned states = PICK(1, 2, 3, 9, 64), rows = below(most + 1);
+        if (total <= 1024 && total + most > 1024) rows = 1024 - total + below(2);
+        total += rows;
+        n[at++] = (uint16_t)states;
+        n[at++] = (uint16_t)rows;
+        at += random_rows(n + at, rows, states, types);
+    }
+    if (!below(4)) n[below((unsigned)at)] = (uint16_t)PICK(0, 1, 2, 3, 16, 17, 63, 64, 65, 255, 256, 65535);
+    if (!below(20)) at = below((unsigned)at + 1);
+    if (!below(20)) n[at++] = 0;
+    return at;
+}
+
+/* Writes to a buffer of about the file's length, or of any. */
+static void lend_bytes(void) {
+    bytes_room = HEMTALUQ_LONGEST_FILE;
+    hemtaluq_write_answer w = peer_write(numbers, number_count, bytes_peer, bytes_room);
+    bytes_room = w.kind == HEMTALUQ_WROTE && below(8) ? w.length - !below(4) + below(3) : below(HEMTALUQ_LONGEST_FILE + 1);
+    for (size_t i = 0; i < sizeof bytes_ours; i++) bytes_ours[i] = bytes_peer[i] = (uint8_t)(i * 31 + w.length);
+}
+
 static void differ(const char *call) {
     fprintf(stderr, "bench: %s differs on ", call);
     for (size_t i = 0; i < file_length; i++) fprintf(stderr, "%02x", file[i]);
+    fprintf(stderr, "\n");
+    exit(1);
+}
+
+static void differ_on_list(void) {
+    fprintf(stderr, "bench: write, lent %zu, differs on", bytes_room);
+    for (size_t i = 0; i < number_count; i++) fprintf(stderr, " %u", numbers[i]);
     fprintf(stderr, "\n");
     exit(1);
 }
@@ -192,8 +247,10 @@ static void check(long cases) {
     static uint8_t plant[8192];
     static uint16_t w[65];
     static uint32_t s[300 * 70];
-    long kinds[8] = {0};
+    static uint16_t n[2 + 16 * (2 + 5 * 256) + 1];
+    long kinds[9] = {0}, refusals[26] = {0};
     file = plant;
+    numbers = n;
     weights = w;
     set = s;
     out_ours = malloc(400000);
@@ -229,10 +286,18 @@ static void check(long cases) {
         ours_list(), peers_list();
         if (!same_list() || memcmp(out_ours, out_peer, 2 * room)) differ("list");
         kinds[a.l.kind]++;
+        number_count = random_list(n);
+        lend_bytes();
+        ours_write(), peers_write();
+        if (!same_write()) differ_on_list();
+        kinds[a.f.kind]++;
+        refusals[a.f.number]++;
     }
-    for (int k = 0; k < 8; k++)
+    for (int k = 0; k < 9; k++)
         if (kinds[k] < cases / 100) die("an answer was met too seldom");
-    printf("{\"cases\": %ld, \"refused\": %ld, \"counts\": %ld, \"passed\": %ld, \"cycle\": %ld, \"ceiling\": %ld, \"listed\": %ld, \"confirmed\": %ld, \"negative\": %ld}\n", cases, kinds[0], kinds[1], kinds[2], kinds[3], kinds[4], kinds[5], kinds[6], kinds[7]);
+    for (int k = HEMTALUQ_LIST_LENGTH; k <= HEMTALUQ_OUTPUT_ROOM; k++)
+        if (refusals[k] < cases / 100) die("a refusal of write was met too seldom");
+    printf("{\"cases\": %ld, \"refused\": %ld, \"counts\": %ld, \"passed\": %ld, \"cycle\": %ld, \"ceiling\": %ld, \"listed\": %ld, \"confirmed\": %ld, \"negative\": %ld, \"wrote\": %ld}\n", cases, kinds[0], kinds[1], kinds[2], kinds[3], kinds[4], kinds[5], kinds[6], kinds[7], kinds[8]);
 }
 
 /* ---- GLPK, by its shared library; no header is needed */
@@ -460,6 +525,11 @@ int main(int argc, char **argv) {
         set = load(argv[4], &set_length);
         set_length /= 4;
         ours = ours_confirm, theirs = peers_confirm, same = same_confirm;
+    }
+    if (!strcmp(call, "write")) {
+        numbers = (const uint16_t *)file;
+        number_count = file_length / 2;
+        ours = ours_write, theirs = peers_write, same = same_write;
     }
     if (!strcmp(call, "glpk")) {
         read_cycles(argv[5]);

@@ -1,4 +1,4 @@
-"""The inputs of the benchmarks: plants, weights, cycle sets, and the small plants as Promela models and linear programs.
+"""The inputs of the benchmarks: plants, weights, cycle sets, lists of numbers, and the small plants as Promela models and linear programs.
 
 A machine is a count of states and a list of rows; a row is (state left, state entered, type sent or None, type taken or
 None, progress). Every row is written with both states.
@@ -17,6 +17,17 @@ def plant(types, machines):
             data.append(3 | (4 if sent is not None else 0) | (8 if taken is not None else 0) | (16 if progress else 0))
             data += [left, entered] + [t for t in (sent, taken) if t is not None]
     return bytes(data)
+
+
+def numbers(types, machines):
+    """The list of numbers that says a plant."""
+    said = [len(machines), types]
+    for states, rows in machines:
+        said += [states, len(rows)]
+        for left, entered, sent, taken, progress in rows:
+            kind = 1 if sent is not None else 2 if taken is not None else 0
+            said += [left, entered, kind, (0, sent, taken)[kind], int(progress)]
+    return said
 
 
 def sends(a, b, t):
@@ -93,6 +104,43 @@ def largest():
                       for _ in range(64)]) for _ in range(16)]
 
 
+def other_than(rng, state):
+    return (state + rng.randrange(1, 64)) % 64
+
+
+def longest_rows(rng):
+    """64 rows of a machine of 64 states and 64 types of which no state can be left out."""
+    rows, left = [], 0
+    for _ in range(64):
+        left = other_than(rng, left)
+        rows.append((sends if rng.random() < 0.5 else takes)(left, other_than(rng, left), rng.randrange(64)))
+    return rows
+
+
+def mixed_rows(rng):
+    """64 rows of which each field is in the shortest file or not, at random."""
+    rows, left = [], 0
+    for _ in range(64):
+        left = other_than(rng, left) if rng.random() < 0.5 else left
+        entered = other_than(rng, left) if rng.random() < 0.5 else left
+        kind = rng.choice([steps, sends, takes])
+        row = kind(left, entered) if kind is steps else kind(left, entered, rng.randrange(64))
+        rows.append(row[:4] + (rng.random() < 0.5,))
+    return rows
+
+
+def longest_list():
+    """16 machines with rows of four bytes each: the longest list, of 5,154 numbers, and the longest file."""
+    rng = random.Random(5154)
+    return 64, [(64, longest_rows(rng)) for _ in range(16)]
+
+
+def mixed_list():
+    """As long a list, with rows of one to four bytes in no regular order."""
+    rng = random.Random(2025)
+    return 64, [(64, mixed_rows(rng)) for _ in range(16)]
+
+
 def ring(states, parallel):
     return 0, [(states, [steps(s, (s + 1) % states) for s in range(states) for _ in range(parallel)])]
 
@@ -121,6 +169,10 @@ def full_set():
 
 def weight_bytes(weights):
     return struct.pack('<%dH' % len(weights), *weights)
+
+
+def list_bytes(numbers):
+    return struct.pack('<%dH' % len(numbers), *numbers)
 
 
 def set_bytes(numbers):

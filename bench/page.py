@@ -3,12 +3,11 @@ import textwrap
 
 # How far whole runs lie apart. Look again when the crates have changed.
 RUNS = (
-    'Two full runs of the same code, one after the other, of which this page has the second. The first had, for plant A, 1.25 where weights pass, 1.88 where '
-    'a cycle is shown and 1.22 for quoting; where every machine is searched, 1.16 and 0.97; at the limits 1.26 where weights pass, and 1.27 and 1.25 for quoting. '
-    'These three depend on the machine: C with the arrays of the proved call misses the goal there as well, and on another machine the same loop took 1.10 to 1.12 '
-    'times as long as the peer. Against the library before the cycle shown was a shortest one of all machines (`bench/run --against`, twice on this machine), plant A takes '
-    '0.90 and 0.90 of the time where weights pass, 0.96 and 1.01 where a cycle is shown, 0.85 and 0.94 for quoting; every other row with the same work is within 3 hundredths of it. Where 16 '
-    'machines fail and none has a cycle of fewer than 64 rows, all are searched, which takes 15 times as long as to search the first.')
+    'Two full runs of the same code, one after the other, of which this page has the second. The first had, for plant A, 1.39 where weights pass, 2.02 where '
+    'a cycle is shown, 1.24 for quoting and 1.23 for writing; where every machine is searched, 0.75 and 0.87; at the limits 1.14 where weights pass, 1.08 and 1.07 for quoting, '
+    '0.98 and 0.95 for writing. Against the library before writing was there (`bench/run --against`, on this machine), every row is within 3 hundredths of 1: what differs from the '
+    'page before is the machine. On that one a cycle of plant A was shown in 1.82 times the peer\'s time, and weighing and quoting at the limits took 1.23 to 1.32. '
+    'Where 16 machines fail and none has a cycle of fewer than 64 rows, all are searched, which takes 15 times as long as to search the first.')
 
 # Why a goal is missed: for keys of bench/run that begin with the first word. The evidence is from `perf` and from the machine
 # code (`objdump -d dist/libhemtaluq.a`) of the library at the time of writing; look again when the crates have changed.
@@ -31,6 +30,8 @@ CAUSES = [
      'Each row of a path is a call with 9 arguments, 7 where entries are only counted; the peer keeps what does not change in one struct.'),
     ('confirm', 'Confirming',
      'The rows of an entry are gone through three times (number by number, as a cycle, and for the sums), by the peer once; the third loop branches at each row, and its time depends on the address it is linked at.'),
+    ('write', 'Writing',
+     'The buffer in which the file is made is cleared at each call, 128 bytes for a short list and 4,130 for others; the peer leaves its own as it is.'),
 ]
 
 
@@ -121,7 +122,7 @@ def stack_table(found):
 def sizes_table(found):
     s = found['sizes']
     lines = ['| What | Code and data, bytes |', '|---|---|']
-    for name, key in (('libhemtaluq.a, all five calls', 'library'), ('the five calls in C, bench/peer.c', 'peer'),
+    for name, key in (('libhemtaluq.a, all six calls', 'library'), ('the six calls in C, bench/peer.c', 'peer'),
                       ('examples/cabinet/cabinet.c, linked with the library', 'cabinet'), ('a program that does nothing', 'empty')):
         lines.append('| %s | %s |' % (name, '{:,}'.format(s[key])))
     return '\n'.join(lines)
@@ -148,10 +149,10 @@ work: a ratio moves by a tenth from run to run, on plant A and the ring of 16 by
 
 ## Against C
 
-`bench/peer.c` has the five calls in plain C, with the best algorithms we know: tables filled in place and, but for the numbers of rows between states, never cleared, Bellman–Ford
+`bench/peer.c` has the six calls in plain C, with the best algorithms we know: tables filled in place and, but for the numbers of rows between states, never cleared, Bellman–Ford
 relaxation in place in 32 bits, the same search for a cycle by exact lengths, depth-first listing over adjacency lists with bits for the states left and for dead ends, price classes by leading
-zeros. Before measuring, both gave the same answers and left the same in the lent lists on {cases} random inputs, whole and damaged, and on
-every input below. The files are in the cache; no buffer is cleared between two calls. Below 1 the proved call is faster. The goal is 1.2; 1.4 on plant A where weights pass, 2 where a cycle is shown, and 2 for listing.
+zeros, a list judged with one test for the five numbers of a row, and its file made in the same pass, without a branch for a field that may be left out, in a buffer of its own that is copied at the end. Before measuring, both gave the same answers and left the same in the lent lists and buffers on {cases} random inputs, whole and damaged, and on
+every input below. The files are in the cache; no buffer is cleared between two calls. Below 1 the proved call is faster. The goal is 1.2; 1.4 on plant A where weights pass and for writing it, 2 where a cycle is shown, and 2 for listing.
 Both show a cycle with the fewest rows of all machines, by the same search with the same falling limit: at worst every machine fails and has no shorter cycle than the first, and the search makes 64 rounds
 from each of 64 states over 1,024 rows, less a round from each state for every machine behind the first. A program that may show any cycle could take it from the predecessors of the last round, without a search, and this was not measured.
 
@@ -191,7 +192,7 @@ The stack was painted, the call was run on it, and the deepest byte that changed
 
 {stack}
 
-The table of a plant has 8 KB and its edges 2 KB, for a file of at most 64 bytes 512 bytes each; to show a cycle takes 5 KB more. `list` has the table and the graph of a machine's rows, 2 KB, and a frame for each row of a path; `confirm` has the table and the sums.
+The table of a plant has 8 KB and its edges 2 KB, for a file of at most 64 bytes 512 bytes each; to show a cycle takes 5 KB more. `list` has the table and the graph of a machine's rows, 2 KB, and a frame for each row of a path; `confirm` has the table and the sums. `write` has the file, 4 KB, and for a list of at most 128 numbers 128 bytes.
 
 {sizes}
 """

@@ -1,4 +1,4 @@
-/* The five calls in plain C, with the best algorithms we know: what the proved calls are measured against.
+/* The six calls in plain C, with the best algorithms we know: what the proved calls are measured against.
  *
  * Nothing here is proved. Tables are filled in place and never copied, and but for the numbers of rows between states never
  * cleared; heights are relaxed in place in 32 bits; states that were left are bits of a word; the price class is a count of
@@ -476,5 +476,83 @@ hemtaluq_confirm_answer peer_confirm(const uint8_t *file, size_t length, const u
             a.sum = sums[i];
             break;
         }
+    return a;
+}
+
+/* ---- writing */
+
+#define JUDGED(low, end)                                                         \
+    if (at >= count) FAULT(23, at);                                              \
+    if (numbers[at] - (unsigned)(low) >= (unsigned)(end) - (low)) FAULT(24, at); \
+    at++
+#define LISTED(x, low, end) \
+    JUDGED(low, end);       \
+    unsigned x = numbers[at - 1]
+
+INLINE unsigned type_end(unsigned kind, unsigned types) {
+    return kind ? types : 1u;
+}
+
+/* The first fault of a row of which a number is missing or wrong. */
+static __attribute__((noinline)) struct fault row_fault(const uint16_t *numbers, size_t count, size_t at, unsigned states, unsigned types) {
+    JUDGED(0, states);
+    JUDGED(0, states);
+    JUDGED(0, 3);
+    JUDGED(0, type_end(numbers[at - 1], types));
+    FAULT(at < count ? 24 : 23, at);
+}
+
+/* Judges a list, the five numbers of a row together, and lays the file's bytes in a buffer of its own, which has room for every file. */
+static struct fault lay(const uint16_t *numbers, size_t count, uint8_t *file, size_t *end) {
+    size_t at = 0, rows = 0;
+    uint8_t *put = file;
+    LISTED(machines, 1, 17);
+    LISTED(types, 0, 65);
+    *put++ = (uint8_t)machines;
+    *put++ = (uint8_t)types;
+    for (unsigned m = 0; m < machines; m++) {
+        LISTED(states, 1, 65);
+        LISTED(own, 0, 256);
+        rows += own;
+        if (rows > 1024) FAULT(24, at - 1);
+        *put++ = (uint8_t)states;
+        *put++ = (uint8_t)own;
+        unsigned implied = 0;
+        for (unsigned i = 0; i < own; i++) {
+            if (count - at < 5) return row_fault(numbers, count, at, states, types);
+            unsigned left = numbers[at], entered = numbers[at + 1], kind = numbers[at + 2], type = numbers[at + 3], progress = numbers[at + 4];
+            if (left >= states || states <= entered || kind >= 3 || type >= type_end(kind, types) || progress >= 2)
+                return row_fault(numbers, count, at, states, types);
+            at += 5;
+            uint8_t *map = put++;
+            *map = (uint8_t)((left != implied) | (entered != left) << 1 | kind << 2 | progress << 4);
+            *put = (uint8_t)left;
+            put += left != implied;
+            *put = (uint8_t)entered;
+            put += entered != left;
+            *put = (uint8_t)type;
+            put += kind != 0;
+            implied = left;
+        }
+    }
+    if (at < count) FAULT(23, at);
+    *end = (size_t)(put - file);
+    return (struct fault){0, 0};
+}
+
+hemtaluq_write_answer peer_write(const uint16_t *numbers, size_t count, uint8_t *out, size_t out_length) {
+    uint8_t file[HEMTALUQ_LONGEST_FILE];
+    hemtaluq_write_answer a = {0};
+    size_t length = 0;
+    struct fault fault = lay(numbers, count, file, &length);
+    if (!fault.number && length > out_length) fault.number = 25;
+    if (fault.number) {
+        a.number = (uint8_t)fault.number;
+        a.place = fault.place;
+        return a;
+    }
+    memcpy(out, file, length);
+    a.kind = HEMTALUQ_WROTE;
+    a.length = length;
     return a;
 }

@@ -1,4 +1,4 @@
-/* The peers: the five calls in plain C, written for the benchmarks. Their answers are those of hemtaluq.h. */
+/* The peers: the six calls in plain C, written for the benchmarks. Their answers are those of hemtaluq.h. */
 #ifndef PEER_H
 #define PEER_H
 
@@ -13,5 +13,6 @@ hemtaluq_quote_answer peer_quote(const uint8_t *file, size_t file_length, const 
                                  const uint32_t *contents, size_t content_count, uint32_t g);
 hemtaluq_list_answer peer_list(const uint8_t *file, size_t file_length, uint32_t machine, uint16_t *out, size_t out_length);
 hemtaluq_confirm_answer peer_confirm(const uint8_t *file, size_t file_length, const uint32_t *set, size_t set_length);
+hemtaluq_write_answer peer_write(const uint16_t *numbers, size_t number_count, uint8_t *out, size_t out_length);
 
 #endif

@@ -1,7 +1,7 @@
 /* Hemtaluq: ceilings for plants on a message bus. The C interface of the proved calls.
  *
- * A plant is given as the bytes of a plant file. Every call reads them anew, judges every length and every number that it
- * is given, and keeps nothing. No call allocates, blocks, or keeps a pointer.
+ * A plant is given as the bytes of a plant file, which hemtaluq_write makes from a list of numbers. Every call reads what it
+ * is given anew, judges every length and every number of it, and keeps nothing. No call allocates, blocks, or keeps a pointer.
  *
  * The caller's part: every pointer is aligned and valid for its length, and a list that a call may write to (cycle, out)
  * overlaps nothing else that the call is given. The pointer of a list of length 0 may be null.
@@ -14,7 +14,7 @@
  * HEMTALUQ_VERSION rises with every change of what this header declares, also where structs and arguments stay (a kind,
  * what a kind promises, a fault number, a limit). hemtaluq_version answers the version of the library that was linked, so
  * a program can see at its start whether that is the library of its header: hemtaluq_version() == HEMTALUQ_VERSION.
- * 1: the first. 2: the cycle that weigh shows is a shortest one.
+ * 1: the first. 2: the cycle that weigh shows is a shortest one. 3: write, with kind 8 and numbers 23 to 25.
  */
 #ifndef HEMTALUQ_H
 #define HEMTALUQ_H
@@ -22,13 +22,14 @@
 #include <stddef.h>
 #include <stdint.h>
 
-#define HEMTALUQ_VERSION 2
+#define HEMTALUQ_VERSION 3
 
 #define hemtaluq_read hemtaluq_read_v1
 #define hemtaluq_weigh hemtaluq_weigh_v1
 #define hemtaluq_quote hemtaluq_quote_v1
 #define hemtaluq_list hemtaluq_list_v1
 #define hemtaluq_confirm hemtaluq_confirm_v1
+#define hemtaluq_write hemtaluq_write_v1
 
 #ifdef __cplusplus
 extern "C" {
@@ -46,7 +47,8 @@ enum hemtaluq_kind {
     HEMTALUQ_CEILING = 4,   /* quote: a ceiling and its price class */
     HEMTALUQ_LISTED = 5,    /* list: the simple cycles were written to the lent list */
     HEMTALUQ_CONFIRMED = 6, /* confirm: the set is balanced */
-    HEMTALUQ_NEGATIVE = 7   /* confirm: a type's sum is below zero */
+    HEMTALUQ_NEGATIVE = 7,  /* confirm: a type's sum is below zero */
+    HEMTALUQ_WROTE = 8      /* write: the shortest file of the plant was written to the lent buffer */
 };
 
 /* The number of a refusal, and what its place is. */
@@ -71,7 +73,10 @@ enum hemtaluq_fault {
     HEMTALUQ_SET_ENTRIES = 18,      /* the list is empty, or a 257th entry begins; the index where it begins */
     HEMTALUQ_CONTENT_COUNT = 20,    /* not one content for each type; 0 */
     HEMTALUQ_AMOUNT_LIMIT = 21,     /* a content or g above 1,000,000; its index, for g the type count */
-    HEMTALUQ_NOT_PASSING = 22       /* the weights do not pass; 0 */
+    HEMTALUQ_NOT_PASSING = 22,      /* the weights do not pass; 0 */
+    HEMTALUQ_LIST_LENGTH = 23,      /* the list of numbers ends early, or goes on; the index of the missing or first extra number */
+    HEMTALUQ_LIST_NUMBER = 24,      /* a number of the list outside its values or the limits; its index */
+    HEMTALUQ_OUTPUT_ROOM = 25       /* the lent buffer is shorter than the file; 0 */
 };
 
 /* Limits. */
@@ -79,7 +84,8 @@ enum hemtaluq_fault {
 #define HEMTALUQ_MOST_TYPES 64
 #define HEMTALUQ_MOST_STATES 64         /* of one machine */
 #define HEMTALUQ_MOST_ROWS 1024         /* of all machines together */
-#define HEMTALUQ_LONGEST_FILE 4130      /* bytes of the longest file that reads as a plant */
+#define HEMTALUQ_LONGEST_FILE 4130      /* bytes of the longest file that reads as a plant, and of the longest that write writes */
+#define HEMTALUQ_LONGEST_LIST 5154      /* numbers of the longest list that says a plant */
 #define HEMTALUQ_LARGEST_WEIGHT 1000
 #define HEMTALUQ_LARGEST_AMOUNT 1000000 /* a content, g, or the repeats of an entry */
 #define HEMTALUQ_CYCLE_ENTRIES 64       /* the least length of the list lent to hemtaluq_weigh */
@@ -155,6 +161,22 @@ typedef struct {
 } hemtaluq_confirm_answer;
 
 hemtaluq_confirm_answer hemtaluq_confirm(const uint8_t *file, size_t file_length, const uint32_t *set, size_t set_length);
+
+/* The shortest file of a plant: every file that reads as the same types, machines and rows has at least as many bytes. The
+ * list says the plant: count of machines (1 to 16), count of types (0 to 64), then for each machine its states (1 to 64), its
+ * count of rows (0 to 255; of all machines at most 1,024) and five numbers for each row: state left, state entered, kind
+ * (0 neither, 1 sends, 2 takes), type (0 for kind 0) and progress (0 or 1). Its numbers are judged one by one in this order;
+ * a number too many comes after all of them, and a short buffer last.
+ * Wrote: the first length bytes of out are the file, which hemtaluq_read and all other calls read as the list's types,
+ * machines and rows. The later bytes of out are kept. A buffer of HEMTALUQ_LONGEST_FILE bytes is never too short. */
+typedef struct {
+    uint8_t kind;   /* HEMTALUQ_WROTE or HEMTALUQ_REFUSED */
+    uint8_t number; /* refused: the number of the fault */
+    size_t place;   /* refused: where it was met */
+    size_t length;  /* wrote: how many bytes the file has */
+} hemtaluq_write_answer;
+
+hemtaluq_write_answer hemtaluq_write(const uint16_t *numbers, size_t number_count, uint8_t *out, size_t out_length);
 
 #ifdef __cplusplus
 }

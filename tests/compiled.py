@@ -1,4 +1,5 @@
-"""Compare the compiled calls with second implementations: reading.py, weighing.py, quoting.py, listing.py and cycle_sets.py.
+"""Compare the compiled calls with second implementations: reading.py, weighing.py, quoting.py, listing.py,
+cycle_sets.py and writing.py.
 
 The calls are those of the C interface. The library is built in a folder of its own, from a copy of the crates in which the
 interface has one export more, of what `decode` holds. What the repository's folder `target` has of proofs is used.
@@ -17,9 +18,10 @@ import listing
 import quoting
 import reading
 import weighing
+import writing
 
 ROOT = os.path.dirname(os.path.dirname(os.path.abspath(__file__)))
-PARTS = {'reading': reading, 'weighing': weighing, 'quoting': quoting, 'listing': listing, 'cycle_sets': cycle_sets}
+PARTS = {'reading': reading, 'weighing': weighing, 'quoting': quoting, 'listing': listing, 'cycle_sets': cycle_sets, 'writing': writing}
 
 
 def run(folder, command):

@@ -11,6 +11,7 @@
 - The crates whose specs README leads a reader through are those that the contracts of the calls, of the exports and of the program's line rest on.
 - The numbers of README's section Tests are figures that a test holds (figures.py).
 - The header of the C interface names every fault number of the table, and each once; its kinds are those of the computed examples of crate cabinet.
+  The longest file and the longest list are those of the definitions, in the header and in the Rust wrappers.
 - The version is one number in the header, in the definition and in the Rust wrappers; every export of crate cabinet but that of the version has a
   revision, and the header's macros and the wrappers' link names are these symbols. Their arguments and structs are those that tests/data/revisions.txt
   has for the revision, so that a change needs the next one, and the structs are the same in the crate, in the header and in the wrappers.
@@ -19,6 +20,7 @@
 """
 import functools
 import glob
+import math
 import os
 import re
 import sys
@@ -271,7 +273,7 @@ def hold_examples():
 
 def hold_header(path):
     numbers = [int(x) for x in re.findall(r'(?m)^    HEMTALUQ_[A-Z_]+ = (\d+)', read(path).split('enum hemtaluq_fault')[1].split('};')[0])]
-    if sorted(numbers) != [n for n in range(1, 23) if n != 19]:
+    if sorted(numbers) != [n for n in range(1, 26) if n != 19]:
         faults.append('%s: the fault numbers are %s' % (path, numbers))
 
 
@@ -285,6 +287,22 @@ def hold_kinds(path, examples):
     stated = re.findall(r'\.kind ≡ (\d+)', text[text.index('\nkinds :'):text.index('\nkinds =')])
     if stated != [number for name, number in kinds[1:]]:
         faults.append('%s: `kinds` states %s' % (examples, stated))
+
+
+def product_sum(text):
+    """The value of a sum of products of numbers."""
+    return sum(math.prod(int(x) for x in product.split('*')) for product in text.split('+'))
+
+
+def hold_lengths(header, wrappers):
+    """The longest file and the longest list of the header and of the wrappers are those of the definitions."""
+    limits, lists = read('crates/plant/specs/Limits.antt'), read('crates/plant_lists/specs/Lists.antt')
+    most = re.search(r'(?m)^mostRowBytes = (\d+)$', limits).group(1)
+    for name, text, rule in (('LONGEST_FILE', limits, 'longestFile'), ('LONGEST_LIST', lists, 'longestList')):
+        owed = product_sum(re.search(r'(?m)^%s = (.*)$' % rule, text).group(1).replace('mostRowBytes', most))
+        found = re.findall(r'(?m)^#define HEMTALUQ_%s (\d+)' % name, read(header)) + re.findall(r'(?m)^pub const %s: usize = ([\d_]+);$' % name, read(wrappers))
+        if [int(x.replace('_', '')) for x in found] != [owed, owed]:
+            faults.append('%s and %s: %s is %s, where %s is %d' % (header, wrappers, name, found, rule, owed))
 
 
 def hold_versions(header, definition, wrappers):
@@ -448,6 +466,7 @@ def main():
     hold_examples()
     hold_header('include/hemtaluq.h')
     hold_kinds('include/hemtaluq.h', 'crates/cabinet/proofs/StructsDiffer.antt')
+    hold_lengths('include/hemtaluq.h', 'examples/cabinet/hemtaluq.rs')
     hold_versions('include/hemtaluq.h', 'crates/cabinet/specs/Versions.antt', 'examples/cabinet/hemtaluq.rs')
     hold_revisions('include/hemtaluq.h', 'crates/cabinet/src/lib.rt', 'examples/cabinet/hemtaluq.rs')
     structs = hold_structs('include/hemtaluq.h', 'crates/cabinet/src/lib.rt', 'examples/cabinet/hemtaluq.rs')

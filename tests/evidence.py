@@ -1,6 +1,6 @@
 """Outside evidence: the proved calls held against the world. Each part prints one line with its counts.
 
-- answers: the five calls against an independent implementation, on plants of many shapes and on damaged files
+- answers: the six calls against an independent implementation, on plants of many shapes and on damaged files and lists
 - solver: an outside solver's solutions of the published test, judged by the calls
 - cycles: listings against an outside library for graphs
 - runs: long runs and exact maxima against the bound

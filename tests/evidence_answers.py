@@ -1,9 +1,13 @@
-"""Part A: the five calls held against the independent implementation of evidence_independent.py, through the static library.
+"""Part A: the six calls held against the independent implementation of evidence_independent.py, through the static library.
 
-- plants of many shapes (evidence_plants.py), each put to all five calls, but to no listing where cycles are too many to go through;
+- plants of many shapes (evidence_plants.py), each put to all six calls, but to no listing where cycles are too many to go through;
 - every truncation of a set of files, every other value of each of their bytes, every byte taken out, and bytes put in;
 - the edges of the older tests: the longest file, 1,024 and 1,025 rows, 256 and 257 entries, the largest ceiling;
-- for a set of plants every length of each list: weights, contents, the two lent lists, the cycle set cut off anywhere.
+- for a set of plants every length of each list: weights, contents, the two lent lists, the cycle set cut off anywhere;
+- lists of numbers, cut off and damaged, and buffers of many lengths (evidence_lists.py).
+
+For every file that reads as a plant, but for those of limits and lengths, the plant's list is written: what was written reads as the same
+rows, is no longer than the file, and gets the same answers. The other parts have the lists of their plants written by `write_anew`.
 
 Errors are planted in the independent implementation, and wrong programs stand in for the library (evidence_product.py): the
 comparison must find each.
@@ -15,6 +19,7 @@ import sys
 import cycle_sets
 import evidence_calls as calls
 import evidence_independent
+import evidence_lists
 import evidence_plants as plants
 import evidence_product
 import listing
@@ -25,11 +30,12 @@ from evidence_independent import Refused, TooMany
 PLANTS = 20500
 # The planted errors, and the calls that must show them.
 ERRORS = [
-    (calls.CALLS, evidence_independent.READING_ERRORS),
+    (calls.FILE_CALLS, evidence_independent.READING_ERRORS),
     (('weigh',), evidence_independent.WEIGHING_ERRORS),
     (('quote',), evidence_independent.QUOTING_ERRORS),
     (('list',), evidence_independent.LISTING_ERRORS),
     (('confirm',), evidence_independent.CONFIRMING_ERRORS),
+    (('write',), evidence_independent.WRITING_ERRORS),
 ]
 INDEPENDENT = evidence_independent.Independent()
 
@@ -46,6 +52,8 @@ def owed(other, call, plant, q, got):
         return other.confirm(plant, q.set)
     if call == 'list':
         return other.list(plant, q.machine, q.list_room) + ' kept'
+    if call == 'write':
+        return other.write(q.numbers, q.write_room) + ' kept'
     answer = other.weigh(plant, q.weights, q.cycle_room)
     if answer is not None:
         return answer + ' kept'
@@ -58,16 +66,16 @@ def disagreement(other, q, got):
     """The first call whose answer is not the one owed, or None."""
     plant = fault = None
     try:
-        plant = other.plant(q.file)
+        plant = other.plant(q.file) if set(q.calls) & set(calls.FILE_CALLS) else None
     except Refused as refused:
         fault = refused
     for call in q.calls:
         try:
-            if fault:
+            if fault and call != 'write':
                 raise fault
             expected = owed(other, call, plant, q, got[call])
         except Refused as refused:
-            expected = str(refused) + (' kept' if call in ('weigh', 'list') else '')
+            expected = str(refused) + (' kept' if call in ('weigh', 'list', 'write') else '')
         except TooMany:
             if other is INDEPENDENT:
                 raise
@@ -82,8 +90,8 @@ def compare(part, program, requests):
     for q, answer in zip(requests, got):
         wrong = disagreement(INDEPENDENT, q, answer)
         if wrong:
-            sys.exit('evidence: %s: file %s, weights %s, contents %s, g %d, machine %d, rooms %d and %d, set %s: %s'
-                     % (part, q.file.hex(' '), q.weights, q.contents, q.g, q.machine, q.cycle_room, q.list_room, q.set, wrong))
+            sys.exit('evidence: %s: file %s, weights %s, contents %s, g %d, machine %d, rooms %d, %d and %d, set %s, list %s: %s'
+                     % (part, q.file.hex(' '), q.weights, q.contents, q.g, q.machine, q.cycle_room, q.list_room, q.write_room, q.set, q.numbers, wrong))
     return list(zip(requests, got))
 
 
@@ -123,7 +131,7 @@ def request_for(rng, data):
     room, made = room_for(rng, plant, machine)
     g = rng.choice([0, 1, 2, rng.randrange(1000), 1000000] * 10 + [1000001, 4294967295])
     return calls.request(data, plants.weights_for(rng, plant.types), rng.choice([64] * 40 + [63, 65, 70, 0]),
-                         plants.contents_for(rng, plant.types), g, machine, room, set_for(rng, plant), made)
+                         plants.contents_for(rng, plant.types), g, machine, room, set_for(rng, plant), INDEPENDENT.numbers(plant), len(data), made)
 
 
 def shaped(rng, count):
@@ -161,7 +169,7 @@ def edges():
 
 
 def damaged_files(long):
-    """Files for damage, each with weights that pass or fail and a set, so that all five calls have something to do."""
+    """Files for damage, each with weights that pass or fail and a set, so that the calls that get a file have something to do."""
     rng = random.Random(11)
     yield plants.PLANT_A, [2, 1]
     yield plants.PLANT_B, [2, 1]
@@ -196,14 +204,16 @@ def damaged(long):
         contents = [rng.randrange(5) for _ in range(plant.types)]
         for i, variant in enumerate(variants(data)):
             machine = i % len(plant.states)
-            made = calls.CALLS
+            listed, made = [], calls.FILE_CALLS
             try:
-                machine_room = len(INDEPENDENT.entries(INDEPENDENT.plant(variant), machine)) - (i % 3 == 0)
+                other = INDEPENDENT.plant(variant)
+                listed, made = INDEPENDENT.numbers(other), calls.CALLS
+                machine_room = len(INDEPENDENT.entries(other, machine)) - (i % 3 == 0)
             except Refused:
                 machine_room = i % 8
             except TooMany:
-                machine_room, made = 0, ('read', 'weigh', 'quote', 'confirm')
-            yield calls.request(variant, weights, 64, contents, i % 4, machine, max(0, machine_room), numbers, made)
+                machine_room, made = 0, ('read', 'weigh', 'quote', 'confirm', 'write')
+            yield calls.request(variant, weights, 64, contents, i % 4, machine, max(0, machine_room), numbers, listed, len(variant), made)
 
 
 def longest_truncations():
@@ -232,14 +242,45 @@ def lengths(rng, count):
                 yield q._replace(list_room=room, calls=('list',))
 
 
+# ---- what was written
+
+def determined(got):
+    """What of answers is the same for all files of a plant: of a cycle that is shown the count of its rows."""
+    return {c: len(answer.split()) if answer.startswith('cycle') else answer for c, answer in got.items() if c != 'write'}
+
+
+def read_again(program, pairs):
+    """The list of each plant was written; that file is no longer, reads as the same rows and gets the same answers. How many files are shorter."""
+    requests = []
+    for q, got in pairs:
+        first, *numbers, last = got['write'].split()
+        data = bytes(int(x) for x in numbers) if (first, last) == ('wrote', 'kept') else None
+        if data is None or len(data) > len(q.file) or INDEPENDENT.plant(data) != INDEPENDENT.plant(q.file):
+            sys.exit('evidence: written: file %s, its list %s: %s' % (q.file.hex(' '), q.numbers, got['write'][:300]))
+        requests.append(q._replace(file=data, calls=[c for c in q.calls if c != 'write']))
+    for new, got, (q, before) in zip(requests, calls.answers(program, requests), pairs):
+        if determined(got) != determined(before):
+            sys.exit('evidence: written: file %s, written anew %s: %s, but before %s' % (q.file.hex(' '), new.file.hex(' '), got, before))
+    return sum(len(new.file) < len(q.file) for new, (q, _) in zip(requests, pairs))
+
+
+def write_anew(part, program, files):
+    """The list of the plant of each file, written and read again: how many there are, and how many of them in fewer bytes."""
+    requests = [calls.request(data, numbers=INDEPENDENT.numbers(INDEPENDENT.plant(data)), write_room=len(data), calls=('read', 'write'))
+                for data in dict.fromkeys(files)]
+    pairs = compare(part, program, requests)
+    return dict(written_anew=len(pairs), written_shorter=read_again(program, pairs))
+
+
 # ---- the part
 
 def catches(pairs):
     """How many planted errors the comparison finds, each by the calls that it is planted for; all of them must be found."""
     found = 0
     for made, errors in ERRORS:
+        mine = [(q._replace(calls=[c for c in q.calls if c in made]), got) for q, got in pairs if set(q.calls) & set(made)]
         for name, other in errors:
-            if not any(disagreement(other, q._replace(calls=[c for c in q.calls if c in made]), got) for q, got in pairs):
+            if not any(disagreement(other, q, got) for q, got in mine):
                 sys.exit('evidence: answers: the planted error "%s" is not found' % name)
             found += 1
     return found
@@ -286,29 +327,36 @@ def kinds(pairs):
     return count
 
 
-NEEDED = (['read counts', 'weigh passed', 'weigh cycle', 'quote ceiling', 'list listed', 'confirm confirmed', 'confirm negative']
-          + ['%s refused %d' % (call, k) for call in calls.CALLS for k in range(1, 9)]
+NEEDED = (['read counts', 'weigh passed', 'weigh cycle', 'quote ceiling', 'list listed', 'confirm confirmed', 'confirm negative', 'write wrote']
+          + ['%s refused %d' % (call, k) for call in calls.FILE_CALLS for k in range(1, 9)]
           + ['weigh refused %d' % k for k in (9, 10, 11)] + ['quote refused %d' % k for k in (9, 10, 20, 21, 22)]
-          + ['list refused %d' % k for k in (12, 13, 14)] + ['confirm refused %d' % k for k in (15, 16, 17, 18)])
+          + ['list refused %d' % k for k in (12, 13, 14)] + ['confirm refused %d' % k for k in (15, 16, 17, 18)]
+          + ['write refused %d' % k for k in (23, 24, 25)])
 
 
 def main(program, folder, seed, long):
     rng = random.Random(seed)
-    limits = compare('limits', program, list(edges()))
+    limits = compare('limits', program, list(edges()) + list(evidence_lists.limits(INDEPENDENT)))
     whole = compare('plants', program, shaped(rng, PLANTS * (10 if long else 1)))
     harmed = compare('damage', program, list(damaged(long)) + list(longest_truncations()))
     lent = compare('lengths', program, list(lengths(rng, 400 if long else 80)))
-    met = kinds(limits + whole + harmed + lent)
+    lists = compare('lists', program, list(evidence_lists.damaged([data for data, _ in damaged_files(long)], INDEPENDENT)))
+    buffers = compare('buffers', program, list(evidence_lists.lengths(random.Random(seed + 5), INDEPENDENT, 1000 if long else 200)))
+    written = [pair for pair in whole + harmed if 'write' in pair[0].calls]
+    shorter = read_again(program, written)
+    met = kinds(limits + whole + harmed + lent + lists + buffers)
     for kind in NEEDED:
         if met.get(kind, 0) < 3:
             sys.exit('evidence: answers: %s was met %d times only' % (kind, met.get(kind, 0)))
-    by_mean, some = INDEPENDENT.by_mean, limits + whole[:3000] + harmed[:5000] + lent[:500]
+    by_mean, some = INDEPENDENT.by_mean, limits + whole[:3000] + harmed[:5000] + lent[:500] + lists[:2000] + buffers[:500]
     found, in_product = catches(some), product_catches(folder, some)
     unlisted = sum('list' not in q.calls for q, _ in whole + harmed)
-    files = len({q.file for q, _ in harmed})
+    files, cut = len({q.file for q, _ in harmed}), len({tuple(q.numbers) for q, _ in lists})
     print('evidence: answers: %d plants, %d damaged files, %d lists of other lengths and %d limits agree with the independent '
           'implementation (%d pass, %d show a cycle, %d machines of them judged by means; %d listings, %d left out for too many cycles); '
+          '%d damaged lists of numbers and %d lengths of buffers agree too; %d plants are written anew, %d of them in fewer bytes; '
           '%d errors planted there are found, and %d in the product'
-          % (len(whole), files, len(lent), len(limits), met['weigh passed'], met['weigh cycle'], by_mean, met['list listed'], unlisted, found, in_product))
-    return dict(shaped_plants=len(whole), damaged_files=files, other_lengths=len(lent), judged_by_mean=by_mean,
-                planted_in_the_product=in_product, planted_in_implementations=found), []
+          % (len(whole), files, len(lent), len(limits), met['weigh passed'], met['weigh cycle'], by_mean, met['list listed'], unlisted,
+             cut, len(buffers), len(written), shorter, found, in_product))
+    return dict(shaped_plants=len(whole), damaged_files=files, other_lengths=len(lent), damaged_lists=cut, buffer_lengths=len(buffers),
+                written_anew=len(written), written_shorter=shorter, judged_by_mean=by_mean, planted_in_the_product=in_product, planted_in_implementations=found), []

@@ -11,6 +11,7 @@ import evidence_calls as calls
 import evidence_independent
 import evidence_plants as plants
 import listing
+from evidence_answers import write_anew
 from evidence_independent import TooMany
 
 try:
@@ -120,7 +121,7 @@ def main(program, seed, long):
     if networkx is None:
         print('evidence: cycles: NOT RUN, networkx is not installed: no machine of %d is listed by it, and %d planted errors are not taken on'
               % (MACHINES, len(ERRORS)))
-        return {}, ['listed_machines', 'planted_in_implementations', 'planted_in_all']
+        return {}, ['listed_machines', 'planted_in_implementations', 'planted_in_all', 'written_anew', 'written_shorter']
     cases = some_machines(random.Random(seed + 2), MACHINES * (10 if long else 1))
     answers = calls.answers(program, [calls.request(data, machine=m, list_room=room + 3, calls=('list',)) for data, _, m, room in cases])
     wrong = disagreement(Listing(), cases, answers)
@@ -131,4 +132,5 @@ def main(program, seed, long):
             sys.exit('evidence: cycles: the planted error "%s" is not found' % name)
     print('evidence: cycles: %d machines listed as by networkx, %d of them with cycles, up to %d entries; %d planted errors found'
           % (len(cases), sum(room > 0 for _, _, _, room in cases), max(room for _, _, _, room in cases), len(ERRORS)))
-    return dict(listed_machines=len(cases), planted_in_implementations=len(ERRORS)), []
+    written = write_anew('cycles', program, [data for data, _, _, _ in cases])
+    return dict(listed_machines=len(cases), planted_in_implementations=len(ERRORS), **written), []

@@ -1,11 +1,11 @@
-"""An independent implementation of the scope document: reading, weighing, quoting, listing, confirming, and the line of `ceiling`.
+"""An independent implementation of the documents: reading, weighing, quoting, listing, confirming, writing, and the line of `ceiling`.
 
-It was written from the document, not from the definitions or the code, and goes through all cycles wherever that is
+It was written from the documents, not from the definitions or the code, and goes through all cycles wherever that is
 feasible: weights are judged on every quiet simple cycle, the fewest rows of one are counted there, listings are made by
 enumeration and sorting. Where a machine has too many cycles for that, weights are judged by the greatest mean weight of a
 quiet cycle, and the fewest rows by walks of exact lengths (weighing.py).
 
-Each decision that a reader of the document could get wrong is a method of its own. PLANTED has copies with one error
+Each decision that a reader of the documents could get wrong is a method of its own. PLANTED has copies with one error
 each; the comparisons in evidence_answers.py and evidence_program.py must find every one of them.
 """
 from collections import namedtuple
@@ -286,6 +286,95 @@ class Independent:
                 return 'negative %d %d' % (t, s)
         return 'confirmed'
 
+    # ---- writing
+
+    def numbers(self, plant):
+        """The list that says a plant."""
+        numbers = [len(plant.states), plant.types]
+        for m, states in enumerate(plant.states):
+            mine = [r for r in plant.rows if r.machine == m]
+            numbers += [states, len(mine)]
+            for r in mine:
+                kind = 1 if r.sent is not None else 2 if r.taken is not None else 0
+                numbers += [r.left, r.entered, kind, (0, r.sent, r.taken)[kind], int(r.progress)]
+        return numbers
+
+    def most_of_rows(self, before):
+        """The most rows of a machine, after so many rows of others."""
+        return min(255, 1024 - before)
+
+    def most_in_row(self, states, types, kind):
+        """The greatest values of a row's five numbers."""
+        return states - 1, states - 1, 2, types - 1 if kind else 0, 1
+
+    def limits(self, numbers):
+        """The least and the greatest value of each number of a list, as far as the numbers say how many there are; a missing one counts as 0."""
+        def number(i):
+            return numbers[i] if i < len(numbers) else 0
+
+        limits, rows = [(1, 16), (0, 64)], 0
+        for _ in range(min(16, number(0))):
+            first = len(limits) + 2
+            states, count = number(first - 2), number(first - 1)
+            limits += [(1, 64), (0, self.most_of_rows(rows))]
+            if count > limits[-1][1]:
+                break
+            for k in range(first, first + 5 * count, 5):
+                limits += [(0, most) for most in self.most_in_row(states, number(1), number(k + 2))]
+            rows += count
+        return limits
+
+    def length_fits(self, count, needed):
+        return count == needed
+
+    def length_place(self, count, needed):
+        """The index of the missing or the first extra number."""
+        return min(count, needed)
+
+    def listed(self, numbers):
+        """The plant that a list says."""
+        limits = self.limits(numbers)
+        for i, (x, (least, most)) in enumerate(zip(numbers, limits)):
+            if not least <= x <= most:
+                raise Refused(24, i)
+        if not self.length_fits(len(numbers), len(limits)):
+            raise Refused(23, self.length_place(len(numbers), len(limits)))
+        states, rows, at = [], [], 2
+        for m in range(numbers[0]):
+            states.append(numbers[at])
+            end = at + 2 + 5 * numbers[at + 1]
+            for left, entered, kind, number, progress in (numbers[k:k + 5] for k in range(at + 2, end, 5)):
+                rows.append(Row(m, left, entered, number if kind == 1 else None, number if kind == 2 else None, progress == 1))
+            at = end
+        return Plant(numbers[1], states, rows)
+
+    def left_before(self, rows, k):
+        """The state that row k leaves where its file does not say which."""
+        return rows[k - 1].left if k > 0 and rows[k - 1].machine == rows[k].machine else 0
+
+    def unwritten(self, left_before, row):
+        """What the fields of a row are where they are not written."""
+        return left_before, row.left, None, None
+
+    def file(self, plant):
+        """The shortest file of a plant: no field is written that is read as what it is without that."""
+        data, k = [len(plant.states), plant.types], 0
+        for m, states in enumerate(plant.states):
+            count = sum(r.machine == m for r in plant.rows)
+            data += [states, count]
+            for row in plant.rows[k:k + count]:
+                pairs = list(zip(row[1:5], self.unwritten(self.left_before(plant.rows, k), row)))
+                data += [sum(2 ** i for i, (field, absent) in enumerate(pairs) if field != absent) + 16 * row.progress]
+                data += [field for field, absent in pairs if field != absent]
+                k += 1
+        return bytes(data)
+
+    def write(self, numbers, room):
+        data = self.file(self.listed(numbers))
+        if room < len(data):
+            raise Refused(25, 0)
+        return ' '.join(['wrote'] + [str(b) for b in data])
+
     # ---- the program
 
     def weights_of(self, data):
@@ -355,6 +444,19 @@ CONFIRMING_ERRORS = [
     planted('257 entries', too_many_entries=lambda self, count: count == 257),
     planted('progress cycles are added', is_quiet_cycle=lambda self, plant, m, c: Independent.is_quiet_cycle(
         self, plant._replace(rows=[r._replace(progress=False) for r in plant.rows]), m, c)),
+]
+WRITING_ERRORS = [
+    planted('the state left is compared with the state entered before', left_before=lambda self, rows, k: rows[k - 1].entered
+            if k > 0 and rows[k - 1].machine == rows[k].machine else 0),
+    planted('the state that the last row of another machine leaves is taken over', left_before=lambda self, rows, k: rows[k - 1].left if k > 0 else 0),
+    planted('the state entered is always written', unwritten=lambda self, left_before, row: (left_before, None, None, None)),
+    planted('kind 3 is let by', most_in_row=lambda self, states, types, kind: (states - 1, states - 1, 3, types - 1 if kind else 0, 1)),
+    planted('a row that neither sends nor takes may have any type', most_in_row=lambda self, states, types, kind: (
+        states - 1, states - 1, 2, max(0, types - 1), 1)),
+    planted('progress may be 2', most_in_row=lambda self, states, types, kind: Independent.most_in_row(self, states, types, kind)[:4] + (2,)),
+    planted('1,025 rows', most_of_rows=lambda self, before: min(255, 1025 - before)),
+    planted('a list that goes on is let by', length_fits=lambda self, count, needed: count >= needed),
+    planted('a missing number has place 0', length_place=lambda self, count, needed: 0 if count < needed else needed),
 ]
 PROGRAM_ERRORS = [
     planted('the high byte comes first', weights_of=lambda self, data: [data[i] * 256 + data[i + 1] for i in range(0, len(data) - 1, 2)]),

@@ -1,6 +1,6 @@
 """Planted errors in the product: programs that are wrong in one place stand in for the library, and the comparison must find each.
 
-- EDITS: the five calls in C of bench/peer.c in place of the library, with one piece of text changed. Unchanged they answer as
+- EDITS: the six calls in C of bench/peer.c in place of the library, with one piece of text changed. Unchanged they answer as
   the library does, so what is found is the edit.
 - SHIMS: the library itself; a statement in C changes one field of its answer, or one entry of a list, after the call.
 
@@ -25,14 +25,14 @@ READING = [
     Edit('64 types are too many', ('read',), 'f[1] > 64', 'f[1] > 63'),
     Edit('a wrong count of types has place 0', ('read',), 'FAULT(2, 1)', 'FAULT(2, 0)'),
     Edit('65 states are let by', ('read',), 'states > 64) FAULT(3', 'states > 65) FAULT(3'),
-    Edit('1,024 rows are too many', calls.CALLS, 'end > 1024', 'end > 1023'),
+    Edit('1,024 rows are too many', calls.FILE_CALLS, 'end > 1024', 'end > 1023'),
     Edit('bit 5 of a map byte is let by', ('read', 'weigh'), 'map >= 32', 'map >= 64'),
     Edit('bits 2 and 3 may stand together', ('read', 'weigh'), ' || (map & 12) == 12', ''),
     Edit('the state entered may be the count of states', ('read',), 'entered >= states', 'entered > states'),
     Edit('a row without bit 0 leaves the state entered before', TABLE, 't->progress[rows] = map >> 4;', 't->progress[rows] = map >> 4; left = entered;'),
     Edit('a row without bit 1 enters state 0', TABLE, 'entered = left;', 'entered = 0;'),
-    Edit('the place of a wrong type is one too far', calls.CALLS, 'FAULT(6, at)', 'FAULT(6, at + 1)'),
-    Edit('the place of bytes that remain is the file\'s end', calls.CALLS, 'FAULT(8, at)', 'FAULT(8, length)'),
+    Edit('the place of a wrong type is one too far', calls.FILE_CALLS, 'FAULT(6, at)', 'FAULT(6, at + 1)'),
+    Edit('the place of bytes that remain is the file\'s end', calls.FILE_CALLS, 'FAULT(8, at)', 'FAULT(8, length)'),
     Edit('a type that is sent is taken', ('weigh', 'confirm'), 'sent = map & 4 ?', 'sent = map & 8 ?'),
 ]
 WEIGHING = [
@@ -109,11 +109,55 @@ CONFIRMING = [
     Shim('the type is counted from 1', ('confirm',), 'if (a.kind == HEMTALUQ_NEGATIVE) a.message_type++;'),
     Shim('the set is written to', ('confirm',), 'if (set_length) ((uint32_t *)set)[0] ^= 1;'),
 ]
+WRITING = [
+    Edit('a plant without machines is written', ('write',), 'LISTED(machines, 1, 17)', 'LISTED(machines, 0, 17)'),
+    Edit('64 types are too many', ('write',), 'LISTED(types, 0, 65)', 'LISTED(types, 0, 64)'),
+    Edit('65 states are let by', ('write',), 'LISTED(states, 1, 65)', 'LISTED(states, 1, 66)'),
+    Edit('256 rows of a machine are let by', ('write',), 'LISTED(own, 0, 256)', 'LISTED(own, 0, 257)'),
+    Edit('1,025 rows are let by', ('write',), 'rows > 1024) FAULT(24', 'rows > 1025) FAULT(24'),
+    Edit('the place of too many rows is that of the states', ('write',), 'FAULT(24, at - 1)', 'FAULT(24, at - 2)'),
+    Edit('the state entered may be the count of states', ('write',), 'states <= entered', 'states < entered'),
+    Edit('kind 3 is let by', ('write',), 'kind >= 3', 'kind >= 4'),
+    Edit('a row that neither sends nor takes may have any type', ('write',), 'kind ? types : 1u', 'kind || types ? types : 1u'),
+    Edit('a row that neither sends nor takes needs a type', ('write',), 'kind ? types : 1u', 'types'),
+    Edit('progress may be 2', ('write',), 'progress >= 2', 'progress >= 3'),
+    Edit('the state left is judged by its low byte', ('write',), 'unsigned left = numbers[at], entered', 'unsigned left = (uint8_t)numbers[at], entered'),
+    Edit('a missing number has place 0', ('write',), 'if (at >= count) FAULT(23, at);', 'if (at >= count) FAULT(23, 0);'),
+    Edit('a list that goes on is let by', ('write',), 'if (at < count) FAULT(23, at);', ''),
+    Edit('the place of a list that goes on is its end', ('write',), 'if (at < count) FAULT(23, at);', 'if (at < count) FAULT(23, count);'),
+    Edit('the state left is compared with the state entered before', ('write',), 'implied = left;', 'implied = entered;'),
+    Edit('the state that the last row of another machine leaves is taken over', ('write',), 'unsigned implied = 0;',
+         'static unsigned implied;\n        if (m == 0) implied = 0;'),
+    Edit('the state left is always written', ('write',), '(left != implied) | (entered != left) << 1 | kind << 2 | progress << 4);\n'
+         '            *put = (uint8_t)left;\n            put += left != implied;',
+         '1 | (entered != left) << 1 | kind << 2 | progress << 4);\n            *put = (uint8_t)left;\n            put++;'),
+    Edit('the state entered is always written', ('write',), '(entered != left) << 1 | kind << 2 | progress << 4);\n            *put = (uint8_t)left;\n'
+         '            put += left != implied;\n            *put = (uint8_t)entered;\n            put += entered != left;',
+         '2 | kind << 2 | progress << 4);\n            *put = (uint8_t)left;\n            put += left != implied;\n'
+         '            *put = (uint8_t)entered;\n            put++;'),
+    Edit('a type that is sent is taken', ('write',), 'kind << 2 | progress', '(kind ? 3 - kind : 0) << 2 | progress'),
+    Edit('progress is not written', ('write',), ' | progress << 4', ''),
+    Edit('a buffer that is one byte too short is let by', ('write',), 'length > out_length', 'length > out_length + 1'),
+    Edit('a buffer that is just long enough is refused', ('write',), '!fault.number && length > out_length', '!fault.number && length >= out_length'),
+    Edit('the place of a short buffer is its length', ('write',), 'fault.number = 25;', 'fault.number = 25, fault.place = out_length;'),
+    Edit('a short buffer gets the first bytes of the file', ('write',), 'fault.number = 25;', 'fault.number = 25, memcpy(out, file, out_length);'),
+    Edit('the length is one less', ('write',), 'a.length = length;', 'a.length = length - 1;'),
+    Shim('a short buffer is refused before a list that goes on', ('write',), 'uint8_t other[HEMTALUQ_LONGEST_FILE];\n'
+         '    size_t room = out_length < sizeof other ? out_length : sizeof other;\n'
+         '    if (a.number == 23 && a.place < number_count && hemtaluq_write(numbers, a.place, other, room).number == 25) a.number = 25, a.place = 0;'),
+    Shim('a missing number is refused before the wrong one that stands last', ('write',),
+         'if (a.number == 24 && a.place + 1 == number_count) a.number = 23, a.place = number_count;'),
+    Shim('the byte behind the file is changed', ('write',), 'if (a.kind == HEMTALUQ_WROTE && a.length < out_length) out[a.length] ^= 1;'),
+    Shim('a byte before the buffer is changed', ('write',), 'out[-1] ^= 1;'),
+    Shim('the buffer is changed with a refusal', ('write',), 'if (a.kind == HEMTALUQ_REFUSED && out_length) out[0] ^= 1;'),
+    Shim('the length stands in the answer that refuses', ('write',), 'if (a.number == 25) a.length = 1;'),
+    Shim('the list of numbers is written to', ('write',), 'if (number_count) ((uint16_t *)numbers)[0] ^= 1;'),
+]
 SHARED = [
     Shim('the place of a fault is one too low', ('read',), 'if (a.place) a.place--;'),
     Shim('the count of rows stands in the answer that refuses', ('read',), 'if (a.kind == HEMTALUQ_REFUSED) a.rows = 1;'),
 ]
-ERRORS = READING + WEIGHING + QUOTING + LISTING + CONFIRMING + SHARED
+ERRORS = READING + WEIGHING + QUOTING + LISTING + CONFIRMING + WRITING + SHARED
 
 # The arguments of the calls, for the shims.
 ARGUMENTS = {
@@ -123,6 +167,7 @@ ARGUMENTS = {
              'const uint32_t *contents, size_t content_count, uint32_t g',
     'list': 'const uint8_t *file, size_t file_length, uint32_t machine, uint16_t *out, size_t out_length',
     'confirm': 'const uint8_t *file, size_t file_length, const uint32_t *set, size_t set_length',
+    'write': 'const uint16_t *numbers, size_t number_count, uint8_t *out, size_t out_length',
 }
 # Before the driver: the call is another one there.
 SHIM = '''#include "hemtaluq.h"

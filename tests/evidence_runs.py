@@ -21,6 +21,7 @@ import definitions
 import evidence_calls as calls
 import evidence_independent
 import evidence_plants as plants
+from evidence_answers import write_anew
 
 EVENTS = 3000000
 REPLAYS = 300
@@ -446,7 +447,8 @@ def main(program, folder, seed, long):
           'and weaker formulas are exceeded: %s; %d stored runs; %d planted errors found'
           % (sum(happened), *happened, lost, offered, len(cases), len(found), len({m[0] for m in found}), len(tried) - len(found), met, 100 * share,
              exceeding, len(lines), caught))
-    return dict(events=sum(happened), maxima=len(found), share_of_the_bound=int(100 * share), stored_runs=len(lines), planted_in_runs=caught), []
+    written = write_anew('runs', program, [data for data, *_ in cases] + [data for data, *_ in tried])
+    return dict(events=sum(happened), maxima=len(found), share_of_the_bound=int(100 * share), stored_runs=len(lines), planted_in_runs=caught, **written), []
 
 
 if __name__ == '__main__':

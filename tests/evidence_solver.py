@@ -24,6 +24,7 @@ from fractions import Fraction
 import evidence_calls as calls
 import evidence_independent
 import evidence_plants as plants
+from evidence_answers import write_anew
 from evidence_independent import TooMany
 
 ANEW = 2200
@@ -248,8 +249,9 @@ def main(program, seed, long):
              '%d plants, exactly one side each (%d weights, %d sets judged, %d beyond the limits)'
              % (len(files), sum(c[1] == 'weights' for c in anew), sum(c[1] == 'set' for c in anew), beyond) if present
              else 'NOT RUN, glpsol is not installed: no plant of %d is solved, and %d planted errors are not taken on' % (ANEW, len(SOLVER_ERRORS)), found))
-    counted = dict(certificates=len(kept), solved_anew=len(files), planted_in_solutions=found)
-    return counted, [] if present else ['solved_anew', 'planted_in_solutions', 'planted_in_all']
+    counted = dict(certificates=len(kept), solved_anew=len(files), planted_in_solutions=found,
+                   **write_anew('solver', program, [data for data, _, _ in kept] + files))
+    return counted, [] if present else ['solved_anew', 'planted_in_solutions', 'planted_in_all', 'written_anew', 'written_shorter']
 
 
 if __name__ == '__main__':

@@ -26,8 +26,14 @@ static const uint8_t plant_b[] = {2, 2, 2, 2, 0x06, 1, 0, 0x0B, 1, 0, 1, 2, 2, 0
 static const uint8_t one_state[] = {1, 0, 1, 0};
 static const uint16_t weights_2_1[] = {2, 1};
 
-/* The largest plant: 16 machines of 64 states, 64 types, 1,024 rows of four bytes. */
+/* The list that says plant A. */
+#define LIST_A 2, 2, 2, 2, 0, 1, 1, 0, 0, 1, 0, 2, 1, 1, 2, 2, 0, 1, 2, 0, 0, 1, 0, 1, 1, 0
+static const uint16_t list_a[] = {LIST_A};
+
+/* The largest plant: 16 machines of 64 states, 64 types, 1,024 rows of four bytes. No state of a row can be left out: the first row of a
+ * machine leaves state 1, and each row leaves another state than the one before it. */
 static uint8_t largest[HEMTALUQ_LONGEST_FILE + 1];
+static uint16_t longest_list[HEMTALUQ_LONGEST_LIST + 1];
 
 static void make_largest(void) {
     size_t at = 0;
@@ -38,12 +44,28 @@ static void make_largest(void) {
         largest[at++] = 64;
         for (int k = 0; k < 64; k++) {
             largest[at++] = 0x0B;
-            largest[at++] = (uint8_t)k;
             largest[at++] = (uint8_t)((k + 1) % 64);
+            largest[at++] = (uint8_t)((k + 2) % 64);
             largest[at++] = (uint8_t)((k + m) % 64);
         }
     }
     check("the longest file has 4,130 bytes", at == HEMTALUQ_LONGEST_FILE);
+}
+
+static void make_longest_list(void) {
+    size_t at = 0;
+    longest_list[at++] = 16;
+    longest_list[at++] = 64;
+    for (int m = 0; m < 16; m++) {
+        longest_list[at++] = 64;
+        longest_list[at++] = 64;
+        for (int k = 0; k < 64; k++) {
+            uint16_t row[5] = {(uint16_t)((k + 1) % 64), (uint16_t)((k + 2) % 64), 2, (uint16_t)((k + m) % 64), 0};
+            memcpy(longest_list + at, row, sizeof row);
+            at += 5;
+        }
+    }
+    check("the longest list has 5,154 numbers", at == HEMTALUQ_LONGEST_LIST);
 }
 
 static void read_is(const char *what, const uint8_t *file, size_t length, hemtaluq_read_answer e) {
@@ -209,6 +231,119 @@ static void confirming(void) {
     confirm_is("256 entries of 64 rows and 1,000,000 repeats", taking, sizeof taking, heavy, LENGTH(heavy), least);
 }
 
+/* Writes to a buffer of sevens and checks the answer, and that the buffer has the file, of no bytes with a refusal, and then still sevens. */
+static void write_as(const char *what, const uint16_t *numbers, size_t count, size_t room, hemtaluq_write_answer e, const uint8_t *file) {
+    static uint8_t out[HEMTALUQ_LONGEST_FILE + 10];
+    int good = 1;
+    memset(out, 7, sizeof out);
+    hemtaluq_write_answer a = hemtaluq_write(numbers, count, out, room);
+    for (size_t i = e.length; i < sizeof out; i++) good = good && out[i] == 7;
+    check(what, good && a.kind == e.kind && a.number == e.number && a.place == e.place && a.length == e.length && memcmp(out, file, e.length) == 0);
+}
+
+static void write_is(const char *what, const uint16_t *numbers, size_t count, size_t room, const uint8_t *file, size_t length) {
+    hemtaluq_write_answer e = {HEMTALUQ_WROTE, 0, 0, length};
+    write_as(what, numbers, count, room, e, file);
+}
+
+static void write_refused(const char *what, const uint16_t *numbers, size_t count, size_t room, uint8_t number, size_t place) {
+    hemtaluq_write_answer e = {HEMTALUQ_REFUSED, number, place, 0};
+    write_as(what, numbers, count, room, e, no_bytes);
+}
+
+/* A's list with one number changed is refused with 24 there. */
+static void changed_refused(const char *what, size_t at, uint16_t number) {
+    uint16_t list[] = {LIST_A};
+    list[at] = number;
+    write_refused(what, list, LENGTH(list), 20, HEMTALUQ_LIST_NUMBER, at);
+}
+
+/* Four machines of 255 rows that stay in their one state, and one of so many rows that they are so many in all; the count of numbers. */
+static size_t list_of_rows(uint16_t *list, uint16_t rows) {
+    size_t at = 0;
+    list[at++] = 5;
+    list[at++] = 0;
+    for (int m = 0; m < 5; m++) {
+        uint16_t own = m < 4 ? 255 : (uint16_t)(rows - 4 * 255);
+        list[at++] = 1;
+        list[at++] = own;
+        memset(list + at, 0, 5 * (size_t)own * sizeof *list);
+        at += 5 * (size_t)own;
+    }
+    return at;
+}
+
+static void writing(void) {
+    /* Rows that stay, that leave the state of the row before, and the first row of a second machine, which leaves state 0. */
+    const uint16_t left_out[] = {2, 0, 3, 4, 0, 0, 0, 0, 0, 0, 2, 0, 0, 1, 2, 2, 0, 0, 0, 2, 1, 0, 0, 0, 2, 1, 0, 1, 0, 0, 1};
+    const uint8_t shortest[] = {2, 0, 3, 4, 0x00, 0x12, 2, 0x01, 2, 0x02, 1, 2, 1, 0x12, 1};
+    const uint16_t one[] = {1, 0, 1, 0}, more[] = {LIST_A, 0}, no_types[] = {1, 0, 1, 1, 0, 0, 1, 0, 0}, kind_0[] = {1, 2, 1, 1, 0, 0, 0, 1, 0};
+    const uint16_t machines_17[] = {17}, rows_256[] = {1, 0, 1, 256}, most[] = {65535, 65535};
+    const size_t last_count = 2 + 4 * (2 + 5 * 255) + 1;
+    static uint16_t rows[2 + 5 * 2 + 5 * 1025];
+    static uint8_t stays[2 + 5 * 2 + 1024];
+    size_t at = 0;
+    stays[at++] = 5;
+    stays[at++] = 0;
+    for (int m = 0; m < 5; m++) {
+        stays[at++] = 1;
+        stays[at++] = m < 4 ? 255 : 4;
+        at += stays[at - 1];
+    }
+    write_is("A's list, lent 20", list_a, LENGTH(list_a), sizeof plant_a, plant_a, sizeof plant_a);
+    write_is("A's list, lent 30", list_a, LENGTH(list_a), 30, plant_a, sizeof plant_a);
+    write_is("states left out", left_out, LENGTH(left_out), sizeof shortest, shortest, sizeof shortest);
+    write_is("one state", one, LENGTH(one), 30, one_state, sizeof one_state);
+    write_is("1,024 rows of one byte", rows, list_of_rows(rows, 1024), sizeof stays, stays, sizeof stays);
+    write_is("the longest list", longest_list, HEMTALUQ_LONGEST_LIST, HEMTALUQ_LONGEST_FILE, largest, HEMTALUQ_LONGEST_FILE);
+    write_refused("an empty list", no_weights, 0, 20, HEMTALUQ_LIST_LENGTH, 0);
+    write_refused("A's list cut", list_a, LENGTH(list_a) - 1, 20, HEMTALUQ_LIST_LENGTH, 25);
+    write_refused("a number too many", more, LENGTH(more), 30, HEMTALUQ_LIST_LENGTH, 26);
+    write_refused("a number too many, before the room", more, LENGTH(more), 0, HEMTALUQ_LIST_LENGTH, 26);
+    write_refused("the longest list cut", longest_list, HEMTALUQ_LONGEST_LIST - 1, HEMTALUQ_LONGEST_FILE, HEMTALUQ_LIST_LENGTH, HEMTALUQ_LONGEST_LIST - 1);
+    write_refused("a number after the longest list", longest_list, LENGTH(longest_list), HEMTALUQ_LONGEST_FILE, HEMTALUQ_LIST_LENGTH, HEMTALUQ_LONGEST_LIST);
+    changed_refused("no machines", 0, 0);
+    changed_refused("65 types", 1, 65);
+    changed_refused("no states", 2, 0);
+    changed_refused("a list of 65 states", 2, 65);
+    changed_refused("a row of A leaves state 2", 4, 2);
+    changed_refused("a row of A enters state 2", 5, 2);
+    changed_refused("kind 3", 6, 3);
+    changed_refused("a row of A sends type 2", 7, 2);
+    changed_refused("progress 2", 13, 2);
+    changed_refused("the last number, 65,535", 25, 65535);
+    write_refused("a wrong number before a missing one", machines_17, LENGTH(machines_17), 20, HEMTALUQ_LIST_NUMBER, 0);
+    write_refused("a wrong number before the room", most, LENGTH(most), 0, HEMTALUQ_LIST_NUMBER, 0);
+    write_refused("256 rows, before they are missing", rows_256, LENGTH(rows_256), 20, HEMTALUQ_LIST_NUMBER, 3);
+    write_refused("a list of 1,025 rows, at the count", rows, list_of_rows(rows, 1025), sizeof stays, HEMTALUQ_LIST_NUMBER, last_count);
+    write_refused("a row that sends, and no types", no_types, LENGTH(no_types), 20, HEMTALUQ_LIST_NUMBER, 7);
+    write_refused("kind 0 with type 1", kind_0, LENGTH(kind_0), 20, HEMTALUQ_LIST_NUMBER, 7);
+    write_refused("A's list, lent 19", list_a, LENGTH(list_a), 19, HEMTALUQ_OUTPUT_ROOM, 0);
+    write_refused("A's list, lent 0", list_a, LENGTH(list_a), 0, HEMTALUQ_OUTPUT_ROOM, 0);
+    write_refused("the longest list, lent 4,129", longest_list, HEMTALUQ_LONGEST_LIST, HEMTALUQ_LONGEST_FILE - 1, HEMTALUQ_OUTPUT_ROOM, 0);
+}
+
+/* The other calls read what was written: plant A, and then plant B, whose file is as long, into the same buffer. */
+static void written_is_read(void) {
+    const uint32_t c34[] = {3, 4}, both[] = {0, 1, 2, 0, 1, 1, 1, 2, 2, 3};
+    const uint16_t probe[8] = {2, 2, 3, 7, 7, 7, 7, 7};
+    uint16_t list[] = {LIST_A};
+    uint8_t file[30];
+    hemtaluq_read_answer counts = {HEMTALUQ_COUNTS, 0, 2, 0, 2, 4};
+    hemtaluq_weigh_answer passes = {HEMTALUQ_PASSED, 0, 0, 10, 2, 9, 0};
+    hemtaluq_quote_answer q39 = {HEMTALUQ_CEILING, 0, 6, 0, 39};
+    hemtaluq_list_answer three = {HEMTALUQ_LISTED, 0, 0, 3};
+    hemtaluq_confirm_answer balanced = {HEMTALUQ_CONFIRMED, 0, 0, 0, 0};
+    size_t length = hemtaluq_write(list, LENGTH(list), file, sizeof file).length;
+    read_is("A as written", file, length, counts);
+    weigh_is("A as written, weights 2, 1", file, length, weights_2_1, 2, 64, passes, 0);
+    quote_is("A as written, contents 3, 4, g 1", file, length, weights_2_1, 2, c34, 2, 1, q39);
+    list_is("A's machine 1 as written", file, length, 1, 8, three, probe);
+    list[13] = 0;
+    length = hemtaluq_write(list, LENGTH(list), file, sizeof file).length;
+    confirm_is("B as written, both cycles once", file, length, both, 10, balanced);
+}
+
 /* A list of length 0 may have a null pointer: each list of each call, alone and with the others, as far as the call judges it. */
 static void null_pointers(void) {
     const uint32_t c34[] = {3, 4};
@@ -237,16 +372,24 @@ static void null_pointers(void) {
     quote_is("quote, contents null", plant_a, sizeof plant_a, weights_2_1, 2, NULL, 0, 1, r20);
     confirm_is("confirm, no file and no set, null", NULL, 0, NULL, 0, no_file);
     confirm_is("confirm, no set, null", plant_b, sizeof plant_b, NULL, 0, r18);
+    hemtaluq_write_answer n = hemtaluq_write(NULL, 0, NULL, 0);
+    check("write, no numbers and no room, null", n.kind == HEMTALUQ_REFUSED && n.number == HEMTALUQ_LIST_LENGTH && n.place == 0 && n.length == 0);
+    n = hemtaluq_write(list_a, LENGTH(list_a), NULL, 0);
+    check("write, no room, null", n.kind == HEMTALUQ_REFUSED && n.number == HEMTALUQ_OUTPUT_ROOM && n.place == 0 && n.length == 0);
+    write_refused("write, no numbers, null", NULL, 0, 20, HEMTALUQ_LIST_LENGTH, 0);
 }
 
 int main(void) {
     check("the library has the header's version", hemtaluq_version() == HEMTALUQ_VERSION);
     make_largest();
+    make_longest_list();
     reading();
     weighing();
     quoting();
     listing();
     confirming();
+    writing();
+    written_is_read();
     null_pointers();
     printf("interface.c: %d checks, %d failed\n", checks, failed);
     return failed != 0;

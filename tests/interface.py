@@ -1,4 +1,4 @@
-"""Test the C interface: the header as C99 and as C++, every function at its edges, the Rust wrappers, the cabinet programs in C and Rust, and revisions.
+"""Test the C interface: the header as C99 and as C++, every function at its edges, the Rust wrappers, the programs of examples/ in C and Rust, and revisions.
 
 The library is the one of dist/, made by tools/dist. What is expected is written here, in interface.c and in interface.rs from the scope
 document. The calls run once more under valgrind, the Rust program is built, and symbols of the library are renamed, where
@@ -18,7 +18,8 @@ import figures
 ROOT = os.path.dirname(os.path.dirname(os.path.abspath(__file__)))
 STRICT = ['-O2', '-Wall', '-Wextra', '-Werror', '-pedantic', '-Idist']
 RUST = ['rustc', '-O', '-D', 'warnings']
-CALLS = ('read', 'weigh', 'quote', 'list', 'confirm')
+CALLS = ('read', 'weigh', 'quote', 'list', 'confirm', 'write')
+PROGRAMS = ('cabinet', 'designer')
 
 # Words that are no number from 0 to 1,000,000: none may be taken for another number. The program in Rust gets the last as bytes that are no UTF-8.
 NO_AMOUNTS = ['-1', '-0', 'abc', '1x', 'x1', ' 1', '1 ', '+1', '', '0x1', '1e3', '1.0', '1,0', '1000001', '4294967295', '4294967296', '4294967297',
@@ -43,6 +44,67 @@ RUNS = [
     ('plant_b', ['1', '4294967296', '4'], 2, AMOUNT % 0),
 ] + [('plant_a', [word, '3', '4'], 2, AMOUNT % 2) for word in NO_AMOUNTS] + [
     ('plant_a', ['1', word, '4'], 2, AMOUNT % 0) for word in NO_AMOUNTS] + [('plant_a', ['1', '3', word], 2, AMOUNT % 1) for word in NO_AMOUNTS]
+
+# The folders of examples/ with a list; their plant files are the shortest.
+LISTED = ['plant_a', 'plant_b', 'two_clients', 'two_clients_in_turn', 'detour']
+LIST_A = '2 2 2 2 0 1 1 0 0 1 0 2 1 1 2 2 0 1 2 0 0 1 0 1 1 0'.split()
+LINES_A = '\n'.join(LIST_A)
+LIST_LENGTH = 'refused with 23 at %d: the list of numbers ends early or goes on (%s)'
+LIST_NUMBER = 'refused with 24 at %d: a number of the list is outside its values or the limits (%s)'
+# The longest list, and its file: no state can be left out.
+LONGEST_LIST = ' '.join(str(x) for x in [16, 64] + ([64, 64] + [x for k in range(64) for x in ((k + 1) % 64, (k + 2) % 64, 2, k, 0)]) * 16)
+LONGEST_FILE = bytes([16, 64] + ([64, 64] + [x for k in range(64) for x in (0x0B, (k + 1) % 64, (k + 2) % 64, k)]) * 16)
+
+# Words of which none may be taken for a number that is right.
+NO_NUMBERS = ['-1', '-0', '+1', 'abc', '1x', 'x1', '0x1', '1e0', '1.0', '1,0', ':', '/', '1\v1', '1\0', '256', '65535', '65536', '65537', '4294967296',
+              '4294967297', '18446744073709551616', '18446744073709551617', '100000000000000000000000000001', '\u0661', '\ufeff1', '\udcff']
+
+
+def in_folder(folder, name):
+    with open(os.path.join(ROOT, 'examples', folder, name), 'rb') as source:
+        return source.read()
+
+
+# What examples/README.md shows: a row of plant A that enters a third state.
+SHOWN = in_folder('plant_a', 'plant.list.txt').replace(b'\n0 1 1 0 0 ', b'\n0 2 1 0 0 '), None, LIST_NUMBER % (5, 'line 8')
+
+
+def changed(at, word):
+    """Plant A's list with another word at one place, each word on its line."""
+    return '\n'.join(LIST_A[:at] + [word] + LIST_A[at + 1:])
+
+
+def lists():
+    """The text of a list, or None where there is no such file, and what a designer program owes: the file, or none, and the line it prints."""
+    plant_a = in_folder('plant_a', 'plant.bin')
+    for folder in LISTED:
+        plant = in_folder(folder, 'plant.bin')
+        yield in_folder(folder, 'plant.list.txt'), plant, 'wrote %d bytes' % len(plant)
+    for text in (LINES_A, LINES_A + '\n', '\n \n' + LINES_A, LINES_A.replace('\n', '\r\n'), LINES_A.replace('\n', ' \t'), LINES_A.replace('\n', '#1 2\n'),
+                 '#' + ' '.join(LIST_A) + '\n' + LINES_A + '#', changed(3, '0' * 40 + '2'), LINES_A + ' # \u0661 \udcff'):
+        yield text, plant_a, 'wrote 20 bytes'
+    yield LONGEST_LIST, LONGEST_FILE, 'wrote 4130 bytes'
+    for text in (None, '', '\n\n', '# 1 0 1 0', '#'):
+        yield text, None, LIST_LENGTH % (0, 'no number')
+    yield '\n'.join(LIST_A[:-1]) + '\n\n# 0\n', None, LIST_LENGTH % (25, 'after line 25')
+    yield LINES_A + '\n\n0\n0\n', None, LIST_LENGTH % (26, 'line 28')
+    yield LINES_A + '\nabc', None, LIST_LENGTH % (26, 'line 27')
+    yield LINES_A + 10000 * '\n0', None, LIST_LENGTH % (26, 'line 27')
+    yield LONGEST_LIST.rpartition(' ')[0], None, LIST_LENGTH % (5153, 'after line 1')
+    yield LONGEST_LIST + '\n0', None, LIST_LENGTH % (5154, 'line 2')
+    yield LONGEST_LIST + 1000 * '\nabc', None, LIST_LENGTH % (5154, 'line 2')
+    yield SHOWN
+    yield '\n17', None, LIST_NUMBER % (0, 'line 2')
+    yield changed(6, 'abc') + 10000 * '\n0', None, LIST_NUMBER % (6, 'line 7')
+    # A word that is no number is wrong at every sort of place: counts, states, rows, and each number of a row.
+    for word in NO_NUMBERS:
+        for at in (0, 1, 2, 3, 4, 5, 6, 7, 8, 25):
+            yield changed(at, word), None, LIST_NUMBER % (at, 'line %d' % (at + 1))
+
+
+# The same with the text as bytes, and with a plant file there already or not.
+LISTS = [(text.encode(errors='surrogateescape') if isinstance(text, str) else text, before, plant, line)
+         for text, plant, line in lists() for before in (None, b'a longer file of before ' * 200)]
 
 
 def run(command, **more):
@@ -72,6 +134,39 @@ def hold_runs(program, runs):
             sys.exit('interface.py: %s on %s %s: exit code %d, %s' % (program, folder, numbers, done.returncode, done.stdout + done.stderr))
 
 
+def put(path, data):
+    """Make a file, or see to it that there is none."""
+    if os.path.exists(path):
+        os.remove(path)
+    if data is not None:
+        with open(path, 'wb') as out:
+            out.write(data)
+
+
+def hold_lists(program, folder, cases):
+    """What a designer program prints for lists, its exit code, and the plant file afterwards: with a refusal that of before, or none."""
+    listed, plant = os.path.join(folder, 'list.txt'), os.path.join(folder, 'plant.bin')
+    for text, before, owed, line in cases:
+        put(listed, text)
+        put(plant, before)
+        done = subprocess.run([program, listed, plant], cwd=ROOT, capture_output=True, text=True)
+        after = None
+        if os.path.exists(plant):
+            with open(plant, 'rb') as source:
+                after = source.read()
+        if (done.returncode, done.stdout, done.stderr, after) != (2 if owed is None else 0, line + '\n', '', before if owed is None else owed):
+            sys.exit('interface.py: %s on %s, where %s is owed: exit code %d, %s; the file is %s'
+                     % (program, (text or b'no file')[:300], line, done.returncode, done.stdout + done.stderr, after and after[:40]))
+
+
+def hold_unwritten(program, folder):
+    """A plant file that cannot be written: 1, and no word of a file written."""
+    for plant in [os.path.join(folder, 'no_such_folder', 'plant.bin')] + [full for full in ['/dev/full'] if os.path.exists(full)]:
+        done = subprocess.run([program, 'examples/plant_a/plant.list.txt', plant], cwd=ROOT, capture_output=True, text=True)
+        if (done.returncode, done.stdout, done.stderr) != (1, '', 'designer: %s cannot be written\n' % plant):
+            sys.exit('interface.py: %s with %s: exit code %d, %s' % (program, plant, done.returncode, done.stdout + done.stderr))
+
+
 def hold_calls(folder):
     """interface.c as C++ and as C, and under valgrind; interface.rs."""
     test = os.path.join(folder, 'interface')
@@ -86,22 +181,45 @@ def hold_calls(folder):
         run([test])
 
 
-def hold_programs(folder):
-    """The cabinet programs, compiled without a warning, and by the lines of README.md as they stand there."""
-    cabinet = os.path.join(folder, 'cabinet')
-    run(['gcc', '-std=c99'] + STRICT + ['examples/cabinet/cabinet.c', 'dist/libhemtaluq.a', '-o', cabinet])
-    hold_runs(cabinet, RUNS)
+def hold_shown():
+    """The line that examples/README.md shows is that of a run."""
+    with open(os.path.join(ROOT, 'examples', 'README.md'), encoding='utf-8') as source:
+        shown = re.findall(r'(?m)^    (.*)$', source.read())
+    if shown != [SHOWN[2]]:
+        sys.exit('interface.py: examples/README.md shows %s, where the program prints %s' % (shown, SHOWN[2]))
+
+
+def built(folder, name):
+    """A program of examples/ in C and in Rust, compiled without a warning."""
+    program = os.path.join(folder, name)
+    run(['gcc', '-std=c99'] + STRICT + ['examples/%s/%s.c' % (name, name), 'dist/libhemtaluq.a', '-o', program])
+    yield program
     if shutil.which('rustc'):
-        run(RUST + ['examples/cabinet/cabinet.rs', '-Ldist', '-o', cabinet])
-        hold_runs(cabinet, RUNS)
+        run(RUST + ['examples/%s/%s.rs' % (name, name), '-Ldist', '-o', program])
+        yield program
+
+
+def hold_programs(folder):
+    """The programs of examples/, compiled without a warning, and by the lines of README.md as they stand there."""
+    for program in built(folder, 'cabinet'):
+        hold_runs(program, RUNS)
+    hold_shown()
+    for program in built(folder, 'designer'):
+        hold_lists(program, folder, LISTS)
+        hold_unwritten(program, folder)
     with open(os.path.join(ROOT, 'README.md'), encoding='utf-8') as source:
         lines = re.findall(r'(?m)^    ((?:gcc|rustc) .*)$', source.read())
-    if [line.split()[0] for line in lines] != ['gcc', 'rustc']:
-        sys.exit('interface.py: README.md has not one line for gcc and then one for rustc: %s' % lines)
-    for line in lines:
-        if shutil.which(line.split()[0]):
+    named = [(line.split()[0], program) for line in lines for program in re.findall(r' examples/(\w+)/', line)]
+    if named != [(compiler, program) for program in PROGRAMS for compiler in ('gcc', 'rustc')]:
+        sys.exit('interface.py: README.md has not for each program one line for gcc and then one for rustc: %s' % lines)
+    for line, (compiler, name) in zip(lines, named):
+        if shutil.which(compiler):
             run(line, shell=True)
-            hold_runs(os.path.join(ROOT, line.split(' -o ')[1]), RUNS[:2])
+            program = os.path.join(ROOT, line.split(' -o ')[1])
+            if name == 'cabinet':
+                hold_runs(program, RUNS[:2])
+            else:
+                hold_lists(program, folder, LISTS[:2])
 
 
 def must_not_link(command, symbol):
@@ -139,18 +257,21 @@ def hold_revisions(folder):
 
 
 def hold_other_version(folder):
-    """With a library of another version the cabinet programs end with 3 and print no line."""
-    other, program = os.path.join(folder, 'other.o'), os.path.join(folder, 'program')
+    """With a library of another version the programs of examples/ end with 3 and print no line; the designer's writes no file."""
+    other, program, plant = [os.path.join(folder, name) for name in ('other.o', 'program', 'unwritten.bin')]
     library = renamed(folder, 'hemtaluq_version', 'hemtaluq_version_of_before')
     run(['gcc', '-x', 'c', '-', '-c', '-o', other], input='unsigned hemtaluq_version(void) { return 1; }\n')
-    commands = [['gcc', '-Idist', 'examples/cabinet/cabinet.c', other, os.path.join(library, 'libhemtaluq.a'), '-o', program]]
-    if shutil.which('rustc'):
-        commands.append(RUST + ['examples/cabinet/cabinet.rs', '-L' + library, '-C', 'link-arg=' + other, '-o', program])
-    for command in commands:
-        run(command)
-        done = cabinet_run(program, 'plant_a', ['1', '3', '4'])
-        if done.returncode != 3 or done.stdout or not done.stderr.startswith('cabinet: the library has version 1, '):
-            sys.exit('interface.py: %s with a library of version 1: exit code %d, %s' % (command[0], done.returncode, done.stdout + done.stderr))
+    given = {'cabinet': ['examples/plant_a/plant.bin', 'examples/plant_a/weights.bin', '1', '3', '4'], 'designer': ['examples/plant_a/plant.list.txt', plant]}
+    for name in PROGRAMS:
+        source = 'examples/%s/%s' % (name, name)
+        commands = [['gcc', '-Idist', source + '.c', other, os.path.join(library, 'libhemtaluq.a'), '-o', program]]
+        if shutil.which('rustc'):
+            commands.append(RUST + [source + '.rs', '-L' + library, '-C', 'link-arg=' + other, '-o', program])
+        for command in commands:
+            run(command)
+            done = subprocess.run([program] + given[name], cwd=ROOT, capture_output=True, text=True)
+            if done.returncode != 3 or done.stdout or not done.stderr.startswith(name + ': the library has version 1, ') or os.path.exists(plant):
+                sys.exit('interface.py: %s with a library of version 1: exit code %d, %s' % (source, done.returncode, done.stdout + done.stderr))
 
 
 def main():
@@ -163,9 +284,9 @@ def main():
             hold_revisions(folder)
             hold_other_version(folder)
     missing = [tool for tool in ('valgrind', 'rustc', 'objcopy') if not shutil.which(tool)]
-    figures.hold(cabinet_runs=len(RUNS))
-    print('interface.py: C99 and C++, %d runs of each program, revisions%s'
-          % (len(RUNS), '; missing, and so not tried: ' + ', '.join(missing) if missing else ', valgrind, rustc and objcopy all there'))
+    figures.hold(cabinet_runs=len(RUNS), designer_runs=len(LISTS))
+    print('interface.py: C99 and C++, %d runs of each cabinet program, %d of each designer program, revisions%s'
+          % (len(RUNS), len(LISTS), '; missing, and so not tried: ' + ', '.join(missing) if missing else ', valgrind, rustc and objcopy all there'))
 
 
 if __name__ == '__main__':

@@ -8,9 +8,39 @@ const PLANT_A: [u8; 20] = [2, 2, 2, 2, 0x06, 1, 0, 0x1B, 1, 0, 1, 2, 2, 0x0A, 1,
 const PLANT_B: [u8; 20] = [2, 2, 2, 2, 0x06, 1, 0, 0x0B, 1, 0, 1, 2, 2, 0x0A, 1, 0, 0x07, 1, 0, 1];
 // A ring of three rows, and one of two.
 const RINGS: [u8; 19] = [2, 0, 3, 3, 2, 1, 3, 1, 2, 3, 2, 0, 2, 2, 2, 1, 3, 1, 0];
+// The list that says plant A.
+const LIST_A: [u16; 26] = [2, 2, 2, 2, 0, 1, 1, 0, 0, 1, 0, 2, 1, 1, 2, 2, 0, 1, 2, 0, 0, 1, 0, 1, 1, 0];
 
 fn fault(number: u8, place: usize) -> Fault {
     Fault { number, place }
+}
+
+/// The longest list that says a plant. No state can be left out: the first row leaves state 1, and each row another than the one before it.
+fn longest_list() -> Vec<u16> {
+    let mut list = vec![16, 64];
+    for _ in 0..16 {
+        list.extend_from_slice(&[64, 64]);
+        (0..64).for_each(|k| list.extend_from_slice(&[(k + 1) % 64, (k + 2) % 64, 2, k, 0]));
+    }
+    list
+}
+
+fn writing() {
+    assert_eq!(hemtaluq::write(&LIST_A), Ok(PLANT_A.to_vec()));
+    assert_eq!(hemtaluq::write(&[]), Err(fault(23, 0)));
+    assert_eq!(hemtaluq::write(&LIST_A[..25]), Err(fault(23, 25)));
+    assert_eq!(hemtaluq::write(&[1, 0, 1, 0, 0]), Err(fault(23, 4)));
+    assert_eq!(hemtaluq::write(&[1, 0, 2, 1, 0, 2, 0, 0, 0]), Err(fault(24, 5)));
+    let mut out = [7; 22];
+    assert_eq!(hemtaluq::write_into(&LIST_A, &mut out[..19]), Err(fault(25, 0)));
+    assert_eq!(out, [7; 22]);
+    assert_eq!(hemtaluq::write_into(&LIST_A, &mut out), Ok(20));
+    assert_eq!((&out[..20], &out[20..]), (&PLANT_A[..], &[7, 7][..]));
+    let longest = longest_list();
+    assert_eq!(longest.len(), hemtaluq::LONGEST_LIST);
+    let file = hemtaluq::write(&longest).expect("the longest list is written");
+    assert_eq!(file.len(), hemtaluq::LONGEST_FILE);
+    assert_eq!(hemtaluq::read(&file), Ok(Counts { machines: 16, types: 64, rows: 1024 }));
 }
 
 fn main() {
@@ -34,4 +64,5 @@ fn main() {
     assert_eq!(hemtaluq::confirm(&PLANT_B, &both), Ok(Confirmed::Balanced));
     assert_eq!(hemtaluq::confirm(&PLANT_B, &both[..5]), Ok(Confirmed::Negative { message_type: 1, sum: -1 }));
     assert_eq!(hemtaluq::confirm(&PLANT_B, &both[..4]), Err(fault(15, 4)));
+    writing();
 }

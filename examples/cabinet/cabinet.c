@@ -16,7 +16,8 @@ static const char *in_words(unsigned number) {
         "a weight is above 1,000", "the list for a cycle is too short", "there is no such machine", "the machine is too large to list",
         "the list is too short for the cycles", "the set ends within an entry", "a number of the set is outside limits",
         "an entry of the set is no quiet cycle", "the set has no entry or more than 256", "no fault", "there is not one content for each type",
-        "a content or G is not a number up to 1,000,000", "the weights do not pass"};
+        "a content or G is not a number up to 1,000,000", "the weights do not pass", "the list of numbers ends early or goes on",
+        "a number of the list is outside its values or the limits", "the buffer is too short for the file"};
     return number < sizeof words / sizeof words[0] ? words[number] : "unknown";
 }
 

@@ -2,7 +2,7 @@
 //!
 //!     cabinet PLANT WEIGHTS G CONTENT...
 
-// The program makes two of the five calls.
+// The program makes two of the six calls.
 #[allow(dead_code)]
 mod hemtaluq;
 

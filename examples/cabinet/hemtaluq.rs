@@ -1,7 +1,13 @@
 //! Safe wrappers around the C interface of Hemtaluq: slices in, enums out.
 
 /// The version of the interface that these wrappers are written for.
-pub const VERSION: u32 = 2;
+pub const VERSION: u32 = 3;
+
+/// Bytes of the longest plant file.
+pub const LONGEST_FILE: usize = 4130;
+
+/// Numbers of the longest list that says a plant.
+pub const LONGEST_LIST: usize = 5154;
 
 /// Why a call was refused: the number of the fault and where it was met.
 #[derive(Debug, Clone, Copy, PartialEq, Eq)]
@@ -35,6 +41,9 @@ impl Fault {
             20 => "there is not one content for each type",
             21 => "a content or G is not a number up to 1,000,000",
             22 => "the weights do not pass",
+            23 => "the list of numbers ends early or goes on",
+            24 => "a number of the list is outside its values or the limits",
+            25 => "the buffer is too short for the file",
             _ => "unknown",
         }
     }
@@ -116,6 +125,14 @@ struct ConfirmAnswer {
     sum: i64,
 }
 
+#[repr(C)]
+struct WriteAnswer {
+    kind: u8,
+    number: u8,
+    place: usize,
+    length: usize,
+}
+
 const REFUSED: u8 = 0;
 const CYCLE: u8 = 3;
 const NEGATIVE: u8 = 7;
@@ -134,6 +151,8 @@ extern "C" {
     fn hemtaluq_list(file: *const u8, file_length: usize, machine: u32, out: *mut u16, out_length: usize) -> ListAnswer;
     #[link_name = "hemtaluq_confirm_v1"]
     fn hemtaluq_confirm(file: *const u8, file_length: usize, set: *const u32, set_length: usize) -> ConfirmAnswer;
+    #[link_name = "hemtaluq_write_v1"]
+    fn hemtaluq_write(numbers: *const u16, number_count: usize, out: *mut u8, out_length: usize) -> WriteAnswer;
 }
 
 /// The version of the library that was linked. These wrappers are for it where it is `VERSION`.
@@ -187,4 +206,21 @@ pub fn confirm(file: &[u8], set: &[u32]) -> Result<Confirmed, Fault> {
         NEGATIVE => Ok(Confirmed::Negative { message_type: a.message_type, sum: a.sum }),
         _ => Ok(Confirmed::Balanced),
     }
+}
+
+/// The shortest file of the plant that a list of numbers says, in the front of `out`; how many bytes it has.
+pub fn write_into(numbers: &[u16], out: &mut [u8]) -> Result<usize, Fault> {
+    let a = unsafe { hemtaluq_write(numbers.as_ptr(), numbers.len(), out.as_mut_ptr(), out.len()) };
+    if a.kind == REFUSED {
+        return Err(Fault { number: a.number, place: a.place });
+    }
+    Ok(a.length)
+}
+
+/// The shortest file of the plant that a list of numbers says. There is room for every file, so 25 does not come.
+pub fn write(numbers: &[u16]) -> Result<Vec<u8>, Fault> {
+    let mut file = vec![0; LONGEST_FILE];
+    let length = write_into(numbers, &mut file)?;
+    file.truncate(length);
+    Ok(file)
 }

@@ -7,26 +7,30 @@ use Rattle.weighing.specs.Answers as Weighing
 use Rattle.quoting.specs.Answers as Quoting
 use Rattle.listing.specs.Answers as Listing
 use Rattle.cycle_sets.specs.Answers as Confirming
+use Rattle.writing.specs.Answers as Writing
 use Rattle.cabinet.specs.declared.ReadAnswer.{ReadAnswer}
 use Rattle.cabinet.specs.declared.WeighAnswer.{WeighAnswer}
 use Rattle.cabinet.specs.declared.QuoteAnswer.{QuoteAnswer}
 use Rattle.cabinet.specs.declared.ListAnswer.{ListAnswer}
 use Rattle.cabinet.specs.declared.ConfirmAnswer.{ConfirmAnswer}
-use Rattle.cabinet.specs.Structs.{readStruct, weighStruct, quoteStruct, listStruct, confirmStruct}
+use Rattle.cabinet.specs.declared.WriteAnswer.{WriteAnswer}
+use Rattle.cabinet.specs.Structs.{readStruct, weighStruct, quoteStruct, listStruct, confirmStruct, writeStruct}
 
 -- ---- the numbers of the header
 
 -- HEMTALUQ_REFUSED is 0, of each call.
 refused-0 : (readStruct (Reading.refused 8 4) .kind ≡ 0) × (weighStruct (Weighing.refused 8 4) .kind ≡ 0) × (quoteStruct (Quoting.refused 8 4) .kind ≡ 0)
-    × (listStruct (Listing.refused 8 4) .kind ≡ 0) × (confirmStruct (Confirming.refused 8 4) .kind ≡ 0)
-refused-0 = (refl, refl, refl, refl, refl)
+    × (listStruct (Listing.refused 8 4) .kind ≡ 0) × (confirmStruct (Confirming.refused 8 4) .kind ≡ 0) × (writeStruct (Writing.refused 24 5) .kind ≡ 0)
+refused-0 = (refl, refl, refl, refl, refl, refl)
 
--- HEMTALUQ_COUNTS 1, HEMTALUQ_PASSED 2, HEMTALUQ_CYCLE 3, HEMTALUQ_CEILING 4, HEMTALUQ_LISTED 5, HEMTALUQ_CONFIRMED 6, HEMTALUQ_NEGATIVE 7.
+-- HEMTALUQ_COUNTS 1, HEMTALUQ_PASSED 2, HEMTALUQ_CYCLE 3, HEMTALUQ_CEILING 4, HEMTALUQ_LISTED 5, HEMTALUQ_CONFIRMED 6, HEMTALUQ_NEGATIVE 7,
+-- HEMTALUQ_WROTE 8.
 kinds : (readStruct (Reading.counts 2 2 4) .kind ≡ 1)
     × (weighStruct (Weighing.passed (record { base = 10; «most_states» = 2; «per_progress» = 9 })) .kind ≡ 2) × (weighStruct (Weighing.cycle 2) .kind ≡ 3)
     × (quoteStruct (Quoting.quoted 39 6) .kind ≡ 4) × (listStruct (Listing.entries 3) .kind ≡ 5)
     × (confirmStruct Confirming.confirmed .kind ≡ 6) × (confirmStruct (Confirming.negative 1 (negsuc 0)) .kind ≡ 7)
-kinds = (refl, refl, refl, refl, refl, refl, refl)
+    × (writeStruct (Writing.wrote 20) .kind ≡ 8)
+kinds = (refl, refl, refl, refl, refl, refl, refl, refl)
 
 -- ---- one struct for each answer
 
@@ -94,4 +98,13 @@ confirm-one-to-one (Confirming.refused n p) (Confirming.negative t z) e = absurd
 confirm-one-to-one (Confirming.refused n p) (Confirming.refused n′ p′) e =
     let q : n ≡ n′ = ap (λ (x : ConfirmAnswer). x .number) e in
     let r : p ≡ p′ = ap (λ (x : ConfirmAnswer). x .place) e in
+    cc
+
+pub write-one-to-one : (a b : Writing.Answer) → writeStruct a ≡ writeStruct b → a ≡ b
+write-one-to-one (Writing.wrote k) (Writing.wrote k′) e = ap Writing.wrote (ap (λ (x : WriteAnswer). x .length) e)
+write-one-to-one (Writing.wrote k) (Writing.refused n p) e = absurd (omega (arith, ap (λ (x : WriteAnswer). x .kind) e))
+write-one-to-one (Writing.refused n p) (Writing.wrote k) e = absurd (omega (arith, ap (λ (x : WriteAnswer). x .kind) e))
+write-one-to-one (Writing.refused n p) (Writing.refused n′ p′) e =
+    let q : n ≡ n′ = ap (λ (x : WriteAnswer). x .number) e in
+    let r : p ≡ p′ = ap (λ (x : WriteAnswer). x .place) e in
     cc

@@ -2,6 +2,7 @@
 use mathlib.Core.Path.{_≡_}
 use mathlib.Core.List.{List}
 use Prim.Native.Nat.{ℕ}
+use lib.ListN.{take}
 use lib.IntN.{pos}
 use Rattle.livelock.specs.Plants.{Plant}
 use Rattle.plant.specs.Found.{Found}
@@ -13,11 +14,14 @@ use Rattle.quoting.specs.Quoting as Quoting
 use Rattle.listing.specs.Answers as ListingAnswers
 use Rattle.listing.specs.Listing.{ListsCycles}
 use Rattle.cycle_sets.specs.Answers as ConfirmingAnswers
+use Rattle.writing.specs.Answers as WritingAnswers
+use Rattle.writing.specs.Writing.{SaysShortest}
 use Rattle.cabinet.specs.declared.ReadAnswer.{ReadAnswer}
 use Rattle.cabinet.specs.declared.WeighAnswer.{WeighAnswer}
 use Rattle.cabinet.specs.declared.QuoteAnswer.{QuoteAnswer}
 use Rattle.cabinet.specs.declared.ListAnswer.{ListAnswer}
 use Rattle.cabinet.specs.declared.ConfirmAnswer.{ConfirmAnswer}
+use Rattle.cabinet.specs.declared.WriteAnswer.{WriteAnswer}
 
 -- "the counts of machines, types and rows": kind 1; a refusal is kind 0.
 abbrev pub readStruct : Reading.Answer → ReadAnswer
@@ -48,6 +52,11 @@ confirmStruct ConfirmingAnswers.confirmed = record { kind = 6; number = 0; place
 confirmStruct (ConfirmingAnswers.negative message sum) = record { kind = 7; number = 0; place = 0; «message_type» = message; sum = sum }
 confirmStruct (ConfirmingAnswers.refused number place) = record { kind = 0; number = number; place = place; «message_type» = 0; sum = pos 0 }
 
+-- "Its length is handed back": kind 8.
+abbrev pub writeStruct : WritingAnswers.Answer → WriteAnswer
+writeStruct (WritingAnswers.wrote length) = record { kind = 8; number = 0; place = 0; length = length }
+writeStruct (WritingAnswers.refused number place) = record { kind = 0; number = number; place = place; length = 0 }
+
 -- The struct is that of an answer that `weigh` owes.
 pub record WeighedAs (ws before after : List ℕ) (r : WeighAnswer) (x : Found Plant) : Type 0 where
   pub answer : WeighingAnswers.Answer
@@ -63,3 +72,7 @@ pub record QuotedAs (ws contents : List ℕ) (g : ℕ) (r : QuoteAnswer) (x : Fo
 -- Where the struct hands back entries, the front of the lent list is every simple cycle of the machine, once.
 abbrev pub Lists : List ℕ → ℕ → ListAnswer → List ℕ → Type 0
 Lists file machine r after = r .kind ≡ 5 → ListsCycles file machine (r .entries) after
+
+-- Where the struct hands back a length, the front of the lent buffer is a shortest file of the plant that the list says.
+abbrev pub Writes : List ℕ → WriteAnswer → List ℕ → Type 0
+Writes numbers r after = r .kind ≡ 8 → SaysShortest numbers (take (r .length) after)

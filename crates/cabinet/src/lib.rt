@@ -1,22 +1,29 @@
-// The C interface: the five calls, with answers as structs, and its version. include/hemtaluq.h declares them for C and C++.
+// The C interface: the six calls, with answers as structs, and its version. include/hemtaluq.h declares them for C and C++.
 // The name of a call carries its revision. A call whose struct or arguments change gets the next one, so that an object compiled with an old
 // header finds no symbol and does not link.
 ghost use mathlib.Core.Path.{_≡_};
 ghost use mathlib.Core.Logic.{_↔_};
 ghost use lib.ListN.{length};
 ghost use Rattle.plant.specs.Reading.{readPlant};
-ghost use Rattle.reading.specs.Answers.{countsOf};
+ghost use Rattle.reading.specs.Answers as ReadingAnswers;
+ghost use Rattle.weighing.specs.Answers as WeighingAnswers;
+ghost use Rattle.quoting.specs.Answers as QuotingAnswers;
+ghost use Rattle.listing.specs.Answers as ListingAnswers;
+ghost use Rattle.writing.specs.Answers as WritingAnswers;
 ghost use Rattle.weight_checks.specs.Checks as WeightChecks;
 ghost use Rattle.quoting.specs.Quoting as Quoting;
 ghost use Rattle.listing.specs.Listing as Listing;
 ghost use Rattle.cycle_sets.specs.Confirming.{owed, ReadsBalanced};
-ghost use Rattle.cabinet.specs.Structs.{readStruct, listStruct, confirmStruct, WeighedAs, QuotedAs, Lists};
+ghost use Rattle.plant_lists.specs.Lists.{listedPlant};
+ghost use Rattle.writing.specs.Writing.{answerFor, bufferFor};
+ghost use Rattle.cabinet.specs.Structs.{readStruct, weighStruct, quoteStruct, listStruct, confirmStruct, writeStruct, WeighedAs, QuotedAs, Lists, Writes};
 ghost use Rattle.cabinet.specs.Versions.{interfaceVersion};
 use cycle_sets::Confirmation;
 use listing::Listed;
 use quoting::Quoted;
 use reading::Reading;
 use weighing::Weighed;
+use writing::Writing;
 
 // kind 1: the counts; kind 0: a refusal with its number and place.
 #[repr(C)]
@@ -70,7 +77,16 @@ pub struct ConfirmAnswer {
     pub sum: i64,
 }
 
-const VERSION: u32 = 2;
+// kind 8: the length of the file; kind 0: a refusal.
+#[repr(C)]
+pub struct WriteAnswer {
+    pub kind: u8,
+    pub number: u8,
+    pub place: usize,
+    pub length: usize,
+}
+
+const VERSION: u32 = 3;
 
 // The version of this library's interface. This export has no revision: what it means never changes.
 #[no_mangle]
@@ -80,11 +96,10 @@ pub extern "C" fn hemtaluq_version() -> u32
     VERSION
 }
 
-#[no_mangle]
-pub extern "C" fn hemtaluq_read_v1(file: &[u8]) -> ReadAnswer
-    ensures { λ r. ⌜ r ≡ readStruct (countsOf (readPlant (now (file .entry)))) ⌝ }
+// The struct of an answer of `read`.
+fn read_answer(answer: Reading) -> ReadAnswer
+    ensures { λ r. ⌜ r ≡ readStruct (ReadingAnswers.answerOf answer) ⌝ }
 {
-    let answer = reading::read(file);
     match answer {
         Reading::Counts {
             machines,
@@ -110,10 +125,17 @@ pub extern "C" fn hemtaluq_read_v1(file: &[u8]) -> ReadAnswer
 }
 
 #[no_mangle]
-pub extern "C" fn hemtaluq_weigh_v1(file: &[u8], weights: &[u16], cycle: &mut [u16]) -> WeighAnswer
-    ensures { λ r. ⌜ WeighedAs (now (weights .entry)) (now (cycle .entry)) (now (cycle .exit)) r (WeightChecks.judged (now (file .entry)) (now (weights .entry)) (length (now (cycle .entry)))) ⌝ }
+pub extern "C" fn hemtaluq_read_v1(file: &[u8]) -> ReadAnswer
+    ensures { λ r. ⌜ r ≡ readStruct (ReadingAnswers.countsOf (readPlant (now (file .entry)))) ⌝ }
 {
-    let answer = weighing::weigh(file, weights, cycle);
+    let answer = reading::read(file);
+    read_answer(answer)
+}
+
+// The struct of an answer of `weigh`.
+fn weigh_answer(answer: Weighed) -> WeighAnswer
+    ensures { λ r. ⌜ r ≡ weighStruct (WeighingAnswers.answerOf answer) ⌝ }
+{
     match answer {
         Weighed::Passed(figures) => WeighAnswer {
             kind: 2,
@@ -146,15 +168,17 @@ pub extern "C" fn hemtaluq_weigh_v1(file: &[u8], weights: &[u16], cycle: &mut [u
 }
 
 #[no_mangle]
-pub extern "C" fn hemtaluq_quote_v1(
-    file: &[u8],
-    weights: &[u16],
-    contents: &[u32],
-    g: u32,
-) -> QuoteAnswer
-    ensures { λ r. ⌜ QuotedAs (now (weights .entry)) (now (contents .entry)) g r (Quoting.judged (now (file .entry)) (now (weights .entry)) (now (contents .entry)) g) ⌝ }
+pub extern "C" fn hemtaluq_weigh_v1(file: &[u8], weights: &[u16], cycle: &mut [u16]) -> WeighAnswer
+    ensures { λ r. ⌜ WeighedAs (now (weights .entry)) (now (cycle .entry)) (now (cycle .exit)) r (WeightChecks.judged (now (file .entry)) (now (weights .entry)) (length (now (cycle .entry)))) ⌝ }
 {
-    let answer = quoting::quote(file, weights, contents, g);
+    let answer = weighing::weigh(file, weights, cycle);
+    weigh_answer(answer)
+}
+
+// The struct of an answer of `quote`.
+fn quote_answer(answer: Quoted) -> QuoteAnswer
+    ensures { λ r. ⌜ r ≡ quoteStruct (QuotingAnswers.answerOf answer) ⌝ }
+{
     match answer {
         Quoted::Ceiling { ceiling, class } => QuoteAnswer {
             kind: 4,
@@ -174,12 +198,22 @@ pub extern "C" fn hemtaluq_quote_v1(
 }
 
 #[no_mangle]
-pub extern "C" fn hemtaluq_list_v1(file: &[u8], machine: u32, out: &mut [u16]) -> ListAnswer
-    ensures { λ r. ⌜ r ≡ listStruct (Listing.answered (Listing.judged (now (file .entry)) machine (length (now (out .entry))))) ⌝ }
-    ensures { λ r. ⌜ now (out .exit) ≡ Listing.filled (Listing.judged (now (file .entry)) machine (length (now (out .entry)))) (now (out .entry)) ⌝ }
-    ensures { λ r. ⌜ Lists (now (file .entry)) machine r (now (out .exit)) ⌝ }
+pub extern "C" fn hemtaluq_quote_v1(
+    file: &[u8],
+    weights: &[u16],
+    contents: &[u32],
+    g: u32,
+) -> QuoteAnswer
+    ensures { λ r. ⌜ QuotedAs (now (weights .entry)) (now (contents .entry)) g r (Quoting.judged (now (file .entry)) (now (weights .entry)) (now (contents .entry)) g) ⌝ }
 {
-    let answer = listing::list(file, machine, out);
+    let answer = quoting::quote(file, weights, contents, g);
+    quote_answer(answer)
+}
+
+// The struct of an answer of `list`.
+fn list_answer(answer: Listed) -> ListAnswer
+    ensures { λ r. ⌜ r ≡ listStruct (ListingAnswers.answerOf answer) ⌝ }
+{
     match answer {
         Listed::Entries(used) => ListAnswer {
             kind: 5,
@@ -194,6 +228,16 @@ pub extern "C" fn hemtaluq_list_v1(file: &[u8], machine: u32, out: &mut [u16]) -
             entries: 0,
         },
     }
+}
+
+#[no_mangle]
+pub extern "C" fn hemtaluq_list_v1(file: &[u8], machine: u32, out: &mut [u16]) -> ListAnswer
+    ensures { λ r. ⌜ r ≡ listStruct (Listing.answered (Listing.judged (now (file .entry)) machine (length (now (out .entry))))) ⌝ }
+    ensures { λ r. ⌜ now (out .exit) ≡ Listing.filled (Listing.judged (now (file .entry)) machine (length (now (out .entry)))) (now (out .entry)) ⌝ }
+    ensures { λ r. ⌜ Lists (now (file .entry)) machine r (now (out .exit)) ⌝ }
+{
+    let answer = listing::list(file, machine, out);
+    list_answer(answer)
 }
 
 #[no_mangle]
@@ -225,4 +269,34 @@ pub extern "C" fn hemtaluq_confirm_v1(file: &[u8], set: &[u32]) -> ConfirmAnswer
             sum: 0,
         },
     }
+}
+
+// The struct of an answer of `write`.
+fn write_answer(answer: Writing) -> WriteAnswer
+    ensures { λ r. ⌜ r ≡ writeStruct (WritingAnswers.answerOf answer) ⌝ }
+{
+    match answer {
+        Writing::Wrote(length) => WriteAnswer {
+            kind: 8,
+            number: 0,
+            place: 0,
+            length,
+        },
+        Writing::Refused(fault) => WriteAnswer {
+            kind: 0,
+            number: fault.number,
+            place: fault.place,
+            length: 0,
+        },
+    }
+}
+
+#[no_mangle]
+pub extern "C" fn hemtaluq_write_v1(numbers: &[u16], out: &mut [u8]) -> WriteAnswer
+    ensures { λ r. ⌜ r ≡ writeStruct (answerFor (listedPlant (now (numbers .entry))) (length (now (out .entry)))) ⌝ }
+    ensures { λ r. ⌜ now (out .exit) ≡ bufferFor (listedPlant (now (numbers .entry))) (now (out .entry)) ⌝ }
+    ensures { λ r. ⌜ Writes (now (numbers .entry)) r (now (out .exit)) ⌝ }
+{
+    let answer = writing::write(numbers, out);
+    write_answer(answer)
 }

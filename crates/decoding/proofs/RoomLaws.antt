@@ -1,38 +1,19 @@
 -- A row takes a byte of the file at least, so that a file has room for fewer rows than bytes.
-use mathlib.Core.Path.{_≡_, subst}
+use mathlib.Core.Path.{_≡_}
 use mathlib.Core.Bool.{Bool, true, false}
 use mathlib.Core.List.{List, [], _∷_}
 use Prim.Native.Nat.{ℕ, zero, suc, _+_, _≤_}
 use native.Mathlib.Omega.{arith}
 use lib.ListN.{length, drop, length-drop, length-append}
 use Rattle.livelock.specs.Plants.{Plant, rowCount, machineCount}
-use Rattle.plant.specs.Found.{Found, found, fault, andThen, movedBy}
+use Rattle.plant.specs.Found.{Found}
 use Rattle.plant.specs.Reading.{byteIn, inRange, isMap, mapByte, hasBit, stateField, typeField, readRow, withRow, withMachine, readRows, rowsByte, readMachine}
 use Rattle.plant.proofs.Bounds.{Each, got, stopped, byteThat-each}
-
--- P of a value that was found, and the offset after it.
-pub data Gives {A : Type 0} (P : A → ℕ → Type 0) : Found A → Type 0 where
-  value : {a : A} {next : ℕ} → P a next → Gives P (found a next)
-  none : {number place : ℕ} → Gives P (fault number place)
-
-gives-then : {A B : Type 0} {P : A → ℕ → Type 0} {R : B → ℕ → Type 0} {x : Found A} {k : A → ℕ → Found B}
-    → Gives P x → ((a : A) (next : ℕ) → P a next → Gives R (k a next)) → Gives R (andThen x k)
-gives-then (value p) f = f _ _ p
-gives-then none f = none
+use Rattle.plant.proofs.Gives.{Gives, value, no-value, gives-then, gives-weaken, gives-moved}
 
 gives-of : {A : Type 0} {P R : A → ℕ → Type 0} {n : ℕ} {x : Found A} → Each P n x → ((a : A) (next : ℕ) → P a next → R a next) → Gives R x
 gives-of (got p) f = value (f _ _ p)
-gives-of (stopped h) f = none
-
-gives-moved : {A : Type 0} {P R : A → ℕ → Type 0} (b : ℕ) {x : Found A} → Gives P x → ((a : A) (next : ℕ) → P a next → R a (b + next)) → Gives R (movedBy b x)
-gives-moved b (value p) f = value (f _ _ p)
-gives-moved b none f = none
-
-pub given-found : {A : Type 0} {P : A → ℕ → Type 0} {x : Found A} (a : A) (next : ℕ) → Gives P x → x ≡ found a next → P a next
-given-found {P = P} a next h e = go (subst (Gives P) e h)
-  where
-    go : Gives P (found a next) → P a next
-    go (value p) = p
+gives-of (stopped h) f = no-value
 
 -- The offset after what was read is at least `from`, and in the file.
 abbrev pub Between : ℕ → List ℕ → ℕ → Type 0
@@ -80,11 +61,7 @@ unfolding readRows
 rows-take s m states zero implied at p l = value {a = p} {next = at} (omega arith, (omega arith, l))
 rows-take s m states (suc n) implied at p l =
     gives-then (row-takes s m states (p .types) implied at) λ r next h.
-    gives-then′ (rows-take s m states n (r .left) next (withRow p r) (h .1)) (λ q end g. (omega (arith, g .0, length-append (p .rows) (r ∷ [])), (omega (arith, g .1 .0, h .0), g .1 .1)))
-  where
-    gives-then′ : {P R : Plant → ℕ → Type 0} {x : Found Plant} → Gives P x → ((a : Plant) (next : ℕ) → P a next → R a next) → Gives R x
-    gives-then′ (value p) f = value (f _ _ p)
-    gives-then′ none f = none
+    gives-weaken (λ q end g. (omega (arith, g .0, length-append (p .rows) (r ∷ [])), (omega (arith, g .1 .0, h .0), g .1 .1))) (rows-take s m states n (r .left) next (withRow p r) (h .1))
 
 -- There are no more rows than bytes, after a machine too.
 pub machine-takes : (s : List ℕ) (at : ℕ) (p : Plant) → rowCount p ≤ at → Gives (λ q next. Between (rowCount q) s next) (readMachine s at p)

@@ -154,6 +154,21 @@ pub record Machines (k at : ℕ) (p : Plant) : Type 0 where
   pub so-far : Formed at p
   pub number : machineCount p ≡ k
 
+-- A plant of 1 to 16 machines that is formed so is within the limits.
+pub formed-limits : (machines : ℕ) (p : Plant) (at : ℕ) → 1 ≤ machines → machines ≤ 16 → Machines (0 + machines) at p → WithinLimits p
+formed-limits machines p at least most m =
+    record {
+      formed = m .so-far .formed;
+      some-machine = omega (arith, m .number);
+      few-machines = omega (arith, m .number);
+      few-types = m .so-far .few-types;
+      states = m .so-far .states;
+      rows-each = m .so-far .rows-each;
+      rows-in-all = m .so-far .rows-in-all;
+      ascending = m .so-far .ascending;
+      one-message = m .so-far .one-message;
+    }
+
 module _ (s : List ℕ) where
   -- Reading a machine ends in the file and gives a plant of one machine more,
   pub readMachine-each : (at : ℕ) (p : Plant) → Formed at p
@@ -206,21 +221,7 @@ module _ (s : List ℕ) where
       each-then (readMachines-each machines 0 b (noMachines types) (hb .0 .inside) (no-machines b types (omega (arith, ha .0 .near, hb .0 .near)) (omega (arith, hb .1 .1)))) λ p end h.
       each-cond (ltb end (length s))
       (λ t. stopped (within (omega arith) (omega arith) (ltb-true end (length s) t)))
-      (λ t. got (limits machines p end (ha .1 .0) (omega (arith, ha .1 .1)) (h .1), omega (arith, h .0, ltb-false end (length s) t), h .1 .so-far .bytes))
-    where
-      limits : (machines : ℕ) (p : Plant) (end : ℕ) → 1 ≤ machines → machines ≤ 16 → Machines (0 + machines) end p → WithinLimits p
-      limits machines p end least most m =
-          record {
-            formed = m .so-far .formed;
-            some-machine = omega (arith, m .number);
-            few-machines = omega (arith, m .number);
-            few-types = m .so-far .few-types;
-            states = m .so-far .states;
-            rows-each = m .so-far .rows-each;
-            rows-in-all = m .so-far .rows-in-all;
-            ascending = m .so-far .ascending;
-            one-message = m .so-far .one-message;
-          }
+      (λ t. got (formed-limits machines p end (ha .1 .0) (omega (arith, ha .1 .1)) (h .1), omega (arith, h .0, ltb-false end (length s) t), h .1 .so-far .bytes))
 
   -- The laws for callers.
   pub within-limits : (p : Plant) (end : ℕ) → readPlant s ≡ found p end → WithinLimits p

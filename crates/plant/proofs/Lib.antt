@@ -1,6 +1,7 @@
 -- Laws of the file format and of its limits.
 pub mod BasicExamples
 pub mod Told
+pub mod Gives
 pub mod ByteLaws
 pub mod Bounds
 pub mod FileBounds
@@ -8,5 +9,6 @@ pub mod FirstBytes
 pub mod FileLaws
 pub mod RowLaws
 pub mod MachineLaws
+pub mod MachineRows
 pub mod PlantLaws
 pub mod OneToOne

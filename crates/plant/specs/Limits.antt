@@ -1,6 +1,7 @@
 -- What holds of every plant that a file reads as (document 01, "The plant file").
 use mathlib.Core.Path.{_≡_}
 use mathlib.Core.Logic.{_⊎_}
+use mathlib.Core.Bool.{cond}
 use mathlib.Core.Option.{none}
 use mathlib.Core.List.{List, [], _∷_}
 use Prim.Native.Nat.{ℕ, _+_, _*_, _≤_, _<_}
@@ -21,6 +22,11 @@ longestFile = 2 + 2 * 16 + mostRowBytes * 1024
 unfoldable pub Ascending : List Row → Type 0
 Ascending [] = Unit {0}
 Ascending (r ∷ rs) = All (λ q. r .machine ≤ q .machine) rs × Ascending rs
+
+-- The rows of machine m, in their order.
+unfoldable pub rowsIn : ℕ → List Row → List Row
+rowsIn m [] = []
+rowsIn m (r ∷ rs) = cond (eqb (r .machine) m) (r ∷ rowsIn m rs) (rowsIn m rs)
 
 -- How many rows machine m has.
 abbrev pub rowsOf : Plant → ℕ → ℕ

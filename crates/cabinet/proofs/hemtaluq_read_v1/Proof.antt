@@ -1,24 +1,18 @@
--- `hemtaluq_read_v1` meets its contract: each answer of `read` becomes its struct.
+-- `hemtaluq_read_v1` meets its contract: the answer of `read` becomes its struct.
 use borrow.Author.Needs.{needs}
-use Rattle.cabinet.proofs.StructLaws.{read-told}
+use mathlib.Core.Path.{_∙_, ap}
+use Rattle.cabinet.specs.Structs.{readStruct}
 use Rattle.cabinet.proofs.hemtaluq_read_v1.Statement.{statement}
 use Rattle.cabinet.proofs.hemtaluq_read_v1.Tie as tie
 
 read-requires : tie.Need-read-requires
 read-requires c κs = search needs
 
-enum-known-answer : tie.Need-enum-known-answer
-enum-known-answer c = search needs
-
-enum-known-answer-2 : tie.Need-enum-known-answer-2
-enum-known-answer-2 c = search needs
+read-answer-requires : tie.Need-read-answer-requires
+read-answer-requires c κs = search needs
 
 returns : tie.Need-returns
-returns c = read-told (c .before .before .before .read .ensures) (c .before .answer .given .1)
-
-returns-2 : tie.Need-returns-2
-returns-2 c = read-told (c .before .before .before .read .ensures) (c .before .answer2 .given .1)
+returns c = c .read-answer .ensures ∙ ap readStruct (c .before .read .ensures)
 
 pub hemtaluq-read-v1-spec : {M : Type 1} → statement M
-hemtaluq-read-v1-spec =
-    tie.close (tie.spec read-requires enum-known-answer enum-known-answer-2 returns returns-2)
+hemtaluq-read-v1-spec = tie.close (tie.spec read-requires read-answer-requires returns)

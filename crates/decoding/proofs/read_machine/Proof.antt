@@ -9,7 +9,8 @@ use Rattle.plant.proofs.Told.{told}
 use Rattle.plant.proofs.Bounds.{each-found, byteIn-each, rowsByte-each}
 use Rattle.plant.proofs.MachineLaws.{no-states, no-rows, machine-read, rows-end, part-is}
 use Rattle.tables.proofs.RowLaws.{rows-in}
-use Rattle.decoding.proofs.RoomLaws.{given-found, byte-takes, rows-byte-takes}
+use Rattle.plant.proofs.Gives.{given-found}
+use Rattle.decoding.proofs.RoomLaws.{byte-takes, rows-byte-takes}
 use Rattle.decoding.proofs.read_machine.Statement.{statement}
 use Rattle.decoding.proofs.read_machine.Tie as tie
 

@@ -14,7 +14,8 @@ use Rattle.plant.proofs.MachineLaws.{machine-stops, machine-goes-on, machines-d
 use Rattle.tables.specs.Tables.{plantIn}
 use Rattle.tables.proofs.RowLaws.{rows-in}
 use Rattle.decoding.specs.Inner.Steps.{FirstRows}
-use Rattle.decoding.proofs.RoomLaws.{given-found, machine-takes}
+use Rattle.plant.proofs.Gives.{given-found}
+use Rattle.decoding.proofs.RoomLaws.{machine-takes}
 use Rattle.decoding.proofs.FirstRowLaws.{first-none, first-stored}
 use Rattle.decoding.proofs.ReadLaws.{machine-fault, machine-found}
 use Rattle.decoding.proofs.read_machines.Statement.{statement}

@@ -13,7 +13,8 @@ use Rattle.plant.proofs.Told.{told}
 use Rattle.plant.proofs.RowLaws.{row-stops, row-goes-on, rows-done}
 use Rattle.tables.specs.Tables.{plantIn}
 use Rattle.tables.proofs.RowLaws.{with-row}
-use Rattle.decoding.proofs.RoomLaws.{row-takes, given-found}
+use Rattle.plant.proofs.Gives.{given-found}
+use Rattle.decoding.proofs.RoomLaws.{row-takes}
 use Rattle.decoding.proofs.read_rows.Statement.{statement}
 use Rattle.decoding.proofs.read_rows.Tie as tie
 

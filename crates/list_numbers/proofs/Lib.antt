@@ -1,0 +1,2 @@
+-- Laws for the functions that judge the numbers of a list.
+pub mod CountLaws

@@ -1,0 +1,2 @@
+-- Definitions that no contract of a call cites.
+pub mod Parts

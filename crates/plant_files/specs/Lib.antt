@@ -1,0 +1,3 @@
+-- The shortest file of a plant. `Inner` is for what reads and writes it.
+pub mod Files
+pub mod Inner

@@ -1,0 +1,82 @@
+-- Lists that the checker reads by the definitions alone, so that an edit of a definition is caught here first.
+use mathlib.Core.Path.{_≡_, refl}
+use mathlib.Core.Bool.{false}
+use mathlib.Core.Option.{none}
+use mathlib.Core.List.{List, [], _∷_}
+use Prim.Native.Nat.{ℕ}
+use lib.ListN.{replicate}
+use Rattle.livelock.specs.Plants.{Plant, rowWith}
+use Rattle.livelock.proofs.BasicExamples.{panelAndProbe, plantA}
+use Rattle.plant.specs.Found.{found, fault}
+use Rattle.plant.specs.Limits.{rowsIn}
+use Rattle.plant_files.specs.Files.{machinesAs}
+use Rattle.plant_lists.specs.Lists.{numberThat, listedRow, listedRows, rowsNumber, listedMachine, listedMachines, listedPlant, rowNumbers, rowsNumbers, listOf}
+
+-- ---- plant A
+
+-- The list of plant A: 26 numbers.
+unfoldable pub listA : List ℕ
+listA =
+    2 ∷ 2
+    ∷ 2 ∷ 2
+    ∷ 0 ∷ 1 ∷ 1 ∷ 0 ∷ 0
+    ∷ 1 ∷ 0 ∷ 2 ∷ 1 ∷ 1
+    ∷ 2 ∷ 2
+    ∷ 0 ∷ 1 ∷ 2 ∷ 0 ∷ 0
+    ∷ 1 ∷ 0 ∷ 1 ∷ 1 ∷ 0
+    ∷ []
+
+says-A : listedPlant listA ≡ found plantA 26
+unfolding listA panelAndProbe numberThat listedRow listedRows listedMachine listedMachines listedPlant
+says-A = refl
+
+list-of-A : listOf plantA ≡ listA
+unfolding listA panelAndProbe rowsIn machinesAs rowNumbers rowsNumbers
+list-of-A = refl
+
+-- ---- faults, one by one
+
+-- Number 23: no number, and none after a count that is good.
+missing : (listedPlant ([]) ≡ fault 23 0) × (listedPlant (1 ∷ []) ≡ fault 23 1) × (listedPlant (1 ∷ 0 ∷ 1 ∷ []) ≡ fault 23 3) × (listedPlant (1 ∷ 0 ∷ 1 ∷ 1 ∷ 0 ∷ 0 ∷ []) ≡ fault 23 6)
+unfolding numberThat listedRow listedRows listedMachine listedMachines listedPlant
+missing = (refl, refl, refl, refl)
+
+-- One number too many, whatever it is.
+extra : (listedPlant (1 ∷ 0 ∷ 1 ∷ 0 ∷ 0 ∷ []) ≡ fault 23 4) × (listedPlant (1 ∷ 0 ∷ 1 ∷ 0 ∷ 65535 ∷ 7 ∷ []) ≡ fault 23 4)
+unfolding numberThat listedRow listedRows listedMachine listedMachines listedPlant
+extra = (refl, refl)
+
+-- Number 24, before the next number is missed: counts of machines, types and states.
+counts : (listedPlant (0 ∷ []) ≡ fault 24 0) × (listedPlant (17 ∷ []) ≡ fault 24 0) × (listedPlant (1 ∷ 65 ∷ []) ≡ fault 24 1)
+    × (listedPlant (1 ∷ 0 ∷ 0 ∷ []) ≡ fault 24 2) × (listedPlant (1 ∷ 0 ∷ 65 ∷ []) ≡ fault 24 2)
+unfolding numberThat listedRow listedRows listedMachine listedMachines listedPlant
+counts = (refl, refl, refl, refl, refl)
+
+-- A count of rows: 255 and not 256; after 1,020 rows 4 and not 5, before its rows.
+row-counts : (rowsNumber 0 (255 ∷ []) 0 ≡ found 255 1) × (rowsNumber 0 (256 ∷ []) 0 ≡ fault 24 0) × (rowsNumber 1020 (4 ∷ []) 0 ≡ found 4 1) × (rowsNumber 1020 (5 ∷ []) 0 ≡ fault 24 0)
+unfolding numberThat
+row-counts = (refl, refl, refl, refl)
+
+rows-1020 : Plant
+rows-1020 = record { types = 0; states = 1 ∷ []; rows = replicate 1020 (rowWith 0 0 0 none none false) }
+
+total-of-rows : listedMachines 1 (1 ∷ 5 ∷ []) 0 rows-1020 ≡ fault 24 1
+unfolding rows-1020 numberThat listedRow listedRows listedMachine listedMachines
+total-of-rows = refl
+
+-- States: 1 of 1, left and entered.
+states : (listedPlant (1 ∷ 0 ∷ 1 ∷ 1 ∷ 1 ∷ []) ≡ fault 24 4) × (listedPlant (1 ∷ 0 ∷ 1 ∷ 1 ∷ 0 ∷ 1 ∷ []) ≡ fault 24 5)
+unfolding numberThat listedRow listedRows listedMachine listedMachines listedPlant
+states = (refl, refl)
+
+-- Kind 3; type 1 for kind 0; a type for kinds 1 and 2 without types, at the type; type 1 of 1; progress 2.
+kinds : (listedPlant (1 ∷ 1 ∷ 1 ∷ 1 ∷ 0 ∷ 0 ∷ 3 ∷ []) ≡ fault 24 6) × (listedPlant (1 ∷ 2 ∷ 1 ∷ 1 ∷ 0 ∷ 0 ∷ 0 ∷ 1 ∷ []) ≡ fault 24 7)
+    × (listedPlant (1 ∷ 0 ∷ 1 ∷ 1 ∷ 0 ∷ 0 ∷ 1 ∷ 0 ∷ []) ≡ fault 24 7) × (listedPlant (1 ∷ 0 ∷ 1 ∷ 1 ∷ 0 ∷ 0 ∷ 2 ∷ []) ≡ fault 23 7)
+    × (listedPlant (1 ∷ 1 ∷ 1 ∷ 1 ∷ 0 ∷ 0 ∷ 2 ∷ 1 ∷ []) ≡ fault 24 7) × (listedPlant (1 ∷ 1 ∷ 1 ∷ 1 ∷ 0 ∷ 0 ∷ 2 ∷ 0 ∷ 2 ∷ []) ≡ fault 24 8)
+unfolding numberThat listedRow listedRows listedMachine listedMachines listedPlant
+kinds = (refl, refl, refl, refl, refl, refl)
+
+-- 64 types and 64 states are accepted.
+most : listedPlant (1 ∷ 64 ∷ 64 ∷ 0 ∷ []) ≡ found (record { types = 64; states = 64 ∷ []; rows = [] }) 4
+unfolding numberThat listedRow listedRows listedMachine listedMachines listedPlant
+most = refl

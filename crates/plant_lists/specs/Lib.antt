@@ -1,0 +1,3 @@
+-- The list of numbers that says a plant. `Inner` is for the functions that judge it.
+pub mod Lists
+pub mod Inner

@@ -1,0 +1,116 @@
+-- `put_row` meets its contract: four bytes, stored one behind the other.
+use borrow.Author.Needs.{needs}
+use Prim.Native.Nat.{_+_}
+use native.Mathlib.Omega.{arith}
+use lib.ListN.{getD}
+use lib.Dec.{eqb}
+use Rattle.row_bytes.proofs.RowLaws.{row-stored}
+use Rattle.row_bytes.proofs.put_row.Statement.{statement}
+use Rattle.row_bytes.proofs.put_row.Tie as tie
+
+mul-left : tie.Need-mul-left
+mul-left c = search needs
+
+shared-slice-read-left : tie.Need-shared-slice-read-left
+shared-slice-read-left c = omega (arith, c .before .before .before .pre .0 .inside)
+
+add-entered : tie.Need-add-entered
+add-entered c = search needs
+
+mul-entered : tie.Need-mul-entered
+mul-entered c = search needs
+
+shared-slice-read-entered : tie.Need-shared-slice-read-entered
+shared-slice-read-entered c = omega (arith, c .before .before .before .before .pre .0 .inside)
+
+add-kind : tie.Need-add-kind
+add-kind c = search needs
+
+mul-kind : tie.Need-mul-kind
+mul-kind c = search needs
+
+shared-slice-read-kind : tie.Need-shared-slice-read-kind
+shared-slice-read-kind c = omega (arith, c .before .before .before .before .before .pre .0 .inside)
+
+add-message : tie.Need-add-message
+add-message c = search needs
+
+mul-message : tie.Need-mul-message
+mul-message c = search needs
+
+shared-slice-read-message : tie.Need-shared-slice-read-message
+shared-slice-read-message c = omega (arith, c .before .before .before .before .before .before .pre .0 .inside)
+
+add-map-of : tie.Need-add-map-of
+add-map-of c = search needs
+
+mul-map-of : tie.Need-mul-map-of
+mul-map-of c = search needs
+
+shared-slice-read-map-of : tie.Need-shared-slice-read-map-of
+shared-slice-read-map-of c = omega (arith, c .before .before .before .before .before .before .before .pre .0 .inside)
+
+map-of-requires : tie.Need-map-of-requires
+map-of-requires c κs = (c .before .before .before .before .before .before .before .pre .0 .kind, c .before .before .before .before .before .before .before .pre .0 .progress)
+
+put-requires : tie.Need-put-requires
+put-requires c κs = omega (arith, c .before .before .before .before .before .before .before .before .before .pre .1)
+
+cast-put : tie.Need-cast-put
+cast-put c = record { fits = omega (arith, c .before .before .before .before .before .before .before .before .before .before .before .before .before .pre .0 .left) }
+
+put-requires-2 : tie.Need-put-requires-2
+put-requires-2 c κs = omega (arith, c .before .before .before .put .ensures .1, c .before .before .file .given, c .before .before .before .before .before .before .before .before .before .before .before .before .before .pre .1)
+
+cast-put-2 : tie.Need-cast-put-2
+cast-put-2 c = record { fits = omega (arith, c .before .before .before .before .before .before .before .before .before .before .before .before .before .before .before .before .before .pre .0 .entered) }
+
+put-requires-3 : tie.Need-put-requires-3
+put-requires-3 c κs = omega (arith, c .before .before .before .before .before .before .before .put .ensures .1, c .before .before .before .before .before .before .file .given, c .before .before .before .put2 .ensures .1, c .before .before .file2 .given, c .before .before .before .before .before .before .before .before .before .before .before .before .before .before .before .before .before .pre .1)
+
+cast-put-3 : tie.Need-cast-put-3
+cast-put-3 c = record { fits = omega (arith, c .before .before .before .before .before .before .before .before .before .before .before .before .before .before .before .before .before .before .before .before .before .pre .0 .type) }
+
+put-requires-4 : tie.Need-put-requires-4
+put-requires-4 c κs = omega (arith, c .before .before .before .before .before .before .before .before .before .before .before .put .ensures .1, c .before .before .before .before .before .before .before .before .before .before .file .given, c .before .before .before .before .before .before .before .put2 .ensures .1, c .before .before .before .before .before .before .file2 .given, c .before .before .before .put3 .ensures .1, c .before .before .file3 .given, c .before .before .before .before .before .before .before .before .before .before .before .before .before .before .before .before .before .before .before .before .before .pre .1)
+
+same-length : tie.Need-same-length
+same-length c = search needs
+
+returns : tie.Need-returns
+returns c =
+    let a = c .before .before .before .before .before .before .before .before .before .before .before .before .before .before .before .before .before .before .before .before .before .before .before .before .args in
+    let s = a .numbers .now in (
+      λ m. row-stored m (a .implied) (getD s (a .at) 0) (getD s (a .at + 1) 0) (getD s (a .at + 2) 0) (getD s (a .at + 3) 0) (eqb (getD s (a .at + 4) 0) 1) (c .before .before .before .before .before .before .before .before .before .before .before .before .before .before .before .before .before .before .before .before .before .before .before .before .pre .0 .kind)
+          _ _ _ _ _ _ _ _ _ _ _ (c .before .before .before .before .before .before .before .before .before .before .before .before .before .before .before .before .map-of .ensures) (c .before .before .before .before .before .before .before .before .before .before .before .before .before .before .put .ensures .0) (c .before .before .before .before .before .before .before .before .before .before .put2 .ensures .0) (c .before .before .before .before .before .before .put3 .ensures .0) (c .before .before .put4 .ensures .0),
+      omega (arith, c .before .before .before .before .before .before .before .before .before .before .before .before .before .before .put .ensures .1, c .before .before .before .before .before .before .before .before .before .before .put2 .ensures .1, c .before .before .before .before .before .before .put3 .ensures .1, c .before .before .put4 .ensures .1),
+    )
+
+pub put-row-spec : {M : Type 1} → statement M
+put-row-spec =
+    tie.close
+    (tie.spec
+    mul-left
+    shared-slice-read-left
+    add-entered
+    mul-entered
+    shared-slice-read-entered
+    add-kind
+    mul-kind
+    shared-slice-read-kind
+    add-message
+    mul-message
+    shared-slice-read-message
+    add-map-of
+    mul-map-of
+    shared-slice-read-map-of
+    map-of-requires
+    put-requires
+    cast-put
+    put-requires-2
+    cast-put-2
+    put-requires-3
+    cast-put-3
+    put-requires-4
+    same-length
+    returns)

@@ -1,0 +1,2 @@
+-- What it is to have stored bytes.
+pub mod Stores

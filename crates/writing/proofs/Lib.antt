@@ -1,0 +1,6 @@
+-- Laws for the writer's functions, and of its answers.
+pub mod RowsLaws
+pub mod MachineLaws
+pub mod PlantLaws
+pub mod OneToOne
+pub mod BasicExamples
