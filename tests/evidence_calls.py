@@ -142,7 +142,7 @@ def compiled(folder, name, source, library=True):
     path = os.path.join(folder, name)
     with open(path + '.c', 'w', encoding='utf-8') as out:
         out.write(source)
-    run(['gcc', '-O2', '-Wall', '-Wextra', '-Werror', '-Idist', path + '.c'] + (['-Ldist', '-lhemtaluq'] if library else []) + ['-o', path])
+    run(['gcc', '-O2', '-Wall', '-Wextra', '-Werror', '-Idist', path + '.c'] + (['dist/libhemtaluq.a'] if library else []) + ['-o', path])
     return path
 
 

@@ -214,7 +214,7 @@ def build_one(folder, number, error):
     name = 'wrong%d' % number
     if isinstance(error, Edit):
         return linked(folder, name, peer_source(error.old, error.new), os.path.join(folder, 'driver.o'))
-    return linked(folder, name, shim_source(error.calls[0], error.statement), '-Ldist', '-lhemtaluq')
+    return linked(folder, name, shim_source(error.calls[0], error.statement), 'dist/libhemtaluq.a')
 
 
 def build(folder):

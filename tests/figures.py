@@ -36,13 +36,17 @@ FIGURES = {
     'listed_machines': '# machines |',
     'events': '# events that happen',
     'maxima': '# exact maxima',
-    'stored_runs': '# stored runs',
+    'stored_runs': '# stored runs |',
     'program_runs': '# runs, files missing',
     'program_missing': 'files missing in #',
     'interface_checks': '# checks',
     'cabinet_runs': '# runs of each cabinet program',
     'designer_runs': '# runs of each designer program',
     'example_lines': '# lines |',
+    'command_runs': '# stored runs, ',
+    'command_texts': ', # texts |',
+    'command_plants': '# plants there and back',
+    'command_planted': '# planted errors found |',
 }
 # Numbers that are no figures.
 OTHERS = ['document 01', 'length 0', 'C99', '(1) to (4)', 'n = 1', 'w = 0']
