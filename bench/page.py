@@ -3,10 +3,13 @@ import textwrap
 
 # How far whole runs lie apart. Look again when the crates have changed.
 RUNS = (
-    'Two full runs of the same code, one after the other, of which this page has the second. The first had, for plant A, 1.39 where weights pass, 2.02 where '
-    'a cycle is shown, 1.24 for quoting and 1.23 for writing; where every machine is searched, 0.75 and 0.87; at the limits 1.14 where weights pass, 1.08 and 1.07 for quoting, '
-    '0.98 and 0.95 for writing. Against the library before writing was there (`bench/run --against`, on this machine), every row is within 3 hundredths of 1: what differs from the '
-    'page before is the machine. On that one a cycle of plant A was shown in 1.82 times the peer\'s time, and weighing and quoting at the limits took 1.23 to 1.32. '
+    'Four full runs of the same code, one after the other, of which this page has the last. The three before had, for plant A, 1.34, 1.35 and 1.27 where weights pass, 2.00, 2.04 and 2.00 '
+    'where a cycle is shown, 1.25, 1.21 and 1.05 for quoting and 1.13, 1.17 and 1.16 for writing; for ten machines of eight states 0.94, 0.97 and 0.99 for quoting; where the 16 machines are '
+    'searched 0.76, 0.77 and 0.77; for confirming 1.12, 1.05 and 1.08. The library with the table of edges, measured once on this machine, had 1.06 for quoting plant A. In turn with it '
+    '(`bench/run --against`, six runs) quoting plant A takes 0.96 to 1.00 of its time, and of every row the median of the six is within 3 hundredths of 1. '
+    'Noted earlier on another machine (AMD EPYC), while L3 was being written, and not measured again for this page: four runs had 1.03 or 1.04 for quoting plant A and, where the goal is 1.2, '
+    '1.12 to 1.43 where the 16 machines are searched, 1.30 to 1.57 for confirming and 1.20 to 1.25 for writing the list of ten machines; against the library with the table, quoting plant A took '
+    '0.94 to 0.99 of the time there. '
     'Where 16 machines fail and none has a cycle of fewer than 64 rows, all are searched, which takes 15 times as long as to search the first.')
 
 # Why a goal is missed: for keys of bench/run that begin with the first word. The evidence is from `perf` and from the machine
@@ -21,10 +24,13 @@ CAUSES = [
      'A table of 512 bytes, a list of edges of 512 bytes and the heights of 8 states are cleared at each call, and the rows are stored before they are weighed; the peer leaves its arrays as '
      'they are. Where a cycle is shown, 1 KB of walks and 512 bytes of first edges are cleared, too, and the rounds from the start that was found are made once more (DECISIONS.md, 23). '
      'C with the same arrays: see the next table.'),
+    ('weigh-worst', 'Searching every machine',
+     'Four runs noted on an AMD EPYC have 1.12 to 1.43 for the row of 16 machines, and 1.02 to 1.45 for C with the same arrays (next table); on an Intel Xeon both were below 0.8. '
+     'What moves them on the one was not found.'),
     ('weigh', 'Weighing', DECIDING),
     ('quote-fails', 'Quoting weights that do not pass', 'All the work is deciding. ' + DECIDING),
     ('quote-a', 'Quoting for small plants',
-     'As for weighing. Besides, the price class compares edge after edge of the constant table that document 01 asks for, where the peer counts leading zeros.'),
+     'As for weighing: the same arrays are cleared, and the rows are stored before they are weighed.'),
     ('quote', 'Quoting', 'Quoting is deciding and a few sums; what deciding loses, quoting loses.'),
     ('list', 'Listing',
      'Each row of a path is a call with 9 arguments, 7 where entries are only counted; the peer keeps what does not change in one struct.'),
@@ -144,7 +150,7 @@ It needs gcc, binutils, spin and glpk-utils, all from Debian, and the kit's `rt`
 Every figure of time is a ratio of two things that were measured in turn, in one program (generating and compiling for SPIN: by processes, in turn).
 Against C and GLPK the order changed from one repetition to the next. A ratio is the median of {fast} repetitions, or of {slow} for the longest listing, for SPIN's search from
 anywhere and for whole commands. A loop can take a third longer where its address is unlucky, the peer's too; against C, therefore, the whole program is linked four times, moved by
-16 bytes each time, with a quarter of the repetitions for each, and the least and the greatest of the four medians stand beside the median of all. Machine: 2 cores, shared with other
+16 bytes each time, with a quarter of the repetitions for each, and the least and the greatest of the four medians stand beside the median of all. Machine: 2 cores ({cpu}), shared with other
 work: a ratio moves by a tenth from run to run, on plant A and the ring of 16 by a quarter, so one near its goal is met in one run and missed in the next. {gcc}, -O2; {spin}; {glpsol}.
 
 ## Against C
@@ -214,7 +220,7 @@ def folded(text):
 
 def page(found):
     return folded(PAGE.format(
-        fast=found['reps'][0], slow=found['reps'][1], gcc=found['gcc'], spin=found['spin'], glpsol=found['glpsol'].split(',')[0],
+        fast=found['reps'][0], slow=found['reps'][1], gcc=found['gcc'], cpu=found['cpu'], spin=found['spin'], glpsol=found['glpsol'].split(',')[0],
         cases='{:,}'.format(found['cases']), calls=calls_table(found), causes=causes(found), runs=RUNS, floors=floors_table(found), tools=tools_table(found), tool_goals=tool_goals(found),
         capacities=', '.join('%s: %d' % (r['name'], r['capacity']) for r in found['tools']),
         growth=growth_table(found), stack=stack_table(found), sizes=sizes_table(found)))

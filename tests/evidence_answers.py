@@ -3,6 +3,7 @@
 - plants of many shapes (evidence_plants.py), each put to all six calls, but to no listing where cycles are too many to go through;
 - every truncation of a set of files, every other value of each of their bytes, every byte taken out, and bytes put in;
 - the edges of the older tests: the longest file, 1,024 and 1,025 rows, 256 and 257 entries, the largest ceiling;
+- the ceilings one below, at and one above each edge of the price classes;
 - for a set of plants every length of each list: weights, contents, the two lent lists, the cycle set cut off anywhere;
 - lists of numbers, cut off and damaged, and buffers of many lengths (evidence_lists.py).
 
@@ -157,9 +158,8 @@ def edges():
         yield calls.request(data, weights, contents=contents, g=g, calls=('weigh', 'quote'))
     for data, machine, before in itertools.islice(listing.cases(random.Random(0)), 30):
         yield calls.request(data, machine=machine, list_room=len(before), calls=('list',))
-    for power in range(20):
-        for amount in (2 ** power - 1, 2 ** power, 2 ** power + 1):
-            yield calls.request(bytes([1, 1, 1, 0]), [1], contents=[min(amount, 1000000)], calls=('quote',))
+    for data, weights, contents, g in map(quoting.input_with_ceiling, quoting.edge_ceilings()):
+        yield calls.request(data, weights, contents=contents, g=g, calls=('quote',))
     for last in (3, 4, 5, 6, 254, 255):
         yield calls.request(bytes([5, 0] + ([1, 255] + [16] * 255) * 4 + [1, last] + [16] * last))
     for machines in plants.detours():

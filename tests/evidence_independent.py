@@ -432,6 +432,7 @@ QUOTING_ERRORS = [
     planted('an edge equal to the ceiling does not count', price_class=lambda self, c: sum(2 ** k < c for k in range(43))),
     planted('42 edges', price_class=lambda self, c: sum(2 ** k <= c for k in range(42))),
     planted('the class begins at 1', price_class=lambda self, c: max(1, sum(2 ** k <= c for k in range(43)))),
+    planted('a ceiling one below an edge has the class of the edge', price_class=lambda self, c: sum(2 ** k <= c + 1 for k in range(43))),
 ]
 LISTING_ERRORS = [
     planted('parallel rows are dropped', candidates=without_parallel_rows),

@@ -71,6 +71,9 @@ QUOTING = [
     Edit('W is left out', ('quote',), '* sum +', '* 0 +'),
     Edit('the first content counts for all types', ('quote',), '* contents[i];', '* contents[0];'),
     Edit('an edge equal to the ceiling does not count', ('quote',), '__builtin_clzll(a.ceiling))', '__builtin_clzll(a.ceiling - (a.ceiling > 1)))'),
+    Edit('a ceiling one below an edge has the class of the edge', ('quote',), '__builtin_clzll(a.ceiling))', '__builtin_clzll(a.ceiling + 1))'),
+    Edit('a ceiling of 0 has class 1', ('quote',), 'a.ceiling ? (uint32_t)(64 - __builtin_clzll(a.ceiling)) : 0', '(uint32_t)(64 - __builtin_clzll(a.ceiling | 1))'),
+    Shim('42 edges', ('quote',), 'if (a.price_class > 42) a.price_class = 42;'),
     Shim('a ceiling wraps at 2^32', ('quote',), 'a.ceiling = (uint32_t)a.ceiling;'),
     Shim('21 stands for 20', ('quote',), 'if (a.number == 20) a.number = 21;'),
 ]

@@ -1,8 +1,9 @@
-"""Test the C interface: the header as C99 and as C++, every function at its edges, the Rust wrappers, the programs of examples/ in C and Rust, and revisions.
+"""Test the C interface: the header as C99 and as C++, every function at its edges, the Rust wrappers, the programs of examples/ in C and Rust, revisions,
+and that the library has no constant tables.
 
 The library is the one of dist/, made by tools/dist. What is expected is written here, in interface.c and in interface.rs from the scope
-document. The calls run once more under valgrind, the Rust program is built, and symbols of the library are renamed, where
-valgrind, rustc and objcopy are installed; the last line says what was tried and what is missing.
+document. The calls run once more under valgrind, the Rust program is built, symbols of the library are renamed, and its sections
+listed, where valgrind, rustc, objcopy and size are installed; the last line says what was tried and what is missing.
 
     python3 tests/interface.py
 """
@@ -274,6 +275,21 @@ def hold_other_version(folder):
                 sys.exit('interface.py: %s with a library of version 1: exit code %d, %s' % (source, done.returncode, done.stdout + done.stderr))
 
 
+def data_sections(path):
+    """The sections of an object or a library that are not empty, but for its code and what is not loaded with it."""
+    return [name for name in re.findall(r'(?m)^(\.\S+) +[1-9]', run(['size', '-A', path])) if not name.startswith(('.text', '.comment', '.note'))]
+
+
+def hold_no_tables(folder):
+    """The library is code alone: no constant table takes read-only memory. In an object with the 43 edges as a table, one is found."""
+    if data_sections('dist/libhemtaluq.a'):
+        sys.exit('interface.py: the library has data: %s' % ', '.join(data_sections('dist/libhemtaluq.a')))
+    table = os.path.join(folder, 'table.o')
+    run(['gcc', '-x', 'c', '-', '-c', '-o', table], input='const unsigned long long edges[43] = {%s};\n' % ', '.join(str(2 ** k) for k in range(43)))
+    if data_sections(table) != ['.rodata']:
+        sys.exit('interface.py: a table is not found: %s' % data_sections(table))
+
+
 def main():
     print(run(['tools/dist']).strip())
     with tempfile.TemporaryDirectory() as folder:
@@ -283,10 +299,12 @@ def main():
         if shutil.which('objcopy'):
             hold_revisions(folder)
             hold_other_version(folder)
-    missing = [tool for tool in ('valgrind', 'rustc', 'objcopy') if not shutil.which(tool)]
+        if shutil.which('size'):
+            hold_no_tables(folder)
+    missing = [tool for tool in ('valgrind', 'rustc', 'objcopy', 'size') if not shutil.which(tool)]
     figures.hold(cabinet_runs=len(RUNS), designer_runs=len(LISTS))
     print('interface.py: C99 and C++, %d runs of each cabinet program, %d of each designer program, revisions%s'
-          % (len(RUNS), len(LISTS), '; missing, and so not tried: ' + ', '.join(missing) if missing else ', valgrind, rustc and objcopy all there'))
+          % (len(RUNS), len(LISTS), '; missing, and so not tried: ' + ', '.join(missing) if missing else ', valgrind, rustc, objcopy and size all there'))
 
 
 if __name__ == '__main__':

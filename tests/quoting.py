@@ -2,7 +2,8 @@
 
 The second one adds weights one message at a time and takes the class from the binary digits of the ceiling; whether the
 weights pass comes from weighing.py. For quotes that are given, a run that opens with the contents and puts progress off
-is held to the ceiling. `tests/compiled.py` runs it.
+is held to the ceiling. Every ceiling from one below to one above an edge of the price classes is quoted, with its class by
+the edges. `tests/compiled.py` runs it.
 """
 import random
 import struct
@@ -43,6 +44,38 @@ def owed(data, weights, contents, g):
     return 'ceiling %d class %d' % (ceiling, len(bin(ceiling)) - 2 if ceiling else 0)
 
 
+# ---- price classes
+
+def edge_ceilings():
+    """One below, at and one above each of the 43 edges; the first is 0, which has class 0."""
+    return [2 ** k + by for k in range(43) for by in (-1, 0, 1)]
+
+
+def class_by_edges(ceiling):
+    """How many edges are not above the ceiling."""
+    return sum(2 ** k <= ceiling for k in range(43))
+
+
+def input_with_ceiling(ceiling):
+    """A file, weights, contents and g with this ceiling. The plant is a machine without rows, of one state while that reaches the
+    ceiling, else of 64; weights are 1 for type 0 and 1,000 for 63 others, so that the contents weigh any W up to 63 times 10^9."""
+    states = 1 if ceiling <= 63 * 10 ** 9 else 64
+    f, per_progress = (states - 1) * (1 + 1000 * states), states - 1 + 1000 * states ** 2
+    g = max(0, -(-(ceiling - f - states * 63 * 10 ** 9) // per_progress))
+    while (ceiling - f - per_progress * g) % states:
+        g += 1
+    thousands, ones = divmod((ceiling - f - per_progress * g) // states, 1000)
+    contents = [ones] + [min(10 ** 6, max(0, thousands - 10 ** 6 * t)) for t in range(63)]
+    return bytes([1, 64, states, 0]), [1] + [1000] * 63, contents, g
+
+
+def hold_classes(quoted):
+    """Each ceiling beside an edge was quoted, and every class is that of the definition."""
+    for ceiling in sorted({*quoted, *edge_ceilings()}):
+        if quoted.get(ceiling) != class_by_edges(ceiling):
+            sys.exit('quoting.py: for the ceiling %d the class %s, but owed is %d' % (ceiling, quoted.get(ceiling), class_by_edges(ceiling)))
+
+
 # ---- cases
 
 def cases(rng):
@@ -54,6 +87,7 @@ def cases(rng):
         yield PLANT_A, [2, 1], [3, 4], amount
         yield PLANT_A, [1, 1], [3, 4], amount
     yield bytes([1, 0, 1, 0]), [], [], 0
+    yield from map(input_with_ceiling, edge_ceilings())
     for _ in range(CASES):
         data = weighing.plant_file(rng)
         if rng.random() < 0.03:
@@ -130,6 +164,7 @@ def compare(driver, seed):
             hold_run(rng, data, weights, contents, g, int(line.split()[1]))
     if printed[0] != 'ceiling 8192127513008 class 43' or printed[1] != 'ceiling 39 class 6':
         sys.exit('quoting.py: %s and %s in place of the two figures of the scope document' % tuple(printed[:2]))
+    hold_classes(dict(map(int, line.split()[1::2]) for line in printed if line.startswith('ceiling')))
     for kind in ('ceiling', 'refused 9', 'refused 10', 'refused 20', 'refused 21', 'refused 22'):
         if kinds.get(kind, 0) < 10:
             sys.exit('quoting.py: %s was met %d times only' % (kind, kinds.get(kind, 0)))

@@ -1,5 +1,4 @@
--- `price` meets its contract: no product and no sum overflows, since the figures, W and g are within their limits.
-use borrow.Author.Needs.{needs}
+-- `price` meets its contract: since the figures, W and g are within their limits, no product and no sum overflows, and the ceiling is below 2 ^ 43.
 use mathlib.Core.Path.{ap}
 use native.Mathlib.Nat.{mul-le-mul}
 use native.Mathlib.Omega.{arith}
@@ -34,8 +33,12 @@ add-ceiling-2 c =
     let start = c .before .before in
     record { fits = omega (arith, start .pre .0 .base-limit, states-part start, progress-part start) }
 
+-- The limits of G and of W alone are given, too, so that a wrong ceiling within them is refused by its value, in `returns`.
 price-class-requires : tie.Need-price-class-requires
-price-class-requires c κs = search needs
+price-class-requires c κs =
+    let start = c .before .before in
+    let limits = start .pre .0 in
+    omega (arith, limits .base-limit, limits .per-progress-limit, start .pre .1, states-part start, progress-part start)
 
 returns : tie.Need-returns
 returns c =
