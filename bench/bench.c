@@ -144,22 +144,68 @@ static unsigned below(unsigned n) {
 
 #define PICK(...) ((const unsigned[]){__VA_ARGS__}[below(sizeof((const unsigned[]){__VA_ARGS__}) / sizeof(unsigned))])
 
+/* The five numbers of a row, as a list of numbers has them. */
+struct row { uint16_t left, entered, kind, type, progress; };
+
+static struct row random_row(unsigned implied, unsigned states, unsigned types) {
+    struct row r = {0};
+    r.left = (uint16_t)(below(3) ? below(states) : implied);
+    r.entered = (uint16_t)(below(3) ? below(states) : r.left);
+    r.kind = (uint16_t)(types ? PICK(0, 1, 2, 2) : 0);
+    r.type = (uint16_t)(r.kind ? below(types) : 0);
+    r.progress = (uint16_t)!below(4);
+    return r;
+}
+
+static int stands_in(const struct row *rows, unsigned count, const struct row *r) {
+    for (unsigned i = 0; i < count; i++)
+        if (!memcmp(rows + i, r, sizeof *r)) return 1;
+    return 0;
+}
+
+/* At most so many rows of a machine; how many. Where they have twins, each eighth is one that stands there already; otherwise no two are equal, and
+ * where no other is drawn there are fewer. */
+static unsigned random_rows(struct row *rows, unsigned most, unsigned states, unsigned types, int twins) {
+    for (unsigned k = 0; k < most; k++) {
+        unsigned implied = k ? rows[k - 1].left : 0, tries = 0;
+        if (k && twins && !below(8)) {
+            rows[k] = rows[below(k)];
+            continue;
+        }
+        do rows[k] = random_row(implied, states, types);
+        while (stands_in(rows, k, rows + k) && ++tries < 20);
+        if (tries == 20) return k;
+    }
+    return most;
+}
+
+/* The bytes of rows, a state that can be left out now and then with its byte; how many. */
+static size_t put_rows(uint8_t *f, const struct row *rows, unsigned count) {
+    size_t at = 0;
+    for (unsigned k = 0; k < count; k++) {
+        const struct row *r = rows + k;
+        unsigned implied = k ? r[-1].left : 0, map = (r->left != implied || below(2)) | (r->entered != r->left || below(2)) << 1;
+        f[at++] = (uint8_t)(map | r->kind << 2 | r->progress << 4);
+        if (map & 1) f[at++] = (uint8_t)r->left;
+        if (map & 2) f[at++] = (uint8_t)r->entered;
+        if (r->kind) f[at++] = (uint8_t)r->type;
+    }
+    return at;
+}
+
+/* A plant file, now and then with twin rows, a wrong byte, cut or with a byte more. */
 static size_t random_plant(uint8_t *f) {
     unsigned machines = PICK(1, 1, 2, 3, 5), types = PICK(0, 1, 2, 3, 8);
+    int twins = !below(10);
+    struct row rows[30];
     size_t at = 0;
     f[at++] = (uint8_t)machines;
     f[at++] = (uint8_t)types;
     for (unsigned m = 0; m < machines; m++) {
-        unsigned states = PICK(1, 2, 3, 4, 9, 24, 25, 64), rows = PICK(0, 1, 2, 4, 8, 14, 30);
+        unsigned states = PICK(1, 2, 3, 4, 9, 24, 25, 64), count = random_rows(rows, PICK(0, 1, 2, 4, 8, 14, 30), states, types, twins);
         f[at++] = (uint8_t)states;
-        f[at++] = (uint8_t)rows;
-        for (unsigned k = 0; k < rows; k++) {
-            unsigned map = PICK(0, 1, 2, 3, 3, 3) | (below(4) ? 0 : 16) | (types ? PICK(0, 4, 8, 8) : 0);
-            f[at++] = (uint8_t)map;
-            if (map & 1) f[at++] = (uint8_t)below(states);
-            if (map & 2) f[at++] = (uint8_t)below(states);
-            if (map & 12) f[at++] = (uint8_t)below(types);
-        }
+        f[at++] = (uint8_t)count;
+        at += put_rows(f + at, rows, count);
     }
     if (!below(12)) f[below((unsigned)at)] = (uint8_t)below(256);
     if (!below(30)) at -= 1;
@@ -186,34 +232,23 @@ static size_t random_set(uint32_t *s, unsigned machines) {
     return at;
 }
 
-static size_t random_rows(uint16_t *n, unsigned rows, unsigned states, unsigned types) {
-    size_t at = 0;
-    unsigned left = 0;
-    for (unsigned k = 0; k < rows; k++) {
-        unsigned kind = types ? below(3) : 0;
-        if (below(2)) left = below(states);
-        n[at++] = (uint16_t)left;
-        n[at++] = (uint16_t)(below(2) ? left : below(states));
-        n[at++] = (uint16_t)kind;
-        n[at++] = (uint16_t)(kind ? below(types) : 0);
-        n[at++] = (uint16_t)!below(4);
-    }
-    return at;
-}
-
-/* A list that says a plant, now and then with a wrong number, cut or with a number more, and with 1,024 rows or more. */
+/* A list that says a plant, now and then with twin rows, a wrong number, cut or with a number more, and with 1,024 rows or more. */
 static size_t random_list(uint16_t *n) {
     unsigned machines = PICK(1, 1, 2, 3, 5, 16), types = PICK(0, 1, 2, 8, 64), most = below(50) ? 20 : 255, total = 0;
+    int twins = !below(10);
+    struct row rows[256];
     size_t at = 0;
     n[at++] = (uint16_t)machines;
     n[at++] = (uint16_t)types;
     for (unsigned m = 0; m < machines; m++) {
-        unsigned states = PICK(1, 2, 3, 9, 64), rows = below(most + 1);
-        if (total <= 1024 && total + most > 1024) rows = 1024 - total + below(2);
-        total += rows;
+        unsigned states = most == 255 ? 64 : PICK(1, 2, 3, 9, 64), count = below(most + 1);
+        if (total <= 1024 && total + most > 1024) count = 1024 - total + below(2);
+        count = random_rows(rows, count, states, types, twins);
+        total += count;
         n[at++] = (uint16_t)states;
-        n[at++] = (uint16_t)rows;
-        at += random_rows(n + at, rows, states, types);
+        n[at++] = (uint16_t)count;
+        memcpy(n + at, rows, count * sizeof *rows);
+        at += 5 * count;
     }
     if (!below(4)) n[below((unsigned)at)] = (uint16_t)PICK(0, 1, 2, 3, 16, 17, 63, 64, 65, 255, 256, 65535);
     if (!below(20)) at = below((unsigned)at + 1);
@@ -248,7 +283,7 @@ static void check(long cases) {
     static uint16_t w[65];
     static uint32_t s[300 * 70];
     static uint16_t n[2 + 16 * (2 + 5 * 256) + 1];
-    long kinds[9] = {0}, refusals[26] = {0};
+    long kinds[9] = {0}, read_with[27] = {0}, refusals[27] = {0};
     file = plant;
     numbers = n;
     weights = w;
@@ -269,6 +304,7 @@ static void check(long cases) {
         peers_decode();
         if (!same_read()) differ("decode");
         kinds[a.r.kind]++;
+        read_with[a.r.number]++;
         ours_weigh(), peers_weigh();
         if (!same_weigh()) differ("weigh");
         kinds[a.w.kind]++;
@@ -295,7 +331,8 @@ static void check(long cases) {
     }
     for (int k = 0; k < 9; k++)
         if (kinds[k] < cases / 100) die("an answer was met too seldom");
-    for (int k = HEMTALUQ_LIST_LENGTH; k <= HEMTALUQ_OUTPUT_ROOM; k++)
+    if (read_with[0] < cases / 2 || read_with[HEMTALUQ_TWIN_ROW] < cases / 100) die("files that read, or twin rows in files, were met too seldom");
+    for (int k = HEMTALUQ_LIST_LENGTH; k <= HEMTALUQ_TWIN_ROW; k++)
         if (refusals[k] < cases / 100) die("a refusal of write was met too seldom");
     printf("{\"cases\": %ld, \"refused\": %ld, \"counts\": %ld, \"passed\": %ld, \"cycle\": %ld, \"ceiling\": %ld, \"listed\": %ld, \"confirmed\": %ld, \"negative\": %ld, \"wrote\": %ld}\n", cases, kinds[0], kinds[1], kinds[2], kinds[3], kinds[4], kinds[5], kinds[6], kinds[7], kinds[8]);
 }

@@ -1,5 +1,6 @@
 /* Weighing in C with the arrays of the proved call, where every array has contents from the start: each is as long and cleared where
  * it is there, sums have 64 bits, and nothing is copied. Against the peer it shows what these arrays alone cost. */
+#include <string.h>
 #include "floor.h"
 
 struct fault {
@@ -22,9 +23,29 @@ struct shape {
     uint16_t first[17];
 };
 
+/* Whether an earlier row of the machine has this key; the keys are gone through only where one of these rows leaves the state. A new key is kept. */
+static int is_twin(uint32_t *keys, size_t before, uint64_t *left, unsigned from, uint32_t key) {
+    if (*left >> from & 1)
+        for (size_t i = 0; i < before; i++)
+            if (keys[i] == key) return 1;
+    keys[before] = key;
+    *left |= (uint64_t)1 << from;
+    return 0;
+}
+
+static void put_row(uint8_t *row, unsigned m, unsigned from, unsigned to, unsigned up, unsigned down, unsigned progress) {
+    row[0] = (uint8_t)m;
+    row[1] = (uint8_t)from;
+    row[2] = (uint8_t)to;
+    row[3] = (uint8_t)up;
+    row[4] = (uint8_t)down;
+    row[5] = (uint8_t)progress;
+}
+
 /* Row k stands in the eight bytes of the table from 8 * k on. */
 static struct fault decode(const uint8_t *file, size_t length, struct shape *c, uint8_t *table) {
     size_t at = 0, rows = 0;
+    uint32_t keys[255];
     unsigned value, map;
     FIELD(value, 17, 2);
     if (value == 0) FAULT(2, 0);
@@ -38,9 +59,11 @@ static struct fault decode(const uint8_t *file, size_t length, struct shape *c, 
         FIELD(value, 1025 - rows, 7);
         c->first[m] = (uint16_t)rows;
         unsigned from = 0;
-        for (size_t end = rows + value; rows < end; rows++) {
+        uint64_t left = 0;
+        memset(keys, 0, 4 * (value <= 32 ? 32 : 255)), needed(keys);
+        for (size_t first = rows, end = rows + value; rows < end; rows++) {
             unsigned to, up = 64, down = 64;
-            uint8_t *row = table + 8 * rows;
+            size_t start = at;
             FIELD(map, 32, 4);
             if ((map & 12) == 12) FAULT(4, at - 1);
             if (map & 1) FIELD(from, c->states[m], 5);
@@ -48,12 +71,8 @@ static struct fault decode(const uint8_t *file, size_t length, struct shape *c, 
             if (map & 2) FIELD(to, c->states[m], 5);
             if (map & 4) FIELD(up, c->types, 6);
             if (map & 8) FIELD(down, c->types, 6);
-            row[0] = (uint8_t)m;
-            row[1] = (uint8_t)from;
-            row[2] = (uint8_t)to;
-            row[3] = (uint8_t)up;
-            row[4] = (uint8_t)down;
-            row[5] = map >> 4;
+            if (is_twin(keys, rows - first, &left, from, from | to << 6 | up << 12 | down << 19 | (map >> 4) << 26)) FAULT(26, start);
+            put_row(table + 8 * rows, m, from, to, up, down, map >> 4);
         }
     }
     c->first[c->machines] = (uint16_t)rows;

@@ -1,7 +1,7 @@
 """The inputs of the benchmarks: plants, weights, cycle sets, lists of numbers, and the small plants as Promela models and linear programs.
 
 A machine is a count of states and a list of rows; a row is (state left, state entered, type sent or None, type taken or
-None, progress). Every row is written with both states.
+None, progress). Every row is written with both states. No machine has a row twice, for a twin row is refused.
 """
 import random
 import struct
@@ -81,83 +81,106 @@ ORDINARY_PASSES = [1, 10, 9, 8, 7, 6, 5, 4, 3, 2]
 ORDINARY_FAILS = [10, 9, 8, 7, 6, 5, 4, 3, 2, 1]  # the last machine's cycle weighs 9
 
 
-def chains(machines, states, rows, open_ends=0):
-    """Machines with a chain of sending rows in the order that needs all rounds; the rows back take type 1.
+# The most parallel rows of `chains`, and so the count of its light types and that of its heavy ones, which stand behind them.
+PARALLEL = 16
 
-    The rows of a machine are parallel ones, as many for each state as can be. So many of the last machines have rows back that take
-    nothing: their cycles, of as many rows as there are states, do not weigh below zero."""
+
+def chains(machines, states, rows, open_ends=0):
+    """Machines with a chain of rows that send light types, in the order that needs all rounds; the rows back take heavy types.
+
+    The rows of a machine are parallel ones, as many for each state as can be, each with another type of the same weight. So many of the last
+    machines have rows back that take light types: their cycles, of as many rows as there are states, do not weigh below zero."""
     made = []
     for m in range(machines):
-        back = takes if m < machines - open_ends else lambda a, b, t: steps(a, b)
-        made.append((states, [sends(s, s + 1, 0) if s + 1 < states else back(s, 0, 1)
-                              for s in range(states) for _ in range(rows * (s + 1) // states - rows * s // states)]))
-    return 2, made
+        back = PARALLEL if m < machines - open_ends else 0
+        made.append((states, [sends(s, s + 1, t) if s + 1 < states else takes(s, 0, back + t)
+                              for s in range(states) for t in range(rows * (s + 1) // states - rows * s // states)]))
+    return 2 * PARALLEL, made
 
 
-CHAIN_WEIGHTS = [1, 1000]
+CHAIN_WEIGHTS = [1] * PARALLEL + [1000] * PARALLEL
+
+
+def different(count, draw):
+    """So many rows of a machine, each drawn with the rows before it, no two of them equal."""
+    rows = []
+    while len(rows) < count:
+        row = draw(rows)
+        if row not in rows:
+            rows.append(row)
+    return rows
+
+
+def sends_or_takes(rng):
+    return sends if rng.random() < 0.5 else takes
 
 
 def largest():
     """The longest file: 16 machines, 1,024 rows with all fields, sending and taking in no regular order."""
     rng = random.Random(4130)
-    return 64, [(64, [(sends if rng.random() < 0.5 else takes)(rng.randrange(64), rng.randrange(64), rng.randrange(64))
-                      for _ in range(64)]) for _ in range(16)]
+    return 64, [(64, different(64, lambda rows: sends_or_takes(rng)(rng.randrange(64), rng.randrange(64), rng.randrange(64)))) for _ in range(16)]
+
+
+def one_state_left():
+    """1,024 rows, 255 of each machine but the last, and all of a machine leave one state: a row must be compared with every row before it."""
+    rng = random.Random(255)
+    return 64, [(64, different(count, lambda rows: sends_or_takes(rng)(0, rng.randrange(64), rng.randrange(64)))) for count in (255, 255, 255, 255, 4)]
 
 
 def other_than(rng, state):
     return (state + rng.randrange(1, 64)) % 64
 
 
-def longest_rows(rng):
-    """64 rows of a machine of 64 states and 64 types of which no state can be left out."""
-    rows, left = [], 0
-    for _ in range(64):
-        left = other_than(rng, left)
-        rows.append((sends if rng.random() < 0.5 else takes)(left, other_than(rng, left), rng.randrange(64)))
-    return rows
+def implied(rows):
+    """The state that a row behind these leaves without a byte for it."""
+    return rows[-1][0] if rows else 0
 
 
-def mixed_rows(rng):
-    """64 rows of which each field is in the shortest file or not, at random."""
-    rows, left = [], 0
-    for _ in range(64):
-        left = other_than(rng, left) if rng.random() < 0.5 else left
-        entered = other_than(rng, left) if rng.random() < 0.5 else left
-        kind = rng.choice([steps, sends, takes])
-        row = kind(left, entered) if kind is steps else kind(left, entered, rng.randrange(64))
-        rows.append(row[:4] + (rng.random() < 0.5,))
-    return rows
+def longest_row(rng, rows):
+    """A row, behind others, of a machine of 64 states and 64 types of which no state can be left out."""
+    left = other_than(rng, implied(rows))
+    return sends_or_takes(rng)(left, other_than(rng, left), rng.randrange(64))
+
+
+def mixed_row(rng, rows):
+    """A row, behind others, of which each field is in the shortest file or not, at random."""
+    left = other_than(rng, implied(rows)) if rng.random() < 0.5 else implied(rows)
+    entered = other_than(rng, left) if rng.random() < 0.5 else left
+    kind = rng.choice([steps, sends, takes])
+    row = kind(left, entered) if kind is steps else kind(left, entered, rng.randrange(64))
+    return row[:4] + (rng.random() < 0.5,)
 
 
 def longest_list():
     """16 machines with rows of four bytes each: the longest list, of 5,154 numbers, and the longest file."""
     rng = random.Random(5154)
-    return 64, [(64, longest_rows(rng)) for _ in range(16)]
+    return 64, [(64, different(64, lambda rows: longest_row(rng, rows))) for _ in range(16)]
 
 
 def mixed_list():
     """As long a list, with rows of one to four bytes in no regular order."""
     rng = random.Random(2025)
-    return 64, [(64, mixed_rows(rng)) for _ in range(16)]
+    return 64, [(64, different(64, lambda rows: mixed_row(rng, rows))) for _ in range(16)]
 
 
 def ring(states, parallel):
-    return 0, [(states, [steps(s, (s + 1) % states) for s in range(states) for _ in range(parallel)])]
+    """A ring of so many states; parallel rows send another type each."""
+    return parallel, [(states, [sends(s, (s + 1) % states, t) for s in range(states) for t in range(parallel)])]
 
 
-def parallel_steps(counts):
-    """Rows that only move, so many of them from state 0 to 1, from 1 to 2, and so on."""
-    return [steps(s, s + 1) for s, count in enumerate(counts) for _ in range(count)]
+def parallel_rows(counts):
+    """So many rows from state 0 to 1, from 1 to 2, and so on; parallel ones send another type each."""
+    return [sends(s, s + 1, t) for s, count in enumerate(counts) for t in range(count)]
 
 
 def chain():
     """19 states and 48 rows without any cycle: every way through it is a dead end."""
-    return 0, [(19, parallel_steps([1, 2] + [3] * 14 + [2, 1]))]
+    return 3, [(19, parallel_rows([1, 2] + [3] * 14 + [2, 1]))]
 
 
 def blocked_chain():
     """18 states and 47 rows. From each state of the chain a way leads back to state 0, but only over state 1, which is left by then."""
-    return 0, [(18, parallel_steps([1, 1] + [3] * 14 + [1]) + [steps(17, 1), steps(1, 0)])]
+    return 3, [(18, parallel_rows([1, 1] + [3] * 14 + [1]) + [steps(17, 1), steps(1, 0)])]
 
 
 def full_set():

@@ -3,13 +3,13 @@ import textwrap
 
 # How far whole runs lie apart. Look again when the crates have changed.
 RUNS = (
-    'Four full runs of the same code, one after the other, of which this page has the last. The three before had, for plant A, 1.34, 1.35 and 1.27 where weights pass, 2.00, 2.04 and 2.00 '
-    'where a cycle is shown, 1.25, 1.21 and 1.05 for quoting and 1.13, 1.17 and 1.16 for writing; for ten machines of eight states 0.94, 0.97 and 0.99 for quoting; where the 16 machines are '
-    'searched 0.76, 0.77 and 0.77; for confirming 1.12, 1.05 and 1.08. The library with the table of edges, measured once on this machine, had 1.06 for quoting plant A. In turn with it '
-    '(`bench/run --against`, six runs) quoting plant A takes 0.96 to 1.00 of its time, and of every row the median of the six is within 3 hundredths of 1. '
-    'Noted earlier on another machine (AMD EPYC), while L3 was being written, and not measured again for this page: four runs had 1.03 or 1.04 for quoting plant A and, where the goal is 1.2, '
-    '1.12 to 1.43 where the 16 machines are searched, 1.30 to 1.57 for confirming and 1.20 to 1.25 for writing the list of ten machines; against the library with the table, quoting plant A took '
-    '0.94 to 0.99 of the time there. '
+    'Three full runs of the same code, one after the other, of which this page has the last. The two before had, for reading, 1.07 and 1.08 with the largest file, 1.13 and 1.18 with ten machines and twice 1.27 with '
+    'plant A; for plant A 1.38 and 1.39 where weights pass, 1.87 and 1.75 where a cycle is shown, 1.41 and 1.44 for quoting and 1.20 and 1.23 for writing; for ten machines of eight states 1.10 and 1.20 where weights '
+    'pass, 1.19 and 1.23 where a cycle is shown, 1.11 and 1.13 for quoting and 1.19 and 1.18 for writing; for the 16 machines 1.25 and 1.29 where weights pass, 1.26 and 1.29 for quoting and 1.25 and 1.30 where it is '
+    'refused with 22; for confirming 1.30 and 1.32. The page before was measured on an Intel Xeon, without the test for twin rows on either side: it had 1.08 for reading plant A, 1.07 for reading ten machines, 1.34 and '
+    '2.01 for weighing plant A, 1.01 for quoting it, 1.14 for weighing the 16 machines and 1.10 for confirming. What the test for twin rows costs: in turn with the library before (`bench/run --against`, three runs on this machine), '
+    'reading takes 1.81 to 1.94 of its time with plant A, 1.79 to 1.81 with ten machines, 2.32 to 2.37 with the largest file and 6.03 to 6.39 where 255 rows of a machine leave one state; writing 1.20 to 1.23, 1.74 to 1.76, 2.42 to 2.45 and 5.41 to 5.45; weighing plant A where weights pass 1.28 to 1.32, '
+    'quoting it 1.28 to 1.36; weighing and quoting the 16 machines at most 1.05, so that their rows above are missed on this machine whether or not twins are looked for. '
     'Where 16 machines fail and none has a cycle of fewer than 64 rows, all are searched, which takes 15 times as long as to search the first.')
 
 # Why a goal is missed: for keys of bench/run that begin with the first word. The evidence is from `perf` and from the machine
@@ -19,10 +19,11 @@ DECIDING = (
     'bytes lie across a line of 64, the loop takes a third longer. With a list of lengths the proved code was no faster at the limits, and slower in small plants, for the list has to be cleared.')
 CAUSES = [
     ('read', 'Reading',
-     'Nothing is stored, and on the largest file the call executes as many instructions as the peer, within a hundredth (callgrind).'),
+     'The keys of a machine\'s rows stand in an array that is cleared at each call, 255 words, or 32 for a file of at most 32 bytes, and the machines are read by a call of their own, whichever array it is '
+     'lent; the peer has one array, which it leaves as it is, and no call. Counted in instructions (valgrind), plant A takes 450 and the peer 362, ten machines 7,204 and 6,672, the largest file 102,596 and 103,037.'),
     ('weigh-a', 'Weighing small plants',
-     'A table of 512 bytes, a list of edges of 512 bytes and the heights of 8 states are cleared at each call, and the rows are stored before they are weighed; the peer leaves its arrays as '
-     'they are. Where a cycle is shown, 1 KB of walks and 512 bytes of first edges are cleared, too, and the rounds from the start that was found are made once more (DECISIONS.md, 23). '
+     'A table of 512 bytes, a list of edges of 512 bytes, the heights of 8 states and for each machine the keys of 32 rows are cleared at each call, and the rows are stored before they are weighed; the peer '
+     'leaves its arrays as they are. Where a cycle is shown, 1 KB of walks and 512 bytes of first edges are cleared, too, and the rounds from the start that was found are made once more (DECISIONS.md, 23). '
      'C with the same arrays: see the next table.'),
     ('weigh-worst', 'Searching every machine',
      'Four runs noted on an AMD EPYC have 1.12 to 1.43 for the row of 16 machines, and 1.02 to 1.45 for C with the same arrays (next table); on an Intel Xeon both were below 0.8. '
@@ -37,7 +38,7 @@ CAUSES = [
     ('confirm', 'Confirming',
      'The rows of an entry are gone through three times (number by number, as a cycle, and for the sums), by the peer once; the third loop branches at each row, and its time depends on the address it is linked at.'),
     ('write', 'Writing',
-     'The buffer in which the file is made is cleared at each call, 128 bytes for a short list and 4,130 for others; the peer leaves its own as it is.'),
+     'The buffer in which the file is made is cleared at each call, 128 bytes for a short list and 4,130 for others, and so are the keys of a machine\'s rows; the peer leaves its own as they are.'),
 ]
 
 
@@ -157,7 +158,8 @@ work: a ratio moves by a tenth from run to run, on plant A and the ring of 16 by
 
 `bench/peer.c` has the six calls in plain C, with the best algorithms we know: tables filled in place and, but for the numbers of rows between states, never cleared, Bellman–Ford
 relaxation in place in 32 bits, the same search for a cycle by exact lengths, depth-first listing over adjacency lists with bits for the states left and for dead ends, price classes by leading
-zeros, a list judged with one test for the five numbers of a row, and its file made in the same pass, without a branch for a field that may be left out, in a buffer of its own that is copied at the end. Before measuring, both gave the same answers and left the same in the lent lists and buffers on {cases} random inputs, whole and damaged, and on
+zeros, twin rows found by a key of one word for each row (bits for the states left say whether an earlier row of the machine leaves the state, and only then the keys of the machine are gone through,
+eight at a time in the compiler's vectors), a list judged with one test for the five numbers of a row, and its file made in the same pass, without a branch for a field that may be left out, in a buffer of its own that is copied at the end. Before measuring, both gave the same answers and left the same in the lent lists and buffers on {cases} random inputs, whole, with twin rows and damaged, and on
 every input below. The files are in the cache; no buffer is cleared between two calls. Below 1 the proved call is faster. The goal is 1.2; 1.4 on plant A where weights pass and for writing it, 2 where a cycle is shown, and 2 for listing.
 Both show a cycle with the fewest rows of all machines, by the same search with the same falling limit: at worst every machine fails and has no shorter cycle than the first, and the search makes 64 rounds
 from each of 64 states over 1,024 rows, less a round from each state for every machine behind the first. A program that may show any cycle could take it from the predecessors of the last round, without a search, and this was not measured.
@@ -188,7 +190,8 @@ GLPK solves the inequalities (1) to (4) of the published test as a linear progra
 ## How the cost grows
 
 Weighing that passes, in the order of rows that needs as many rounds as there are states: states times rows doubled four times. The exponent is the slope of the
-logarithm of the time over that of the size. It is below 1 where reading and the edge lists, which do not grow with the states, have a share.
+logarithm of the time over that of the size. It is below 1 where reading and the edge lists, which do not grow with the states, have a share; reading takes even less time the more states there are,
+for a row is compared with the earlier rows of its machine only where one of them leaves the same state.
 
 {growth}
 
@@ -198,7 +201,7 @@ The stack was painted, the call was run on it, and the deepest byte that changed
 
 {stack}
 
-The table of a plant has 8 KB and its edges 2 KB, for a file of at most 64 bytes 512 bytes each; to show a cycle takes 5 KB more. `list` has the table and the graph of a machine's rows, 2 KB, and a frame for each row of a path; `confirm` has the table and the sums. `write` has the file, 4 KB, and for a list of at most 128 numbers 128 bytes.
+The table of a plant has 8 KB, its edges 2 KB, for a file of at most 64 bytes 512 bytes each, and the keys of a machine's rows 1 KB; to show a cycle takes 5 KB more. `list` has the table and the graph of a machine's rows, 2 KB, and a frame for each row of a path; `confirm` has the table and the sums. `write` has the file, 4 KB, and the keys of a machine's rows, 1 KB, for a list of at most 128 numbers 128 bytes each.
 
 {sizes}
 """

@@ -24,6 +24,35 @@ struct fault {
 #define FAULT(n, p) return (struct fault){(n), (p)}
 #define NEED(i) if ((i) >= length) FAULT(1, length)
 
+/* A row as one word: two rows of a machine have the same key exactly if they are equal. */
+INLINE uint32_t key_of(unsigned left, unsigned entered, unsigned sent, unsigned taken, unsigned progress) {
+    return left | entered << 6 | sent << 12 | taken << 19 | progress << 26;
+}
+
+typedef uint32_t four __attribute__((vector_size(16)));
+
+/* Whether one of n keys is this one, eight at a time. */
+INLINE int is_in(const uint32_t *keys, unsigned n, uint32_t key) {
+    four wanted = {key, key, key, key}, a, b, any = {0, 0, 0, 0};
+    unsigned i = 0;
+    for (; i + 8 <= n; i += 8) {
+        memcpy(&a, keys + i, 16);
+        memcpy(&b, keys + i + 4, 16);
+        any |= (four)(a == wanted) | (four)(b == wanted);
+    }
+    uint32_t seen = any[0] | any[1] | any[2] | any[3];
+    for (; i < n; i++) seen |= keys[i] == key;
+    return seen != 0;
+}
+
+/* Whether one of n rows of a machine has this key; `states` has the bits of the states that they leave. Its key is kept if not. */
+INLINE int is_twin(uint32_t *keys, unsigned n, uint64_t *states, unsigned left, uint32_t key) {
+    if (*states >> left & 1 && is_in(keys, n, key)) return 1;
+    keys[n] = key;
+    *states |= (uint64_t)1 << left;
+    return 0;
+}
+
 /* Reads a plant file. With keep 0 the rows are judged and not kept. */
 INLINE struct fault decode(const uint8_t *f, size_t length, struct table *t, int keep) {
     NEED(0);
@@ -31,6 +60,7 @@ INLINE struct fault decode(const uint8_t *f, size_t length, struct table *t, int
     NEED(1);
     if (f[1] > 64) FAULT(2, 1);
     unsigned machines = f[0], types = f[1], rows = 0;
+    uint32_t keys[255];
     size_t at = 2;
     for (unsigned m = 0; m < machines; m++) {
         NEED(at);
@@ -45,8 +75,10 @@ INLINE struct fault decode(const uint8_t *f, size_t length, struct table *t, int
             t->states[m] = (uint8_t)states;
             t->first[m] = (uint16_t)rows;
         }
-        unsigned left = 0;
+        unsigned left = 0, first = rows;
+        uint64_t states_left = 0;
         for (; rows < end; rows++) {
+            size_t start = at;
             NEED(at);
             unsigned map = f[at], entered, sent = NO_TYPE, taken = NO_TYPE;
             if (map >= 32 || (map & 12) == 12) FAULT(4, at);
@@ -72,6 +104,7 @@ INLINE struct fault decode(const uint8_t *f, size_t length, struct table *t, int
                 sent = map & 4 ? type : NO_TYPE;
                 taken = map & 4 ? NO_TYPE : type;
             }
+            if (is_twin(keys, rows - first, &states_left, left, key_of(left, entered, sent, taken, map >> 4))) FAULT(26, start);
             if (keep) {
                 t->left[rows] = (uint8_t)left;
                 t->entered[rows] = (uint8_t)entered;
@@ -505,6 +538,7 @@ static __attribute__((noinline)) struct fault row_fault(const uint16_t *numbers,
 /* Judges a list, the five numbers of a row together, and lays the file's bytes in a buffer of its own, which has room for every file. */
 static struct fault lay(const uint16_t *numbers, size_t count, uint8_t *file, size_t *end) {
     size_t at = 0, rows = 0;
+    uint32_t keys[255];
     uint8_t *put = file;
     LISTED(machines, 1, 17);
     LISTED(types, 0, 65);
@@ -518,11 +552,13 @@ static struct fault lay(const uint16_t *numbers, size_t count, uint8_t *file, si
         *put++ = (uint8_t)states;
         *put++ = (uint8_t)own;
         unsigned implied = 0;
+        uint64_t states_left = 0;
         for (unsigned i = 0; i < own; i++) {
             if (count - at < 5) return row_fault(numbers, count, at, states, types);
             unsigned left = numbers[at], entered = numbers[at + 1], kind = numbers[at + 2], type = numbers[at + 3], progress = numbers[at + 4];
             if (left >= states || states <= entered || kind >= 3 || type >= type_end(kind, types) || progress >= 2)
                 return row_fault(numbers, count, at, states, types);
+            if (is_twin(keys, i, &states_left, left, key_of(left, entered, kind, type, progress))) FAULT(26, at);
             at += 5;
             uint8_t *map = put++;
             *map = (uint8_t)((left != implied) | (entered != left) << 1 | kind << 2 | progress << 4);

@@ -9,12 +9,18 @@
  * Every answer has a kind. With HEMTALUQ_REFUSED, number and place say which fault was met first and where. Fields that
  * an answer does not use are 0, and a list that was lent keeps its contents unless the kind says that it was written.
  *
+ * No machine has a row twice. A row that is equal to an earlier row of its machine, the one before it or any other, in state
+ * left, state entered, type sent, type taken and progress is a twin row, also where the two leave out other fields; the same
+ * row in another machine is none. Every call that takes a file, and hemtaluq_write, refuses it with HEMTALUQ_TWIN_ROW: after
+ * the faults of the row's own bytes or numbers, and before the next byte or number is looked at.
+ *
  * Versions: the linker's name of a call carries its revision, which the macros below add. A call whose struct or arguments
  * change gets the next revision, and then an object compiled with the old header does not link: its symbol is missing.
  * HEMTALUQ_VERSION rises with every change of what this header declares, also where structs and arguments stay (a kind,
  * what a kind promises, a fault number, a limit). hemtaluq_version answers the version of the library that was linked, so
  * a program can see at its start whether that is the library of its header: hemtaluq_version() == HEMTALUQ_VERSION.
- * 1: the first. 2: the cycle that weigh shows is a shortest one. 3: write, with kind 8 and numbers 23 to 25.
+ * 1: the first. 2: the cycle that weigh shows is a shortest one. 3: write, with kind 8 and numbers 23 to 25. 4: number 26;
+ * files and lists with a twin row were accepted before.
  */
 #ifndef HEMTALUQ_H
 #define HEMTALUQ_H
@@ -22,7 +28,7 @@
 #include <stddef.h>
 #include <stdint.h>
 
-#define HEMTALUQ_VERSION 3
+#define HEMTALUQ_VERSION 4
 
 #define hemtaluq_read hemtaluq_read_v1
 #define hemtaluq_weigh hemtaluq_weigh_v1
@@ -76,7 +82,8 @@ enum hemtaluq_fault {
     HEMTALUQ_NOT_PASSING = 22,      /* the weights do not pass; 0 */
     HEMTALUQ_LIST_LENGTH = 23,      /* the list of numbers ends early, or goes on; the index of the missing or first extra number */
     HEMTALUQ_LIST_NUMBER = 24,      /* a number of the list outside its values or the limits; its index */
-    HEMTALUQ_OUTPUT_ROOM = 25       /* the lent buffer is shorter than the file; 0 */
+    HEMTALUQ_OUTPUT_ROOM = 25,      /* the lent buffer is shorter than the file; 0 */
+    HEMTALUQ_TWIN_ROW = 26          /* a row equal to an earlier row of its machine; the row's map byte; in the writer's list the row's first number */
 };
 
 /* Limits. */
@@ -165,8 +172,9 @@ hemtaluq_confirm_answer hemtaluq_confirm(const uint8_t *file, size_t file_length
 /* The shortest file of a plant: every file that reads as the same types, machines and rows has at least as many bytes. The
  * list says the plant: count of machines (1 to 16), count of types (0 to 64), then for each machine its states (1 to 64), its
  * count of rows (0 to 255; of all machines at most 1,024) and five numbers for each row: state left, state entered, kind
- * (0 neither, 1 sends, 2 takes), type (0 for kind 0) and progress (0 or 1). Its numbers are judged one by one in this order;
- * a number too many comes after all of them, and a short buffer last.
+ * (0 neither, 1 sends, 2 takes), type (0 for kind 0) and progress (0 or 1). Its numbers are judged one by one in this order,
+ * and behind the fifth number of a row whether the row is a twin row; a number too many comes after all of them, and a short
+ * buffer last.
  * Wrote: the first length bytes of out are the file, which hemtaluq_read and all other calls read as the list's types,
  * machines and rows. The later bytes of out are kept. A buffer of HEMTALUQ_LONGEST_FILE bytes is never too short. */
 typedef struct {

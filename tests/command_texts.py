@@ -67,7 +67,9 @@ WRONG = [
     (HEAD + 'a -> b takes answer sends request\n', 3, 'expected `sends` or `takes`, not both: a row has one message at most'),
     (HEAD + 'a -> b sends request answer\n', 3, 'expected `sends TYPE`, `takes TYPE`, `progress` or the end of the line, found answer'),
 ]
-# A text beyond the limits, which the proved writer judges; the number and place of its refusal, and what stands there.
+# 255 rows of which no two are equal.
+MANY_ROWS = ''.join('s%d -> s%d\n' % divmod(k, 16) for k in range(255))
+# A text beyond the limits or with a twin row, which the proved writer judges; the number and place of its refusal, and what stands there.
 BEYOND = [
     ('# a comment\n', 24, 0, 'a.txt:1: the count of machines is 0, expected 1 to 16'),
     ('\ntypes %s\nmachine m\na -> a\n' % ' '.join('t%d' % i for i in range(65)), 24, 1, 'a.txt:2: the count of types is 65, expected at most 64'),
@@ -76,8 +78,14 @@ BEYOND = [
     ('machine m\na -> a\nmachine n\nstates %s\n' % ' '.join('s%d' % i for i in range(65)), 24, 9,
      'a.txt:3: the count of states of machine n is 65, expected 1 to 64'),
     ('machine m\n' + 'a -> a\n' * 256, 24, 3, 'a.txt:1: the count of rows of machine m is 256, expected at most 255, and 1,024 in all machines together'),
-    (''.join('machine m%d\n' % i + 'a -> a\n' * 255 for i in range(5)), 24, 2 + 4 * (2 + 5 * 255) + 1,
+    (''.join('machine m%d\n' % i + MANY_ROWS for i in range(5)), 24, 2 + 4 * (2 + 5 * 255) + 1,
      'a.txt:1025: the count of rows of machine m4 is 255, expected at most 255, and 1,024 in all machines together'),
+    ('machine m\na -> a\na -> a\n', 26, 9, 'a.txt:3: machine m has this row in line 2 already: a -> a'),
+    (HEAD + 'a -> b sends request\n\nb -> a # back\na->b   sends request # again\n', 26, 14,
+     'a.txt:6: machine panel has this row in line 3 already: a -> b sends request'),
+    ('types t\nmachine m\na -> a takes t progress\nmachine n\nb -> a takes t progress\na -> a takes t progress\na -> a progress takes t\n', 26, 21,
+     'a.txt:7: machine n has this row in line 6 already: a -> a takes t progress'),
+    ('machine m\n' + MANY_ROWS[:-len('s15 -> s14\n')] + 's0 -> s0\n', 26, 4 + 5 * 254, 'a.txt:256: machine m has this row in line 2 already: s0 -> s0'),
 ]
 # A text, and the bytes that document 01 gives it.
 GOOD = [
@@ -91,6 +99,7 @@ GOOD = [
     ('machine m\nstates c b\nstates a\na -> b\n', '0100 0301 0302 01'),
     ('types a\ntypes b\nmachine größe\nstates a\na -> a takes b\nmachine gro\u0308\u00dfe.2\nü→u\u0308\nü -> u\n', '0202 0101 0801 0202 00 0201'),
     ('types a b # two\rmachine m\r1 -> 2 takes a # the first\f2 -> 1 sends b\r', '0102 0202 0a0100 07010001'),
+    ('types a\nmachine m\nx -> x sends a\nx -> x takes a\nx -> x sends a progress\nx -> x\nmachine n\nx -> x sends a\n', '0201 0104 0400 0800 1400 00 0101 0400'),
 ]
 
 
@@ -151,7 +160,8 @@ def there_and_back(library, independent, data):
         raise Wrong('the text of %s changes on its way' % data.hex())
 
 
-LABELS = {1: 'next', 2: 'count of ', 3: 'count of states', 4: 'map byte', 5: 'state', 6: 'type', 7: 'count of rows', 8: 'behind the last row'}
+LABELS = {1: 'next', 2: 'count of ', 3: 'count of states', 4: 'map byte', 5: 'state', 6: 'type', 7: 'count of rows', 8: 'behind the last row',
+          26: 'repeats row'}
 
 
 def damaged(rng, data):
@@ -160,26 +170,67 @@ def damaged(rng, data):
     return bytes(data[:rng.randrange(len(data) + 1)] if rng.random() < 0.5 else data) + (b'\0' if rng.random() < 0.1 else b'')
 
 
+def is_no_text(data):
+    """Whether there are control characters. What has none is text."""
+    return any(byte < 32 and byte not in b'\t\n\f\r' for byte in data)
+
+
 def refused_alike(library, independent, data):
-    """A file is refused as the implementation refuses it, and what is told of the place fits the number. What has no control characters is text."""
+    """A file is refused as the implementation refuses it, and what is told of the place fits the number."""
     try:
         independent.plant(data)
         return
     except Refused as refused:
         owed = refused.args
-    if any(byte < 32 and byte not in b'\t\n\f\r' for byte in data):
+    if is_no_text(data):
         got = refusal(library, data)
         if not isinstance(got, outcomes.Refused) or (got.number, got.place) != owed or LABELS[got.number] not in got.where:
             raise Wrong('of the file %s, refused %d %d, it is said: %s' % (data.hex(), *owed, got))
+
+
+def full_file(types, machines):
+    """The file of a plant that leaves out no state."""
+    data = [len(machines), types]
+    for states, rows in machines:
+        data += [states, len(rows)]
+        for left, entered, sent, taken, progress in rows:
+            data += [3 | 4 * (sent is not None) | 8 * (taken is not None) | 16 * progress, left, entered] + [t for t in (sent, taken) if t is not None]
+    return bytes(data)
+
+
+def twin_told(library, rng, types, machines):
+    """With one of its rows once more further down in the machine, a file is refused there, and both rows are told."""
+    sizes = [len(rows) for _, rows in machines]
+    m = rng.randrange(len(machines))
+    if not 0 < sizes[m] < 255 or sum(sizes) == 1024:
+        return
+    states, rows = machines[m]
+    earlier, first = rng.randrange(sizes[m]), sum(sizes[:m])
+    later = rng.randint(earlier + 1, sizes[m])
+    data = full_file(types, machines[:m] + [(states, rows[:later] + [rows[earlier]] + rows[later:])] + machines[m + 1:])
+    place, byte = [len(full_file(types, machines[:m] + [(states, rows[:k])])) for k in (later, earlier)]
+    owed = '; row %d repeats row %d, at byte %d: ' % (first + later, first + earlier, byte)
+    if is_no_text(data):
+        got = refusal(library, data)
+        if not isinstance(got, outcomes.Refused) or (got.number, got.place) != (26, place) or owed not in got.where:
+            raise Wrong('of the file %s with a twin row at %d it is said: %s' % (data.hex(), place, got))
+
+
+def drawn(rng, maker):
+    """A plant of a shape, where a row that was drawn twice for a machine stands once."""
+    types, machines = maker(rng)
+    return types, [(states, list(dict.fromkeys(rows))) for states, rows in machines]
 
 
 def round_trips(library, count, seed):
     rng, independent = random.Random(seed), Independent()
     makers, shares = zip(*evidence_plants.SHAPES)
     for _ in range(count):
-        data = evidence_plants.plant_file(rng, *rng.choices(makers, shares)[0](rng))
+        types, machines = drawn(rng, rng.choices(makers, shares)[0])
+        data = evidence_plants.plant_file(rng, types, machines)
         there_and_back(library, independent, data)
         refused_alike(library, independent, damaged(rng, data))
+        twin_told(library, rng, types, machines)
 
 
 # ---- planted errors
@@ -202,6 +253,11 @@ def without_progress(plant, machine, row, row_text=plant_text.row_text):
     return row_text(plant, machine, row._replace(progress=False))
 
 
+def row_before(plant, number, twin_of=plant_files.twin_of):
+    """A twin row is told as that of the row before it."""
+    return number - 1, twin_of(plant, number)[1]
+
+
 def one_too_far(data, byte_labels=plant_files.byte_labels):
     return byte_labels(data)[1:] + ['behind the last row']
 
@@ -214,6 +270,7 @@ PLANTED = [
     ('a row leaves the state that it enters', plant_files, 'row_from', implied_by_entered),
     ('progress is not printed', plant_text, 'row_text', without_progress),
     ('a byte is told as the one behind it', plant_files, 'byte_labels', one_too_far),
+    ('a twin row is told as that of the row before it', plant_files, 'twin_of', row_before),
     ('any name is a name', plant_text, 'NAME', mock.Mock(fullmatch=lambda word: True)),
     ('every file is text', plant_files, 'is_text', lambda data: True),
     ('numbers wrap at their width', binding, 'fitting', lambda number, kind: number),

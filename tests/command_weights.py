@@ -15,7 +15,7 @@ from unittest import mock
 import building
 import evidence_plants
 import evidence_solver
-from command_texts import loaded
+from command_texts import drawn, loaded
 from evidence_independent import Independent, TooMany
 
 from hemtaluq import binding, cycle_sets, outcomes, solver, weight_search
@@ -176,7 +176,7 @@ def hold_heavy(library, seed):
     """Under weights of any size: a quiet cycle that weighs zero or more is found exactly where the independent implementation has one."""
     rng, independent = random.Random(seed), Independent()
     for _ in range(HEAVY):
-        data = evidence_plants.plant_file(rng, *rng.choice([evidence_plants.small, evidence_plants.exchange, evidence_plants.passing])(rng))
+        data = evidence_plants.plant_file(rng, *drawn(rng, rng.choice([evidence_plants.small, evidence_plants.exchange, evidence_plants.passing])))
         plant, other = loaded(library, data), independent.plant(data)
         weights = [rng.choice([0, 1, 2, 3, 5000]) for _ in plant.types]
         try:

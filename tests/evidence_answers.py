@@ -2,6 +2,7 @@
 
 - plants of many shapes (evidence_plants.py), each put to all six calls, but to no listing where cycles are too many to go through;
 - every truncation of a set of files, every other value of each of their bytes, every byte taken out, and bytes put in;
+- files and lists of numbers with a row that equals an earlier one of its machine, and with rows that nearly do (evidence_twins.py);
 - the edges of the older tests: the longest file, 1,024 and 1,025 rows, 256 and 257 entries, the largest ceiling;
 - the ceilings one below, at and one above each edge of the price classes;
 - for a set of plants every length of each list: weights, contents, the two lent lists, the cycle set cut off anywhere;
@@ -23,6 +24,7 @@ import evidence_independent
 import evidence_lists
 import evidence_plants as plants
 import evidence_product
+import evidence_twins
 import listing
 import quoting
 import reading
@@ -38,6 +40,7 @@ ERRORS = [
     (('confirm',), evidence_independent.CONFIRMING_ERRORS),
     (('write',), evidence_independent.WRITING_ERRORS),
 ]
+TWIN_ERRORS = [(calls.FILE_CALLS, evidence_independent.TWIN_ERRORS), (('write',), evidence_independent.LISTED_TWIN_ERRORS)]
 INDEPENDENT = evidence_independent.Independent()
 
 
@@ -161,7 +164,7 @@ def edges():
     for data, weights, contents, g in map(quoting.input_with_ceiling, quoting.edge_ceilings()):
         yield calls.request(data, weights, contents=contents, g=g, calls=('quote',))
     for last in (3, 4, 5, 6, 254, 255):
-        yield calls.request(bytes([5, 0] + ([1, 255] + [16] * 255) * 4 + [1, last] + [16] * last))
+        yield calls.request(reading.counted(255, 255, 255, 255, last))
     for machines in plants.detours():
         yield calls.request(plants.plant_file(random.Random(0), 2, machines), [1, 2], calls=('weigh',))
     for weight in (999, 1000, 1001):
@@ -214,6 +217,17 @@ def damaged(long):
             except TooMany:
                 machine_room, made = 0, ('read', 'weigh', 'quote', 'confirm', 'write')
             yield calls.request(variant, weights, 64, contents, i % 4, machine, max(0, machine_room), numbers, listed, len(variant), made)
+
+
+def twins(rng):
+    """Files with twins and near twins: all calls where the file reads as a plant, else those that get a file. What these get besides is then wrong
+    at times, which must not show: a fault of the file comes first."""
+    for data in dict.fromkeys(evidence_twins.files(rng)):
+        try:
+            yield request_for(rng, data)
+        except Refused:
+            types, more = data[1], rng.choice([0, 0, 1])
+            yield calls.request(data, [1] * types, 64 - more, [1] * (types + more), 1, 16 * more, 4, [0, 1, 1, 0][4 * more:])
 
 
 def longest_truncations():
@@ -274,10 +288,10 @@ def write_anew(part, program, files):
 
 # ---- the part
 
-def catches(pairs):
+def catches(all_errors, pairs):
     """How many planted errors the comparison finds, each by the calls that it is planted for; all of them must be found."""
     found = 0
-    for made, errors in ERRORS:
+    for made, errors in all_errors:
         mine = [(q._replace(calls=[c for c in q.calls if c in made]), got) for q, got in pairs if set(q.calls) & set(made)]
         for name, other in errors:
             if not any(disagreement(other, q, got) for q, got in mine):
@@ -302,16 +316,17 @@ def finds(program, requests, known, given):
     return None
 
 
-def product_catches(folder, pairs):
-    """How many wrong programs the comparison finds, each by every call that must show it; in the unchanged calls in C it finds nothing."""
+def product_catches(folder, pairs, twin_pairs):
+    """How many wrong programs the comparison finds, each by every call that must show it; in the unchanged calls in C it finds nothing. Errors
+    about twins must be found by the pairs that have them."""
     peer, wrong = evidence_product.build(folder)
-    found = finds(peer, *asked(pairs, calls.CALLS))
+    found = finds(peer, *asked(pairs + twin_pairs, calls.CALLS))
     if found:
         sys.exit('evidence: answers: bench/peer.c, unchanged: %s' % found)
-    by_call = {call: asked(pairs, [call]) for call in calls.CALLS}
+    by_call = {about_twins: {call: asked(some, [call]) for call in calls.CALLS} for about_twins, some in ((False, pairs), (True, twin_pairs))}
     for error, program in wrong:
         for call in error.calls:
-            if not finds(program, *by_call[call]):
+            if not finds(program, *by_call[error in evidence_product.TWINS][call]):
                 sys.exit('evidence: answers: the error "%s", planted in the product, is not found by %s' % (error.name, call))
     return len(wrong)
 
@@ -328,10 +343,16 @@ def kinds(pairs):
 
 
 NEEDED = (['read counts', 'weigh passed', 'weigh cycle', 'quote ceiling', 'list listed', 'confirm confirmed', 'confirm negative', 'write wrote']
-          + ['%s refused %d' % (call, k) for call in calls.FILE_CALLS for k in range(1, 9)]
+          + ['%s refused %d' % (call, k) for call in calls.FILE_CALLS for k in [*range(1, 9), 26]]
           + ['weigh refused %d' % k for k in (9, 10, 11)] + ['quote refused %d' % k for k in (9, 10, 20, 21, 22)]
           + ['list refused %d' % k for k in (12, 13, 14)] + ['confirm refused %d' % k for k in (15, 16, 17, 18)]
-          + ['write refused %d' % k for k in (23, 24, 25)])
+          + ['write refused %d' % k for k in (23, 24, 25, 26)])
+
+
+def hold_met(met):
+    for kind in NEEDED:
+        if met.get(kind, 0) < 3:
+            sys.exit('evidence: answers: %s was met %d times only' % (kind, met.get(kind, 0)))
 
 
 def main(program, folder, seed, long):
@@ -339,24 +360,27 @@ def main(program, folder, seed, long):
     limits = compare('limits', program, list(edges()) + list(evidence_lists.limits(INDEPENDENT)))
     whole = compare('plants', program, shaped(rng, PLANTS * (10 if long else 1)))
     harmed = compare('damage', program, list(damaged(long)) + list(longest_truncations()))
+    twin = compare('twins', program, list(twins(random.Random(seed + 6))))
     lent = compare('lengths', program, list(lengths(rng, 400 if long else 80)))
     lists = compare('lists', program, list(evidence_lists.damaged([data for data, _ in damaged_files(long)], INDEPENDENT)))
+    twin_lists = compare('lists with twins', program, [evidence_lists.request(*given) for given in evidence_twins.lists(random.Random(seed + 7))])
     buffers = compare('buffers', program, list(evidence_lists.lengths(random.Random(seed + 5), INDEPENDENT, 1000 if long else 200)))
-    written = [pair for pair in whole + harmed if 'write' in pair[0].calls]
+    written = [pair for pair in whole + harmed + twin if 'write' in pair[0].calls]
     shorter = read_again(program, written)
-    met = kinds(limits + whole + harmed + lent + lists + buffers)
-    for kind in NEEDED:
-        if met.get(kind, 0) < 3:
-            sys.exit('evidence: answers: %s was met %d times only' % (kind, met.get(kind, 0)))
+    met = kinds(limits + whole + harmed + twin + lent + lists + twin_lists + buffers)
+    hold_met(met)
     by_mean, some = INDEPENDENT.by_mean, limits + whole[:3000] + harmed[:5000] + lent[:500] + lists[:2000] + buffers[:500]
-    found, in_product = catches(some), product_catches(folder, some)
+    found = catches(ERRORS, some) + catches(TWIN_ERRORS, twin + twin_lists)
+    in_product = product_catches(folder, some, twin + twin_lists)
+    counted = dict(shaped_plants=len(whole), damaged_files=len({q.file for q, _ in harmed}), twin_files=len(twin), other_lengths=len(lent),
+                   damaged_lists=len({tuple(q.numbers) for q, _ in lists}), twin_lists=len({tuple(q.numbers) for q, _ in twin_lists}),
+                   buffer_lengths=len(buffers), written_anew=len(written), written_shorter=shorter, judged_by_mean=by_mean,
+                   planted_in_the_product=in_product, planted_in_implementations=found)
     unlisted = sum('list' not in q.calls for q, _ in whole + harmed)
-    files, cut = len({q.file for q, _ in harmed}), len({tuple(q.numbers) for q, _ in lists})
-    print('evidence: answers: %d plants, %d damaged files, %d lists of other lengths and %d limits agree with the independent '
-          'implementation (%d pass, %d show a cycle, %d machines of them judged by means; %d listings, %d left out for too many cycles); '
-          '%d damaged lists of numbers and %d lengths of buffers agree too; %d plants are written anew, %d of them in fewer bytes; '
-          '%d errors planted there are found, and %d in the product'
-          % (len(whole), files, len(lent), len(limits), met['weigh passed'], met['weigh cycle'], by_mean, met['list listed'], unlisted,
-             cut, len(buffers), len(written), shorter, found, in_product))
-    return dict(shaped_plants=len(whole), damaged_files=files, other_lengths=len(lent), damaged_lists=cut, buffer_lengths=len(buffers),
-                written_anew=len(written), written_shorter=shorter, judged_by_mean=by_mean, planted_in_the_product=in_product, planted_in_implementations=found), []
+    print('evidence: answers: %d plants, %d damaged files, %d files with twins or near twins (%d refused with 26), %d lists of other lengths and %d limits '
+          'agree with the independent implementation (%d pass, %d show a cycle, %d machines of them judged by means; %d listings, %d left out for too '
+          'many cycles); %d damaged lists of numbers, %d with twins or near twins, and %d lengths of buffers agree too; %d plants are written anew, %d of '
+          'them in fewer bytes; %d errors planted there are found, and %d in the product'
+          % (len(whole), counted['damaged_files'], len(twin), kinds(twin)['read refused 26'], len(lent), len(limits), met['weigh passed'], met['weigh cycle'],
+             by_mean, met['list listed'], unlisted, counted['damaged_lists'], counted['twin_lists'], len(buffers), len(written), shorter, found, in_product))
+    return counted, []

@@ -80,17 +80,18 @@ ERRORS = [
 def machine(rng):
     """A plant of one or two machines that can be listed; the second has other row numbers."""
     if rng.random() < 0.1:
-        states, rows = listing.tailed(rng)
-        return 0, [(states, [(a, b, None, None, rng.random() < 0.3) for a, b in rows])]
+        states, ends = listing.tailed(rng)
+        return 2, [(states, plants.different(len(ends), lambda i: ends[i] + plants.message(rng, 2) + (rng.random() < 0.3,)))]
     states = rng.choice([1, 2, 3, 4, 5, 8, 24])
     count = rng.choice([0, 1, 3, 6, 9, 12] if states < 8 else [8, 16, 30, 48])
     near = states >= 8
-    rows = []
-    for _ in range(count):
+
+    def draw(i):
         left = rng.randrange(states)
         entered = min(states - 1, rng.randrange(left + 2)) if near else rng.randrange(states)
-        rows.append((left, entered) + plants.message(rng, 2) + (rng.random() < 0.3,))
-    return 2, rng.choice([[], [(2, plants.loose(rng, 2, 3, 2))]]) + [(states, rows)]
+        return (left, entered) + plants.message(rng, 2) + (rng.random() < 0.3,)
+
+    return 2, rng.choice([[], [(2, plants.loose(rng, 2, 3, 2))]]) + [(states, plants.different(count, draw))]
 
 
 def some_machines(rng, count):

@@ -43,6 +43,30 @@ class Independent:
         """The state that a row without its bit 0 leaves, after this row of the same machine."""
         return row.left
 
+    def compared(self, row):
+        """What of a row is compared with the earlier rows of its machine."""
+        return row[1:]
+
+    def known_before(self, known):
+        """Of the rows read so far, those that a machine's first row is compared with."""
+        return {}
+
+    def with_row(self, known, key, place):
+        """The rows that the next row of the machine is compared with, and where they begin."""
+        known[key] = place
+        return known
+
+    def twin_place(self, first, begins, ends):
+        """The place of a row that equals an earlier one, which begins at the first place."""
+        return begins
+
+    def known_with(self, known, row, begins, ends):
+        """The known rows and this one, which must not be among them."""
+        key = self.compared(row)
+        if key in known:
+            raise Refused(26, self.twin_place(known[key], begins, ends))
+        return self.with_row(known, key, begins)
+
     def plant(self, data):
         at = 0
 
@@ -58,13 +82,15 @@ class Independent:
 
         machines = byte(2, lambda b: 1 <= b <= 16)
         types = byte(2, lambda b: b <= 64)
-        states, rows = [], []
+        states, rows, known = [], [], {}
         for m in range(machines):
             states.append(byte(3, lambda b: 1 <= b <= 64))
             count = byte(7, lambda b: len(rows) + b <= self.most_rows)
-            left = 0
+            left, known = 0, self.known_before(known)
             for _ in range(count):
+                begins = at
                 rows.append(self.row(byte, m, states[m], types, left))
+                known = self.known_with(known, rows[-1], begins, at)
                 left = self.next_left(rows[-1])
         if at < len(data):
             raise Refused(8, at)
@@ -308,21 +334,23 @@ class Independent:
         return states - 1, states - 1, 2, types - 1 if kind else 0, 1
 
     def limits(self, numbers):
-        """The least and the greatest value of each number of a list, as far as the numbers say how many there are; a missing one counts as 0."""
+        """The least and the greatest value of each number of a list, as far as the numbers say how many there are, and for each machine where its
+        rows begin; a missing number counts as 0."""
         def number(i):
             return numbers[i] if i < len(numbers) else 0
 
-        limits, rows = [(1, 16), (0, 64)], 0
+        limits, rows, begin = [(1, 16), (0, 64)], 0, []
         for _ in range(min(16, number(0))):
             first = len(limits) + 2
             states, count = number(first - 2), number(first - 1)
             limits += [(1, 64), (0, self.most_of_rows(rows))]
             if count > limits[-1][1]:
                 break
-            for k in range(first, first + 5 * count, 5):
+            begin.append(range(first, first + 5 * count, 5))
+            for k in begin[-1]:
                 limits += [(0, most) for most in self.most_in_row(states, number(1), number(k + 2))]
             rows += count
-        return limits
+        return limits, begin
 
     def length_fits(self, count, needed):
         return count == needed
@@ -331,12 +359,33 @@ class Independent:
         """The index of the missing or the first extra number."""
         return min(count, needed)
 
+    def compared_numbers(self, five):
+        """What of a row's numbers is compared with the earlier rows of its machine."""
+        return five
+
+    def listed_twin_place(self, first, begins):
+        """The place of a row that equals an earlier one; where the two begin."""
+        return begins
+
+    def judged_before(self, begins, wrong):
+        """Whether the row that begins there is compared before the number at the wrong place is judged."""
+        return begins + 5 <= wrong
+
+    def hold_different(self, numbers, begin, wrong):
+        """No row that is compared before the wrong place has the numbers of an earlier one of its machine: they are looked for among all of them."""
+        for machine in begin:
+            fives = [self.compared_numbers(numbers[k:k + 5]) for k in machine if self.judged_before(k, wrong)]
+            for i, five in enumerate(fives):
+                if fives.index(five) < i:
+                    raise Refused(26, self.listed_twin_place(machine[fives.index(five)], machine[i]))
+
     def listed(self, numbers):
         """The plant that a list says."""
-        limits = self.limits(numbers)
-        for i, (x, (least, most)) in enumerate(zip(numbers, limits)):
-            if not least <= x <= most:
-                raise Refused(24, i)
+        limits, begin = self.limits(numbers)
+        wrong = [i for i, (x, (least, most)) in enumerate(zip(numbers, limits)) if not least <= x <= most]
+        self.hold_different(numbers, begin, (wrong + [len(numbers)])[0])
+        if wrong:
+            raise Refused(24, wrong[0])
         if not self.length_fits(len(numbers), len(limits)):
             raise Refused(23, self.length_place(len(numbers), len(limits)))
         states, rows, at = [], [], 2
@@ -418,6 +467,20 @@ READING_ERRORS = [
     planted('a state may be the count of states', state_fits=lambda self, b, states: b <= states),
     planted('only 1,023 rows', most_rows=1023),
 ]
+# Of rows that equal earlier ones, in a file.
+TWIN_ERRORS = [
+    planted('rows that equal an earlier one are let by', compared=lambda self, row: object()),
+    planted('a row is compared with the row before it only', with_row=lambda self, known, key, place: {key: place}),
+    planted('a row is compared with the first row only', with_row=lambda self, known, key, place: known or {key: place}),
+    planted('rows of earlier machines are compared as well', known_before=lambda self, known: known),
+    *(planted('the %s is not compared' % name, compared=lambda self, row, field=field: row._replace(machine=0, **{field: None}))
+      for field, name in (('left', 'state left'), ('entered', 'state entered'), ('sent', 'type sent'), ('taken', 'type taken'), ('progress', 'progress'))),
+    planted('a type that is sent equals the same type taken', compared=lambda self, row: (row[1:3], frozenset((row.sent, row.taken)), row.progress)),
+    planted('type 0 equals no type', compared=lambda self, row: (row[1:3], row.sent or None, row.taken or None, row.progress)),
+    planted('the place is behind the row', twin_place=lambda self, first, begins, ends: ends),
+    planted('the place is that of the row\'s last byte', twin_place=lambda self, first, begins, ends: ends - 1),
+    planted('the place is that of the earlier row', twin_place=lambda self, first, begins, ends: first),
+]
 WEIGHING_ERRORS = [
     planted('weight zero is good', good=lambda self, weight: weight <= 0),
     planted('only cycles through state 0 are judged', starts=lambda self, states: range(1)),
@@ -459,7 +522,22 @@ WRITING_ERRORS = [
     planted('a list that goes on is let by', length_fits=lambda self, count, needed: count >= needed),
     planted('a missing number has place 0', length_place=lambda self, count, needed: 0 if count < needed else needed),
 ]
+# The same in a list of numbers.
+LISTED_TWIN_ERRORS = [
+    planted('rows that equal an earlier one are let by', compared_numbers=lambda self, five: object()),
+    *(planted('the %s is not compared' % name, compared_numbers=lambda self, five, field=field: five[:field] + five[field + 1:])
+      for field, name in enumerate(('state left', 'state entered', 'kind', 'type', 'progress'))),
+    planted('a type that is sent equals the same type taken', compared_numbers=lambda self, five: five[:2] + [five[2] > 0] + five[3:]),
+    planted('rows of earlier machines are compared as well', hold_different=lambda self, numbers, begin, wrong: Independent.hold_different(
+        self, numbers, [[k for machine in begin for k in machine]], wrong)),
+    planted('the place is that of the row\'s last number', listed_twin_place=lambda self, first, begins: begins + 4),
+    planted('the place is that of the earlier row', listed_twin_place=lambda self, first, begins: first),
+    planted('a row is compared before its last number is judged', judged_before=lambda self, begins, wrong: begins + 4 <= wrong,
+            compared_numbers=lambda self, five: five[:4] + [x % 2 for x in five[4:]]),
+    planted('a row is compared after the next number is judged', judged_before=lambda self, begins, wrong: begins + 5 < wrong),
+]
 PROGRAM_ERRORS = [
+    planted('rows that equal an earlier one are let by', compared=lambda self, row: object()),
     planted('the high byte comes first', weights_of=lambda self, data: [data[i] * 256 + data[i + 1] for i in range(0, len(data) - 1, 2)]),
     planted('an odd last byte is dropped', weights_of=lambda self, data: Independent.weights_of(self, data[:len(data) // 2 * 2])),
     planted('the count of weights is not judged', check_weights=lambda self, plant, weights: None),

@@ -1,4 +1,4 @@
-"""Plants of many shapes, as files, with the values that the tests put to them."""
+"""Plants of many shapes, as files, with the values that the tests put to them. No machine has two equal rows."""
 PLANT_A = bytes.fromhex('0202 0202 060100 1b010001 0202 0a0100 07010001')
 PLANT_B = bytes.fromhex('0202 0202 060100 0b010001 0202 0a0100 07010001')
 
@@ -34,39 +34,54 @@ def plant_file(rng, types, machines):
 
 # ---- machines
 
+TRIES = 40
+
+
+def different(count, draw):
+    """Up to so many rows, as drawn for 0, 1, 2, ...: one that equals an earlier one is drawn again, and after some tries left out."""
+    rows = {}
+    for i in range(count):
+        for _ in range(TRIES):
+            row = draw(i)
+            if row not in rows:
+                rows[row] = True
+                break
+    return list(rows)
+
+
 def message(rng, types):
     """What a row sends and takes."""
     kind, t = rng.choice(['sends', 'takes', 'takes', 'neither']), rng.randrange(types) if types else None
     return (t if kind == 'sends' else None, t if kind == 'takes' else None)
 
 
+def between_any(rng, states, types, progress):
+    return (rng.randrange(states), rng.randrange(states)) + message(rng, types) + (rng.random() < progress,)
+
+
 def loose(rng, states, count, types):
     """Rows between any states: parallel rows, self loops and states that nothing enters come about by themselves."""
-    return [(rng.randrange(states), rng.randrange(states)) + message(rng, types) + (rng.random() < 0.2,) for _ in range(count)]
+    return different(count, lambda i: between_any(rng, states, types, 0.2))
 
 
 def ring(rng, states, count, types):
     """One ring through all states, some of its rows in parallel, most of it quiet."""
-    rows = []
-    for i in range(count):
-        left = i % states
-        rows.append((left, (left + 1) % states) + message(rng, types) + (rng.random() < 0.05,))
+    rows = different(count, lambda i: (i % states, (i + 1) % states) + message(rng, types) + (rng.random() < 0.05,))
     rng.shuffle(rows)
     return rows
 
 
 def falling(rng, states, count, types):
     """Rows onward send a light type or nothing, rows back take a heavier one: weights 1, 2, 3, ... pass, or just fail."""
-    rows = []
-    for _ in range(count):
+    def draw(i):
         left, entered = rng.randrange(states), rng.randrange(states)
         entered = min(entered, left + rng.choice([1, 1, 2])) if entered > left else max(entered, left - types)
         if entered > left:
-            rows.append((left, entered, 0 if rng.random() < 0.5 else None, None, rng.random() < 0.1))
-        else:
-            heavy = min(types - 1, left - entered + (0 if rng.random() < 0.03 else 1))
-            rows.append((left, entered, None, rng.randint(heavy, types - 1), rng.random() < 0.1))
-    return rows
+            return left, entered, 0 if rng.random() < 0.5 else None, None, rng.random() < 0.1
+        heavy = min(types - 1, left - entered + (0 if rng.random() < 0.03 else 1))
+        return left, entered, None, rng.randint(heavy, types - 1), rng.random() < 0.1
+
+    return different(count, draw)
 
 
 # ---- shapes: a name, how many of 1,000, and the plant
@@ -92,8 +107,7 @@ def one_state(rng):
 
 
 def many_types(rng):
-    return 64, [(s, [(rng.randrange(s), rng.randrange(s)) + message(rng, 64) + (rng.random() < 0.3,) for _ in range(rng.randint(0, 10))])
-                for s in rng.choices([1, 2, 3, 6], k=rng.randint(1, 4))]
+    return 64, [(s, different(rng.randint(0, 10), lambda i: between_any(rng, s, 64, 0.3))) for s in rng.choices([1, 2, 3, 6], k=rng.randint(1, 4))]
 
 
 def rings(rng):
@@ -117,11 +131,14 @@ def exchange(rng):
     """Machines with one quiet ring each, or two that share a state, which take some types and send others."""
     types, machines = rng.choice([2, 3, 4]), []
     for _ in range(rng.randint(2, 5)):
-        states, rows = rng.choice([2, 3, 4, 5]), []
-        for left in range(states):
-            rows.append((left, (left + 1) % states) + message(rng, types) + (rng.random() < 0.04,))
-        rows.append((0, 0, None, rng.randrange(types), False) if rng.random() < 0.2 else (states - 1, 0) + message(rng, types) + (False,))
-        machines.append((states, rows))
+        states, loop = rng.choice([2, 3, 4, 5]), rng.random() < 0.2
+
+        def draw(left):
+            if left < states:
+                return (left, (left + 1) % states) + message(rng, types) + (rng.random() < 0.04,)
+            return (0, 0, None, rng.randrange(types), False) if loop else (states - 1, 0) + message(rng, types) + (False,)
+
+        machines.append((states, different(states + 1, draw)))
     return types, machines
 
 
@@ -153,8 +170,11 @@ def short_cuts(rng):
     types, machines = rng.choice([1, 2, 3]), []
     for _ in range(rng.randint(1, 5)):
         states = rng.choice([1, 2, 3, 5, 8, 13, 64])
-        rows = [(s, (s + 1) % states) + message(rng, types) + (rng.random() < 0.04,) for s in range(states)]
-        rows += [(rng.randrange(states), rng.randrange(states)) + message(rng, types) + (rng.random() < 0.3,) for _ in range(rng.randint(0, 4))]
+
+        def draw(i):
+            return (i, (i + 1) % states) + message(rng, types) + (rng.random() < 0.04,) if i < states else between_any(rng, states, types, 0.3)
+
+        rows = different(states + rng.randint(0, 4), draw)
         rng.shuffle(rows)
         machines.append((states, rows))
     return types, machines

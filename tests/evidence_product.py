@@ -160,7 +160,95 @@ SHARED = [
     Shim('the place of a fault is one too low', ('read',), 'if (a.place) a.place--;'),
     Shim('the count of rows stands in the answer that refuses', ('read',), 'if (a.kind == HEMTALUQ_REFUSED) a.rows = 1;'),
 ]
-ERRORS = READING + WEIGHING + QUOTING + LISTING + CONFIRMING + WRITING + SHARED
+# How bench/peer.c compares a row with the earlier ones of its machine, in a file and in a list.
+FILE_KEY, LIST_KEY = 'key_of(left, entered, sent, taken, map >> 4)', 'key_of(left, entered, kind, type, progress)'
+FILE_TWIN, LIST_TWIN = 'is_twin(keys, rows - first, &states_left, left, %s)' % FILE_KEY, 'is_twin(keys, i, &states_left, left, %s)' % LIST_KEY
+
+
+def in_file(name, new, made=calls.FILE_CALLS):
+    return Edit(name, made, 'if (%s) FAULT(26, start);' % FILE_TWIN, new.replace('IS_TWIN', FILE_TWIN))
+
+
+def in_list(name, new):
+    return Edit(name, ('write',), 'if (%s) FAULT(26, at);' % LIST_TWIN, new.replace('IS_TWIN', LIST_TWIN))
+
+
+def keyed(what, file_key, list_key):
+    """Two errors: the rows of a file are compared by another key, and those of a list."""
+    return [Edit(what, calls.FILE_CALLS, FILE_KEY, 'key_of(%s)' % file_key), Edit(what + ', in a list', ('write',), LIST_KEY, 'key_of(%s)' % list_key)]
+
+
+TWINS = [
+    Edit('a row is compared with the row before it only', calls.CALLS, 'is_in(keys, n, key)) return', 'n && keys[n - 1] == key) return'),
+    Edit('a row is compared with the first row only', calls.CALLS, 'is_in(keys, n, key)) return', 'n && keys[0] == key) return'),
+    Edit('the first row of a machine is not compared', calls.CALLS, 'unsigned i = 0;\n    for (; i + 8', 'unsigned i = 1;\n    for (; i + 8'),
+    Edit('of the rows before only 8, 16, ... are compared', calls.CALLS, 'for (; i < n; i++) seen |= keys[i] == key;', ''),
+    Edit('of eight rows four are compared', calls.CALLS, ' | (four)(b == wanted)', ''),
+    Edit('the 255th row of a machine is not compared', calls.CALLS, 'if (*states >> left & 1 &&', 'if (n < 254 && *states >> left & 1 &&'),
+    Edit('rows that leave states from 32 on are let by', calls.CALLS, '*states >> left & 1', '(*states & 0xffffffff) >> left & 1'),
+    Edit('only the state that the row before leaves is marked', calls.CALLS, '*states |= (uint64_t)1 << left;', '*states = (uint64_t)1 << left;'),
+    Edit('a row is not compared with progress rows', calls.CALLS, 'keys[n] = key;', 'keys[n] = key >> 26 ? UINT32_MAX : key;'),
+    *keyed('the state left is not compared', '0, entered, sent, taken, map >> 4', '0, entered, kind, type, progress'),
+    *keyed('the state entered is not compared', 'left, 0, sent, taken, map >> 4', 'left, 0, kind, type, progress'),
+    *keyed('progress is not compared', 'left, entered, sent, taken, 0', 'left, entered, kind, type, 0'),
+    *keyed('a type that is sent equals the same type taken', 'left, entered, sent < taken ? sent : taken, 0, map >> 4', 'left, entered, kind > 0, type, progress'),
+    *keyed('type 0 equals no type', 'left, entered, sent % 64, taken % 64, map >> 4', 'left, entered, type ? kind : 0, type, progress'),
+    Edit('the type sent is not compared', calls.FILE_CALLS, FILE_KEY, 'key_of(left, entered, 0, taken, map >> 4)'),
+    Edit('the type taken is not compared', calls.FILE_CALLS, FILE_KEY, 'key_of(left, entered, sent, 0, map >> 4)'),
+    Edit('types 32 and more equal those from 0 on', calls.FILE_CALLS, FILE_KEY, 'key_of(left, entered, sent & 95, taken & 95, map >> 4)'),
+    Edit('the type is not compared, in a list', ('write',), LIST_KEY, 'key_of(left, entered, kind, 0, progress)'),
+    Edit('only rows with the same map byte are compared', calls.FILE_CALLS, FILE_KEY, 'key_of(left, entered, sent, taken, map)'),
+    in_file('rows that equal an earlier one are let by where the file is only read', 'if (keep && IS_TWIN) FAULT(26, start);', ('read',)),
+    in_file('they are let by where the rows are kept', 'if (!keep && IS_TWIN) FAULT(26, start);', calls.FILE_CALLS[1:]),
+    in_file('they are let by in the last machine', 'if (IS_TWIN && m + 1 < machines) FAULT(26, start);'),
+    in_file('rows of earlier machines are compared as well', 'static uint32_t all[1024];\n            static uint64_t any;\n            any = rows ? any : 0;\n'
+            '            if (is_twin(all, rows, &any, left, %s)) FAULT(26, start);' % FILE_KEY),
+    in_file('the place is behind the row', 'if (IS_TWIN) FAULT(26, at);'),
+    in_file('the place is that of the row\'s last byte', 'if (IS_TWIN) FAULT(26, at - 1);'),
+    in_file('the place is that of the earlier row', 'static size_t begins[1024];\n            begins[rows] = start;\n            if (IS_TWIN) {\n'
+            '                unsigned k = 0;\n                while (keys[k] != %s) k++;\n                FAULT(26, begins[first + k]);\n            }' % FILE_KEY),
+    in_file('a byte that is missing behind the row comes first', 'if (IS_TWIN) {\n                if (rows + 1 < end) NEED(at);\n'
+            '                FAULT(26, start);\n            }'),
+    in_file('the map byte behind the row comes first', 'if (IS_TWIN) {\n                if (rows + 1 < end && at < length && f[at] >= 32) FAULT(4, at);\n'
+            '                FAULT(26, start);\n            }'),
+    in_file('bytes that remain come first', 'if (IS_TWIN) {\n                if (rows + 1 == end && m + 1 == machines && at < length) FAULT(8, at);\n'
+            '                FAULT(26, start);\n            }'),
+    Edit('a row is compared before its state entered is judged', calls.FILE_CALLS, 'if (entered >= states) FAULT(5, at);',
+         'if (!(map & 12) && is_in(keys, rows - first, key_of(left, entered % 64, NO_TYPE, NO_TYPE, map >> 4))) FAULT(26, start);\n'
+         '                if (entered >= states) FAULT(5, at);'),
+    Edit('a row is compared before its type is judged', calls.FILE_CALLS, 'if (type >= types) FAULT(6, at);',
+         'if (is_in(keys, rows - first, key_of(left, entered, map & 4 ? type % 64 : NO_TYPE, map & 4 ? NO_TYPE : type % 64, map >> 4))) FAULT(26, start);\n'
+         '                if (type >= types) FAULT(6, at);'),
+    Edit('a row is compared before its type is there', calls.FILE_CALLS, 'NEED(at);\n                unsigned type',
+         'if (at >= length && is_in(keys, rows - first, key_of(left, entered, NO_TYPE, NO_TYPE, map >> 4))) FAULT(26, start);\n'
+         '                NEED(at);\n                unsigned type'),
+    in_list('rows that equal an earlier one are written', 'if (0 && IS_TWIN) FAULT(26, at);'),
+    in_list('rows of earlier machines are compared as well, in a list', 'static uint32_t all[1024];\n            static uint64_t any;\n'
+            '            any = rows - own + i ? any : 0;\n            if (is_twin(all, rows - own + i, &any, left, %s)) FAULT(26, at);' % LIST_KEY),
+    in_list('the place is that of the row\'s last number', 'if (IS_TWIN) FAULT(26, at + 4);'),
+    in_list('the place is that of the number behind the row', 'if (IS_TWIN) FAULT(26, at + 5);'),
+    in_list('the place is that of the earlier row, in a list', 'if (IS_TWIN) {\n                unsigned k = 0;\n                while (keys[k] != %s) k++;\n'
+            '                FAULT(26, at - 5 * (i - k));\n            }' % LIST_KEY),
+    in_list('a number that is missing behind the row comes first', 'if (IS_TWIN) {\n                if (at + 5 == count && i + 1 < own) FAULT(23, count);\n'
+            '                FAULT(26, at);\n            }'),
+    in_list('a list that goes on comes first', 'if (IS_TWIN) {\n                if (at + 5 < count && i + 1 == own && m + 1 == machines) FAULT(23, at + 5);\n'
+            '                FAULT(26, at);\n            }'),
+    Edit('a row is compared before its progress is judged', ('write',), 'if (left >= states || states <= entered',
+         'if (left < states && entered < states && kind < 3 && type < type_end(kind, types)\n'
+         '                && is_in(keys, i, key_of(left, entered, kind, type, progress & 1))) FAULT(26, at);\n            if (left >= states || states <= entered'),
+    Edit('an empty buffer comes first', ('write',), 'if (!fault.number && length > out_length)',
+         'if (fault.number == 26 ? !out_length : !fault.number && length > out_length)'),
+    Shim('a short list comes first', ('weigh',), 'if (a.number == 26 && cycle_length < 64) a.number = 11, a.place = 0;'),
+    Shim('a wrong count of contents comes first', ('quote',), 'if (a.number == 26 && content_count != file[1]) a.number = 20, a.place = 0;'),
+    Shim('that there is no such machine comes first', ('list',), 'if (a.number == 26 && machine >= file[0]) a.number = 12, a.place = 0;'),
+    Shim('an empty set comes first', ('confirm',), 'if (a.number == 26 && !set_length) a.number = 18, a.place = 0;'),
+    Shim('another number stands for 26', ('read',), 'if (a.number == 26) a.number = 19;'),
+    Shim('the place of 26 is 0', ('confirm',), 'if (a.number == 26) a.place = 0;'),
+    Shim('the lent list is changed with 26', ('weigh',), 'if (a.number == 26 && cycle_length) cycle[0] ^= 1;'),
+    Shim('the lent listing is changed with 26', ('list',), 'if (a.number == 26 && out_length) out[0] ^= 1;'),
+    Shim('the buffer is changed with 26', ('write',), 'if (a.number == 26 && out_length) out[0] ^= 1;'),
+]
+ERRORS = READING + WEIGHING + QUOTING + LISTING + CONFIRMING + WRITING + SHARED + TWINS
 
 # The arguments of the calls, for the shims.
 ARGUMENTS = {

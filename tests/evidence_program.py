@@ -16,6 +16,7 @@ import building
 import evidence_independent
 import evidence_plants as plants
 import reading
+import weighing
 
 CASES = 600
 INDEPENDENT = evidence_independent.Independent()
@@ -58,8 +59,8 @@ def drawn_cases(rng, count):
         types, machines = rng.choice(makers)(rng)
         data = plants.plant_file(rng, types, machines)
         weights = weights_bytes(plants.weights_for(rng, types))
-        if rng.random() < 0.15:
-            data = reading.damaged(rng, data)
+        if rng.random() < 0.2:
+            data = weighing.spoilt(rng, data)
         if rng.random() < 0.1:
             weights = reading.damaged(rng, weights)
         yield data if rng.random() < 0.96 else None, weights if rng.random() < 0.96 else None
@@ -152,11 +153,12 @@ def main(seed, long):
             sys.exit('evidence: program: plant %s, weights %s: %r, but owed is %s'
                      % (plant and plant.hex(), weights and weights.hex(), line[:300], owed))
         kinds[line.split()[0]] = kinds.get(line.split()[0], 0) + 1
-    if pairs[0][2] != 'passed 10 2 9\n' or len(kinds) != 3 or min(kinds.values()) < 30:
-        sys.exit('evidence: program: %r for plant A; %s' % (pairs[0][2], kinds))
+    twins = sum(line.startswith('refused 26 ') for _, _, line in pairs)
+    if pairs[0][2] != 'passed 10 2 9\n' or len(kinds) != 3 or min(twins, *kinds.values()) < 30:
+        sys.exit('evidence: program: %r for plant A; %s, %d of them with 26' % (pairs[0][2], kinds, twins))
     found, in_product = catches(pairs)
     missing = sum(plant is None or weights is None for plant, weights in cases)
-    print('evidence: program: %d runs of ceiling (%d pass, %d show a cycle, %d are refused; a file is missing in %d); '
+    print('evidence: program: %d runs of ceiling (%d pass, %d show a cycle, %d are refused, %d with 26; a file is missing in %d); '
           '%d errors planted in the independent implementation are found, and %d in the program\'s line'
-          % (len(pairs), kinds['passed'], kinds['cycle'], kinds['refused'], missing, found, in_product))
+          % (len(pairs), kinds['passed'], kinds['cycle'], kinds['refused'], twins, missing, found, in_product))
     return dict(program_runs=len(pairs), program_missing=missing, planted_in_implementations=found, planted_in_the_product=in_product), []

@@ -9,7 +9,7 @@ Made whole, the solver's weights must pass hemtaluq_weigh, and its set must be c
 data/certificates.txt has solutions of the solver, one to a line: the side, the plant, the numbers. They are judged in
 every run. Where glpsol is installed, plants are solved anew.
 
-    python3 tests/evidence_solver.py        # makes data/certificates.txt anew
+    python3 tests/evidence_solver.py        # makes those of data/certificates.txt anew whose plants are refused, and those that are missing
 """
 import math
 import os
@@ -25,7 +25,7 @@ import evidence_calls as calls
 import evidence_independent
 import evidence_plants as plants
 from evidence_answers import write_anew
-from evidence_independent import TooMany
+from evidence_independent import Refused, TooMany
 
 ANEW = 2200
 STORED = 600
@@ -222,8 +222,21 @@ def stored():
     return [(bytes.fromhex(words[1]), words[0], [int(x) for x in words[2:]]) for words in found]
 
 
+def is_read(data):
+    try:
+        evidence_independent.Independent().plant(data)
+        return True
+    except Refused:
+        return False
+
+
 def store():
-    certificates = solve_all(Test(), some_plants(random.Random(1), STORED))[0]
+    """Each certificate whose plant is read stays where it is; the others are made anew, in their places."""
+    kept = {i: c for i, c in enumerate(stored() if os.path.exists(CERTIFICATES) else []) if is_read(c[0])}
+    known = {data for data, _, _ in kept.values()}
+    files = [data for data in some_plants(random.Random(4), STORED + len(known)) if data not in known]
+    anew = iter(solve_all(Test(), files[:STORED])[0])
+    certificates = [kept.get(i) or next(anew) for i in range(STORED)]
     with open(CERTIFICATES, 'w', encoding='ascii') as out:
         out.write('# Solutions of glpsol: side, plant file, then weights or the entries of a set. tests/evidence_solver.py makes and judges them.\n')
         for data, side, numbers in certificates:

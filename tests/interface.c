@@ -30,6 +30,46 @@ static const uint16_t weights_2_1[] = {2, 1};
 #define LIST_A 2, 2, 2, 2, 0, 1, 1, 0, 0, 1, 0, 2, 1, 1, 2, 2, 0, 1, 2, 0, 0, 1, 0, 1, 1, 0
 static const uint16_t list_a[] = {LIST_A};
 
+/* Plant A with the probe's first row written once more, behind its other row. */
+static const uint8_t twin_row[] = {2, 2, 2, 2, 0x06, 1, 0, 0x1B, 1, 0, 1, 2, 3, 0x0A, 1, 0, 0x07, 1, 0, 1, 0x0B, 0, 1, 0};
+
+/* Four machines of 255 rows and one of so many that they are so many in all, as a file and as a list; the length. The rows of a machine leave
+ * state 0, and no two of them are equal: by the state entered, by progress, and by sending type 0 or nothing. */
+static size_t file_of_rows(uint8_t *file, int rows) {
+    size_t at = 0;
+    file[at++] = 5;
+    file[at++] = 1;
+    for (int m = 0; m < 5; m++) {
+        int own = m < 4 ? 255 : rows - 4 * 255;
+        file[at++] = 64;
+        file[at++] = (uint8_t)own;
+        for (int k = 0; k < own; k++) {
+            int entered = k % 64, progress = k / 64 % 2, sends = k / 128;
+            file[at++] = (uint8_t)((entered > 0) << 1 | sends << 2 | progress << 4);
+            if (entered > 0) file[at++] = (uint8_t)entered;
+            if (sends) file[at++] = 0;
+        }
+    }
+    return at;
+}
+
+static size_t list_of_rows(uint16_t *list, int rows) {
+    size_t at = 0;
+    list[at++] = 5;
+    list[at++] = 1;
+    for (int m = 0; m < 5; m++) {
+        int own = m < 4 ? 255 : rows - 4 * 255;
+        list[at++] = 64;
+        list[at++] = (uint16_t)own;
+        for (int k = 0; k < own; k++) {
+            uint16_t row[5] = {0, (uint16_t)(k % 64), (uint16_t)(k / 128), 0, (uint16_t)(k / 64 % 2)};
+            memcpy(list + at, row, sizeof row);
+            at += 5;
+        }
+    }
+    return at;
+}
+
 /* The largest plant: 16 machines of 64 states, 64 types, 1,024 rows of four bytes. No state of a row can be left out: the first row of a
  * machine leaves state 1, and each row leaves another state than the one before it. */
 static uint8_t largest[HEMTALUQ_LONGEST_FILE + 1];
@@ -82,18 +122,9 @@ static void reading(void) {
     hemtaluq_read_answer a = {HEMTALUQ_COUNTS, 0, 2, 0, 2, 4}, most = {HEMTALUQ_COUNTS, 0, 64, 0, 16, 1024};
     const uint8_t machines_17[] = {17, 0}, states_65[] = {1, 0, 65, 0}, map[] = {1, 0, 1, 1, 0x20}, both[] = {1, 1, 1, 1, 0x0C, 0, 0};
     const uint8_t state[] = {1, 0, 2, 1, 0x01, 2}, type[] = {1, 1, 1, 1, 0x04, 1}, more[] = {1, 0, 1, 0, 0};
-    uint8_t rows[5 + 4 * 257 + 2];
-    size_t at = 0;
-    rows[at++] = 5;
-    rows[at++] = 0;
-    for (int m = 0; m < 4; m++) {
-        rows[at++] = 1;
-        rows[at++] = 255;
-        memset(rows + at, 0, 255);
-        at += 255;
-    }
-    rows[at++] = 1;
-    rows[at++] = 5;
+    static uint8_t rows[2 + 5 * 2 + 1025 * 3];
+    /* A fifth machine without rows ends with its count. */
+    size_t last_count = file_of_rows(rows, 4 * 255) - 1;
     read_is("plant A", plant_a, sizeof plant_a, a);
     read_is("the largest plant", largest, HEMTALUQ_LONGEST_FILE, most);
     read_refused("an empty file", no_bytes, 0, HEMTALUQ_FILE_ENDS, 0);
@@ -104,9 +135,43 @@ static void reading(void) {
     read_refused("bits 2 and 3", both, sizeof both, HEMTALUQ_MAP_BYTE, 4);
     read_refused("state 2 of 2", state, sizeof state, HEMTALUQ_NOT_A_STATE, 5);
     read_refused("type 1 of 1", type, sizeof type, HEMTALUQ_NOT_A_TYPE, 5);
-    read_refused("1,025 rows", rows, at, HEMTALUQ_TOTAL_ROWS, at - 1);
+    read_refused("1,025 rows", rows, file_of_rows(rows, 1025), HEMTALUQ_TOTAL_ROWS, last_count);
     read_refused("a byte too many", more, sizeof more, HEMTALUQ_BYTES_REMAIN, 4);
     read_refused("a byte after the largest plant", largest, sizeof largest, HEMTALUQ_BYTES_REMAIN, HEMTALUQ_LONGEST_FILE);
+}
+
+/* Behind a row that leaves state 1, each row differs from the one that sends type 0 and stays in state 0 in one thing: the state left, the state
+ * entered, the type, taking it, sending nothing, progress. The file and its list. */
+static const uint8_t differing[] = {1, 2, 2, 8, 0x01, 1, 0x05, 0, 0, 0x07, 1, 0, 0, 0x07, 0, 1, 0, 0x04, 1, 0x08, 0, 0x00, 0x14, 0};
+static const uint16_t differing_list[] = {1, 2, 2, 8, 1, 1, 0, 0, 0, 0, 0, 1, 0, 0, 1, 0, 1, 0, 0, 0, 1, 1, 0, 0,
+                                          0, 0, 1, 1, 0, 0, 0, 2, 0, 0, 0, 0, 0, 0, 0, 0, 0, 1, 0, 1};
+
+/* A row that equals an earlier row of its machine, as read, is refused at its map byte; the same row in another machine is not. */
+static void reading_twins(void) {
+    hemtaluq_read_answer two = {HEMTALUQ_COUNTS, 0, 0, 0, 2, 2}, eight = {HEMTALUQ_COUNTS, 0, 2, 0, 1, 8}, most = {HEMTALUQ_COUNTS, 0, 1, 0, 5, 1024};
+    const uint8_t implied[] = {1, 0, 1, 2, 0x10, 0x11, 0}, machines[] = {2, 0, 1, 1, 0x10, 1, 1, 0x10};
+    const uint8_t state[] = {1, 0, 1, 2, 0x00, 0x01, 1}, type[] = {1, 1, 1, 2, 0x04, 0, 0x04, 1}, map[] = {1, 0, 1, 2, 0x00, 0x20}, ends[] = {1, 0, 1, 2, 0x00, 0x01};
+    const uint8_t missing[] = {1, 0, 1, 3, 0x00, 0x00}, wrong[] = {1, 0, 1, 3, 0x00, 0x00, 0x20}, more[] = {1, 0, 1, 2, 0x00, 0x00, 0}, states[] = {2, 0, 1, 2, 0x00, 0x00, 0};
+    static uint8_t rows[2 + 5 * 2 + 1024 * 3];
+    /* Without rows the fifth machine has two bytes, and the last row of the fourth three. */
+    size_t last = file_of_rows(rows, 4 * 255) - 2 - 3, length = file_of_rows(rows, 1024);
+    read_refused("a twin row behind another row", twin_row, sizeof twin_row, HEMTALUQ_TWIN_ROW, 20);
+    read_refused("a twin row that leaves out another field", implied, sizeof implied, HEMTALUQ_TWIN_ROW, 5);
+    read_is("the same row in two machines", machines, sizeof machines, two);
+    read_is("rows that differ in one thing", differing, sizeof differing, eight);
+    read_refused("a wrong state of a twin row first", state, sizeof state, HEMTALUQ_NOT_A_STATE, 6);
+    read_refused("a wrong type first", type, sizeof type, HEMTALUQ_NOT_A_TYPE, 7);
+    read_refused("a wrong map byte first", map, sizeof map, HEMTALUQ_MAP_BYTE, 5);
+    read_refused("a missing field first", ends, sizeof ends, HEMTALUQ_FILE_ENDS, 6);
+    read_refused("a twin row before a missing row", missing, sizeof missing, HEMTALUQ_TWIN_ROW, 5);
+    read_refused("a twin row before a wrong map byte", wrong, sizeof wrong, HEMTALUQ_TWIN_ROW, 5);
+    read_refused("a twin row before a byte too many", more, sizeof more, HEMTALUQ_TWIN_ROW, 5);
+    read_refused("a twin row before the states of the next machine", states, sizeof states, HEMTALUQ_TWIN_ROW, 5);
+    read_is("1,024 rows, 255 of a machine leaving one state", rows, length, most);
+    /* State left and state entered 0, as the first row has them without a byte. */
+    rows[last] = 0x03;
+    rows[last + 1] = rows[last + 2] = 0;
+    read_refused("the last of 255 rows equal to the first", rows, length, HEMTALUQ_TWIN_ROW, last);
 }
 
 /* Weighs with a list of sevens and checks the answer, and that the list from `kept` on still holds sevens. */
@@ -258,21 +323,6 @@ static void changed_refused(const char *what, size_t at, uint16_t number) {
     write_refused(what, list, LENGTH(list), 20, HEMTALUQ_LIST_NUMBER, at);
 }
 
-/* Four machines of 255 rows that stay in their one state, and one of so many rows that they are so many in all; the count of numbers. */
-static size_t list_of_rows(uint16_t *list, uint16_t rows) {
-    size_t at = 0;
-    list[at++] = 5;
-    list[at++] = 0;
-    for (int m = 0; m < 5; m++) {
-        uint16_t own = m < 4 ? 255 : (uint16_t)(rows - 4 * 255);
-        list[at++] = 1;
-        list[at++] = own;
-        memset(list + at, 0, 5 * (size_t)own * sizeof *list);
-        at += 5 * (size_t)own;
-    }
-    return at;
-}
-
 static void writing(void) {
     /* Rows that stay, that leave the state of the row before, and the first row of a second machine, which leaves state 0. */
     const uint16_t left_out[] = {2, 0, 3, 4, 0, 0, 0, 0, 0, 0, 2, 0, 0, 1, 2, 2, 0, 0, 0, 2, 1, 0, 0, 0, 2, 1, 0, 1, 0, 0, 1};
@@ -281,20 +331,13 @@ static void writing(void) {
     const uint16_t machines_17[] = {17}, rows_256[] = {1, 0, 1, 256}, most[] = {65535, 65535};
     const size_t last_count = 2 + 4 * (2 + 5 * 255) + 1;
     static uint16_t rows[2 + 5 * 2 + 5 * 1025];
-    static uint8_t stays[2 + 5 * 2 + 1024];
-    size_t at = 0;
-    stays[at++] = 5;
-    stays[at++] = 0;
-    for (int m = 0; m < 5; m++) {
-        stays[at++] = 1;
-        stays[at++] = m < 4 ? 255 : 4;
-        at += stays[at - 1];
-    }
+    static uint8_t file[2 + 5 * 2 + 1024 * 3];
+    size_t length = file_of_rows(file, 1024);
     write_is("A's list, lent 20", list_a, LENGTH(list_a), sizeof plant_a, plant_a, sizeof plant_a);
     write_is("A's list, lent 30", list_a, LENGTH(list_a), 30, plant_a, sizeof plant_a);
     write_is("states left out", left_out, LENGTH(left_out), sizeof shortest, shortest, sizeof shortest);
     write_is("one state", one, LENGTH(one), 30, one_state, sizeof one_state);
-    write_is("1,024 rows of one byte", rows, list_of_rows(rows, 1024), sizeof stays, stays, sizeof stays);
+    write_is("1,024 rows, 255 of a machine leaving one state, written", rows, list_of_rows(rows, 1024), length, file, length);
     write_is("the longest list", longest_list, HEMTALUQ_LONGEST_LIST, HEMTALUQ_LONGEST_FILE, largest, HEMTALUQ_LONGEST_FILE);
     write_refused("an empty list", no_weights, 0, 20, HEMTALUQ_LIST_LENGTH, 0);
     write_refused("A's list cut", list_a, LENGTH(list_a) - 1, 20, HEMTALUQ_LIST_LENGTH, 25);
@@ -315,12 +358,49 @@ static void writing(void) {
     write_refused("a wrong number before a missing one", machines_17, LENGTH(machines_17), 20, HEMTALUQ_LIST_NUMBER, 0);
     write_refused("a wrong number before the room", most, LENGTH(most), 0, HEMTALUQ_LIST_NUMBER, 0);
     write_refused("256 rows, before they are missing", rows_256, LENGTH(rows_256), 20, HEMTALUQ_LIST_NUMBER, 3);
-    write_refused("a list of 1,025 rows, at the count", rows, list_of_rows(rows, 1025), sizeof stays, HEMTALUQ_LIST_NUMBER, last_count);
+    write_refused("a list of 1,025 rows, at the count", rows, list_of_rows(rows, 1025), length, HEMTALUQ_LIST_NUMBER, last_count);
     write_refused("a row that sends, and no types", no_types, LENGTH(no_types), 20, HEMTALUQ_LIST_NUMBER, 7);
     write_refused("kind 0 with type 1", kind_0, LENGTH(kind_0), 20, HEMTALUQ_LIST_NUMBER, 7);
     write_refused("A's list, lent 19", list_a, LENGTH(list_a), 19, HEMTALUQ_OUTPUT_ROOM, 0);
     write_refused("A's list, lent 0", list_a, LENGTH(list_a), 0, HEMTALUQ_OUTPUT_ROOM, 0);
     write_refused("the longest list, lent 4,129", longest_list, HEMTALUQ_LONGEST_LIST, HEMTALUQ_LONGEST_FILE - 1, HEMTALUQ_OUTPUT_ROOM, 0);
+}
+
+/* A row that equals an earlier row of its machine is refused at its first number; the same row in another machine is not. */
+static void writing_twins(void) {
+    const uint16_t behind[] = {2, 2, 2, 2, 0, 1, 1, 0, 0, 1, 0, 2, 1, 1, 2, 3, 0, 1, 2, 0, 0, 1, 0, 1, 1, 0, 0, 1, 2, 0, 0};
+    const uint16_t machines[] = {2, 0, 1, 1, 0, 0, 0, 0, 1, 1, 1, 0, 0, 0, 0, 1}, more[] = {1, 0, 1, 2, 0, 0, 0, 0, 0, 0, 0, 0, 0, 0, 7};
+    const uint16_t state[] = {1, 0, 1, 2, 0, 0, 0, 0, 0, 0, 1, 0, 0, 0}, progress[] = {1, 0, 1, 2, 0, 0, 0, 0, 0, 0, 0, 0, 0, 2};
+    const uint16_t next[] = {1, 0, 1, 3, 0, 0, 0, 0, 0, 0, 0, 0, 0, 0, 7}, states[] = {2, 0, 1, 2, 0, 0, 0, 0, 0, 0, 0, 0, 0, 0, 65};
+    const uint8_t two[] = {2, 0, 1, 1, 0x10, 1, 1, 0x10};
+    static uint16_t rows[2 + 5 * 2 + 5 * 1024];
+    size_t count = list_of_rows(rows, 1024), last = 2 + 4 * (2 + 5 * 255) - 5;
+    write_refused("a list with a twin row behind another row", behind, LENGTH(behind), 30, HEMTALUQ_TWIN_ROW, 26);
+    write_is("a list with the same row in two machines", machines, LENGTH(machines), sizeof two, two, sizeof two);
+    write_is("a list of rows that differ in one thing", differing_list, LENGTH(differing_list), sizeof differing, differing, sizeof differing);
+    write_refused("a wrong state of a row first", state, LENGTH(state), 20, HEMTALUQ_LIST_NUMBER, 10);
+    write_refused("a wrong fifth number first", progress, LENGTH(progress), 20, HEMTALUQ_LIST_NUMBER, 13);
+    write_refused("a missing fifth number first", progress, LENGTH(progress) - 1, 20, HEMTALUQ_LIST_LENGTH, 13);
+    write_refused("a twin row before a missing number", next, LENGTH(next) - 1, 20, HEMTALUQ_TWIN_ROW, 9);
+    write_refused("a twin row before a wrong number", next, LENGTH(next), 20, HEMTALUQ_TWIN_ROW, 9);
+    write_refused("a twin row before the next machine", states, LENGTH(states), 20, HEMTALUQ_TWIN_ROW, 9);
+    write_refused("a twin row before a number too many", more, LENGTH(more), 20, HEMTALUQ_TWIN_ROW, 9);
+    write_refused("a twin row before the room", behind, LENGTH(behind), 0, HEMTALUQ_TWIN_ROW, 26);
+    memset(rows + last, 0, 5 * sizeof *rows);
+    write_refused("the last of 255 rows equal to the first, in a list", rows, count, HEMTALUQ_LONGEST_FILE, HEMTALUQ_TWIN_ROW, last);
+}
+
+/* The other calls refuse a file with a twin row before they look at what else they are given. */
+static void refusing_twins(void) {
+    const uint16_t kept[8] = {7, 7, 7, 7, 7, 7, 7, 7};
+    hemtaluq_weigh_answer weighed = {HEMTALUQ_REFUSED, HEMTALUQ_TWIN_ROW, 20, 0, 0, 0, 0};
+    hemtaluq_quote_answer quoted = {HEMTALUQ_REFUSED, HEMTALUQ_TWIN_ROW, 0, 20, 0};
+    hemtaluq_list_answer listed = {HEMTALUQ_REFUSED, HEMTALUQ_TWIN_ROW, 20, 0};
+    hemtaluq_confirm_answer confirmed = {HEMTALUQ_REFUSED, HEMTALUQ_TWIN_ROW, 20, 0, 0};
+    weigh_is("weigh, a twin row", twin_row, sizeof twin_row, no_weights, 0, 0, weighed, 0);
+    quote_is("quote, a twin row", twin_row, sizeof twin_row, no_weights, 0, no_numbers, 0, 1000001, quoted);
+    list_is("list, a twin row", twin_row, sizeof twin_row, 2, 0, listed, kept);
+    confirm_is("confirm, a twin row", twin_row, sizeof twin_row, no_numbers, 0, confirmed);
 }
 
 /* The other calls read what was written: plant A, and then plant B, whose file is as long, into the same buffer. */
@@ -384,11 +464,14 @@ int main(void) {
     make_largest();
     make_longest_list();
     reading();
+    reading_twins();
     weighing();
     quoting();
     listing();
     confirming();
     writing();
+    writing_twins();
+    refusing_twins();
     written_is_read();
     null_pointers();
     printf("interface.c: %d checks, %d failed\n", checks, failed);

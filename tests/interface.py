@@ -32,6 +32,7 @@ RUNS = [
     ('plant_a', ['1', '3', '4'], 0, 'at most 39 steps without a fresh reading (price class 6)'),
     ('plant_b', ['1', '3', '4'], 1, 'no ceiling: these rows can go on for ever without a fresh reading: 0 1'),
     ('detour', ['1', '3', '4'], 1, 'no ceiling: these rows can go on for ever without a fresh reading: 9 13'),
+    ('twin_row', ['1', '3', '4'], 2, 'refused with 26 at 20: a row is equal to an earlier row of its machine'),
     ('plant_a', ['1', '3'], 2, 'refused with 20 at 0: there is not one content for each type'),
     ('plant_a', ['1', '0000000000000000000000000000000000000003', '04'], 0, 'at most 39 steps without a fresh reading (price class 6)'),
     ('plant_a', ['1000000', '3', '4'], 0, 'at most 9000030 steps without a fresh reading (price class 24)'),
@@ -52,6 +53,7 @@ LIST_A = '2 2 2 2 0 1 1 0 0 1 0 2 1 1 2 2 0 1 2 0 0 1 0 1 1 0'.split()
 LINES_A = '\n'.join(LIST_A)
 LIST_LENGTH = 'refused with 23 at %d: the list of numbers ends early or goes on (%s)'
 LIST_NUMBER = 'refused with 24 at %d: a number of the list is outside its values or the limits (%s)'
+TWIN_ROW = 'refused with 26 at %d: a row is equal to an earlier row of its machine (line %d; the earlier row is in line %d)'
 # The longest list, and its file: no state can be left out.
 LONGEST_LIST = ' '.join(str(x) for x in [16, 64] + ([64, 64] + [x for k in range(64) for x in ((k + 1) % 64, (k + 2) % 64, 2, k, 0)]) * 16)
 LONGEST_FILE = bytes([16, 64] + ([64, 64] + [x for k in range(64) for x in (0x0B, (k + 1) % 64, (k + 2) % 64, k)]) * 16)
@@ -66,13 +68,25 @@ def in_folder(folder, name):
         return source.read()
 
 
-# What examples/README.md shows: a row of plant A that enters a third state.
-SHOWN = in_folder('plant_a', 'plant.list.txt').replace(b'\n0 1 1 0 0 ', b'\n0 2 1 0 0 '), None, LIST_NUMBER % (5, 'line 8')
+# What examples/README.md shows: a row of plant A that enters a third state, and one that stands there twice.
+SHOWN = [(in_folder('plant_a', 'plant.list.txt').replace(b'\n0 1 1 0 0 ', b'\n0 2 1 0 0 '), None, LIST_NUMBER % (5, 'line 8')),
+         (in_folder('twin_row', 'plant.list.txt'), None, TWIN_ROW % (26, 15, 13))]
 
 
 def changed(at, word):
     """Plant A's list with another word at one place, each word on its line."""
     return '\n'.join(LIST_A[:at] + [word] + LIST_A[at + 1:])
+
+
+def twin_lists():
+    """Lists with a twin row: on the line of the earlier row, next to it and far from it; rows over five lines; the row in another machine, too."""
+    yield '1 0 1 2 0 0 0 0 0 0 0 0 0 0', None, TWIN_ROW % (9, 1, 1)
+    yield '1 0 1 2\n0 0 0 0 0\n0 0 0 0 0 7', None, TWIN_ROW % (9, 3, 2)
+    yield '1 0 1 2 0 0 0 0 0 0 0 0 0 0'.replace(' ', '\n'), None, TWIN_ROW % (9, 10, 5)
+    yield '2 0\n1 1\n0 0 0 0 0\n1 3\n0 0 0 0 0\n0 0 0 0 1\n0 0 0 0 0', None, TWIN_ROW % (21, 7, 5)
+    # The last of 64 rows is the first of its machine once more.
+    words = LONGEST_LIST.split()
+    yield '\n'.join(words[:-5] + words[-320:-315]), None, TWIN_ROW % (5149, 5150, 5150 - 315)
 
 
 def lists():
@@ -94,7 +108,8 @@ def lists():
     yield LONGEST_LIST.rpartition(' ')[0], None, LIST_LENGTH % (5153, 'after line 1')
     yield LONGEST_LIST + '\n0', None, LIST_LENGTH % (5154, 'line 2')
     yield LONGEST_LIST + 1000 * '\nabc', None, LIST_LENGTH % (5154, 'line 2')
-    yield SHOWN
+    yield from SHOWN
+    yield from twin_lists()
     yield '\n17', None, LIST_NUMBER % (0, 'line 2')
     yield changed(6, 'abc') + 10000 * '\n0', None, LIST_NUMBER % (6, 'line 7')
     # A word that is no number is wrong at every sort of place: counts, states, rows, and each number of a row.
@@ -183,11 +198,11 @@ def hold_calls(folder):
 
 
 def hold_shown():
-    """The line that examples/README.md shows is that of a run."""
+    """The lines that examples/README.md shows are those of runs."""
     with open(os.path.join(ROOT, 'examples', 'README.md'), encoding='utf-8') as source:
         shown = re.findall(r'(?m)^    (.*)$', source.read())
-    if shown != [SHOWN[2]]:
-        sys.exit('interface.py: examples/README.md shows %s, where the program prints %s' % (shown, SHOWN[2]))
+    if shown != [line for _, _, line in SHOWN]:
+        sys.exit('interface.py: examples/README.md shows %s, where the program prints %s' % (shown, [line for _, _, line in SHOWN]))
 
 
 def built(folder, name):

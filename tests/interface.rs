@@ -31,6 +31,7 @@ fn writing() {
     assert_eq!(hemtaluq::write(&LIST_A[..25]), Err(fault(23, 25)));
     assert_eq!(hemtaluq::write(&[1, 0, 1, 0, 0]), Err(fault(23, 4)));
     assert_eq!(hemtaluq::write(&[1, 0, 2, 1, 0, 2, 0, 0, 0]), Err(fault(24, 5)));
+    assert_eq!(hemtaluq::write(&[1, 0, 2, 3, 0, 1, 0, 0, 0, 1, 0, 0, 0, 0, 0, 1, 0, 0, 0]), Err(fault(26, 14)));
     let mut out = [7; 22];
     assert_eq!(hemtaluq::write_into(&LIST_A, &mut out[..19]), Err(fault(25, 0)));
     assert_eq!(out, [7; 22]);
@@ -46,7 +47,9 @@ fn writing() {
 fn main() {
     assert_eq!(hemtaluq::version(), hemtaluq::VERSION);
     assert_eq!(fault(22, 0).in_words(), "the weights do not pass");
-    assert_eq!(hemtaluq::read(&[1, 3, 1, 2, 0, 0]), Ok(Counts { machines: 1, types: 3, rows: 2 }));
+    assert_eq!(fault(26, 0).in_words(), "a row is equal to an earlier row of its machine");
+    assert_eq!(hemtaluq::read(&[1, 3, 1, 2, 0, 16]), Ok(Counts { machines: 1, types: 3, rows: 2 }));
+    assert_eq!(hemtaluq::read(&[1, 3, 1, 3, 0, 16, 1, 0]), Err(fault(26, 6)));
     assert_eq!(hemtaluq::read(&PLANT_A[..7]), Err(fault(1, 7)));
     assert_eq!(hemtaluq::weigh(&PLANT_A, &[2, 1]), Ok(Weighed::Passed { base: 10, most_states: 2, per_progress: 9 }));
     let shown = hemtaluq::weigh(&PLANT_A, &[1, 1]);

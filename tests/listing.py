@@ -16,6 +16,7 @@ import sys
 import evidence_product
 import figures
 import reading
+import weighing
 
 sys.path.append(os.path.join(figures.ROOT, 'bench'))
 import inputs
@@ -82,9 +83,22 @@ def tailed(rng):
     return ring_states + tail, [(names[a], names[b]) for a, b in rows]
 
 
+# What the rows between the same two states may be, of a plant with one type: the map byte, and the type if there is one.
+MARKS = [(3, ()), (19, ()), (7, (0,)), (11, (0,)), (23, (0,)), (27, (0,))]
+
+
+def machine_bytes(rng, states, ends):
+    """A machine with rows between these states, all different; where there is no mark left for one, it is left out."""
+    rows, free = [], {pair: rng.sample(MARKS, len(MARKS)) for pair in ends}
+    for pair in ends:
+        if free[pair]:
+            bits, field = free[pair].pop()
+            rows.append((bits, *pair, *field))
+    return [states, len(rows)] + [b for row in rows for b in row]
+
+
 def tailed_file(rng):
-    states, rows = tailed(rng)
-    return bytes([1, 0, states, len(rows)] + [x for a, b in rows for x in (3 | rng.choice([0, 16]), a, b)])
+    return bytes([1, 1] + machine_bytes(rng, *tailed(rng)))
 
 
 def plant_file(rng):
@@ -95,19 +109,18 @@ def plant_file(rng):
         count = rng.choice([0, 1, 2, 3, 5, 8, 12, 20, 48, 49])
         if count > 12 and states < 24:
             count = 8
-        data += [states, count]
-        near = rng.random() < 0.5
+        near, ends = rng.random() < 0.5, []
         for _ in range(count):
             left = rng.randrange(states)
-            entered = min(states - 1, rng.randrange(left + 2)) if near and count > 12 else rng.randrange(states)
-            data += [3 | rng.choice([0, 16, 4, 8]), left, entered]
-            data += [0] if data[-3] & 12 else []
+            ends.append((left, min(states - 1, rng.randrange(left + 2)) if near and count > 12 else rng.randrange(states)))
+        data += machine_bytes(rng, states, ends)
     return bytes(data)
 
 
 def ring(states, parallel):
-    rows = [row for s in range(states) for row in [3, s, (s + 1) % states] * parallel]
-    return bytes([1, 0, states, states * parallel] + rows)
+    """Of the rows between the same two states some differ in progress, some in the type."""
+    rows = [x for s in range(states) for j in range(parallel) for x in (7 + 16 * (j % 2), s, (s + 1) % states, j // 2)]
+    return bytes([1, parallel, states, states * parallel] + rows)
 
 
 def cases(rng):
@@ -116,14 +129,14 @@ def cases(rng):
         yield plant_a, 1, [7] * room
         yield bytes([1, 0, 2, 2, 3, 1, 1, 3, 0, 0]), 0, [7] * room
     for states, rows in ((24, 48), (25, 48), (24, 49), (25, 49)):
-        yield bytes([1, 0, states, rows] + [3, states - 1, 0] * rows), 0, [7] * 8
+        yield bytes([1, 64, states, rows] + [x for k in range(rows) for x in (7, states - 1, 0, k)]), 0, [7] * 8
     for room in (0, 161, 162, 163, 5 * 243 + 243 - 1, 5 * 243 + 243, 2000):
         yield ring(3, 3), 0, [9] * room
         yield ring(5, 3), 0, [9] * room
     for _ in range(CASES):
         data = plant_file(rng) if rng.random() < 0.9 else tailed_file(rng)
-        if rng.random() < 0.03:
-            data = reading.damaged(rng, data)
+        if rng.random() < 0.04:
+            data = weighing.spoilt(rng, data)
         machine = rng.choice([0] * 12 + [1, 1, 2, 3, 16, 4294967295])
         answer = owed(data, machine, [0] * 65535)
         if answer is None:
@@ -224,7 +237,7 @@ def compare(driver, seed):
         kind = ' '.join(answer.split()[:2]) if answer.startswith('refused') else 'entries'
         kinds[kind] = kinds.get(kind, 0) + 1
         most = max(most, int(answer.split()[1])) if kind == 'entries' else most
-    for kind in ('entries', 'refused 12', 'refused 13', 'refused 14'):
+    for kind in ('entries', 'refused 12', 'refused 13', 'refused 14', 'refused 26'):
         if kinds.get(kind, 0) < 10:
             sys.exit('listing.py: %s was met %d times only' % (kind, kinds.get(kind, 0)))
     longest = hold_times(driver)

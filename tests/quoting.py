@@ -90,8 +90,8 @@ def cases(rng):
     yield from map(input_with_ceiling, edge_ceilings())
     for _ in range(CASES):
         data = weighing.plant_file(rng)
-        if rng.random() < 0.03:
-            data = reading.damaged(rng, data)
+        if rng.random() < 0.04:
+            data = weighing.spoilt(rng, data)
         try:
             types = reading.read_plant(data)[0]
         except reading.Fault:
@@ -165,7 +165,7 @@ def compare(driver, seed):
     if printed[0] != 'ceiling 8192127513008 class 43' or printed[1] != 'ceiling 39 class 6':
         sys.exit('quoting.py: %s and %s in place of the two figures of the scope document' % tuple(printed[:2]))
     hold_classes(dict(map(int, line.split()[1::2]) for line in printed if line.startswith('ceiling')))
-    for kind in ('ceiling', 'refused 9', 'refused 10', 'refused 20', 'refused 21', 'refused 22'):
+    for kind in ('ceiling', 'refused 9', 'refused 10', 'refused 20', 'refused 21', 'refused 22', 'refused 26'):
         if kinds.get(kind, 0) < 10:
             sys.exit('quoting.py: %s was met %d times only' % (kind, kinds.get(kind, 0)))
     print('quoting.py: seed %d: %d cases, of which %d have a ceiling and %d are refused with 22' % (seed, len(given), kinds['ceiling'], kinds['refused 22']))

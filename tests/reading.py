@@ -1,15 +1,18 @@
 """Compare `read` and `decode` with a second reader, on whole, damaged and random files.
 
 The reader below was written from the scope document's section "The plant file" and its table of faults, in another
-style than the definitions: it reads a file with an iterator and raises the first fault. The C program reads files from
-its standard input and prints what the two functions answer. `tests/compiled.py` runs it.
+style than the definitions: it reads a file with an iterator and raises the first fault; a row is compared with each earlier
+row of its machine. The C program reads files from its standard input and prints what the two functions answer.
+`tests/compiled.py` runs it.
 """
+import itertools
 import random
 import struct
 import subprocess
 import sys
 
 FILES = 30000
+TRIES = 12
 
 
 # ---- the second reader
@@ -49,11 +52,15 @@ def read_plant(data):
     for m in range(machines):
         states.append(source.next(lambda b: 1 <= b <= 64, 3))
         count = source.next(lambda b: len(rows) + b <= 1024, 7)
-        previous = 0
+        previous, mine = 0, []
         for _ in range(count):
+            begins = source.at
             row = read_row(source, states[-1], types, previous)
-            rows.append((m,) + row)
+            if row in mine:
+                raise Fault(26, begins)
+            mine.append(row)
             previous = row[0]
+        rows += [(m,) + row for row in mine]
     if source.at < len(data):
         raise Fault(8, source.at)
     return types, states, rows
@@ -78,29 +85,74 @@ def expected(data):
 # ---- files
 
 def write_row(rng, states, types, previous):
+    """A row and its bytes."""
     bits = rng.choice([0, 16]) | rng.choice([0, 0, 1, 2, 3, 3])
     if types:
         bits |= rng.choice([0, 4, 8])
-    data = [bits]
-    if bits & 1:
-        previous = rng.randrange(states)
-        data.append(previous)
-    if bits & 2:
-        data.append(rng.randrange(states))
-    if bits & 12:
-        data.append(rng.randrange(types))
-    return data
+    left = rng.randrange(states) if bits & 1 else previous
+    entered = rng.randrange(states) if bits & 2 else left
+    number = rng.randrange(types) if bits & 12 else None
+    row = left, entered, number if bits & 4 else None, number if bits & 8 else None, bits > 15
+    return row, [bits] + [field for bit, field in ((1, left), (2, entered), (12, number)) if bits & bit]
+
+
+def write_rows(rng, states, types, count):
+    """The bytes of up to so many rows: one that reads as an earlier one is drawn again, and after some tries there are no more."""
+    found, previous, again = {}, 0, 0
+    while len(found) < count and again < TRIES:
+        row, data = write_row(rng, states, types, previous)
+        again = again + 1 if row in found else 0
+        if not again:
+            found[row], previous = data, row[0]
+    return list(found.values())
 
 
 def whole_file(rng, largest):
     machines, types = rng.randint(1, 16), rng.choice([0, 1, 2, 5, 64])
-    data, left = [machines, types], 1024
+    data, room = [machines, types], 1024
     for _ in range(machines):
-        states, count = rng.choice([1, 2, 3, 64]), min(left, rng.randint(0, largest))
-        left -= count
-        data += [states, count]
-        for _ in range(count):
-            data += write_row(rng, states, types, 0)
+        states = rng.choice([1, 2, 3, 64])
+        rows = write_rows(rng, states, types, min(room, rng.randint(0, largest)))
+        room -= len(rows)
+        data += [states, len(rows)] + [b for row in rows for b in row]
+    return bytes(data)
+
+
+def row_forms(row, previous):
+    """All bytes that a row can have behind one that leaves the previous state: an implied state may be written or not."""
+    left, entered, sent, taken, progress = row
+    message = [(4, sent)] * (sent is not None) + [(8, taken)] * (taken is not None)
+    for first in [(), ((1, left),)] if left == previous else [((1, left),)]:
+        for second in [(), ((2, entered),)] if entered == left else [((2, entered),)]:
+            pairs = [*first, *second, *message]
+            yield [16 * progress + sum(bit for bit, _ in pairs)] + [field for _, field in pairs]
+
+
+def put_twin(rng, machines, row):
+    """Puts a copy of a row at a later place of its machine, also in place of the last row where there is no room; where no machine has a row, this
+    row twice."""
+    chosen = rng.choice([rows for rows in machines if rows] or machines)
+    del chosen[254 if sum(map(len, machines)) < 1024 else max(1, len(chosen) - 1):]
+    chosen += [row] * (not chosen)
+    i = rng.choice([0, len(chosen) - 1, rng.randrange(len(chosen))])
+    chosen.insert(rng.choice([i + 1, len(chosen), rng.randint(i + 1, len(chosen))]), chosen[i])
+
+
+def with_twin(rng, data):
+    """A file that reads as a plant, with a row twice in one of its machines."""
+    types, states, rows = read_plant(data)
+    machines = [[row[1:] for row in rows if row[0] == m] for m in range(len(states))]
+    put_twin(rng, machines, (0, 0, None, None, False))
+    return file_of(rng, types, states, machines)
+
+
+def file_of(rng, types, states, machines):
+    """A file of these rows, each in one of its forms."""
+    data = [len(states), types]
+    for count, rows in zip(states, machines):
+        data += [count, len(rows)]
+        for previous, row in zip([0] + [row[0] for row in rows], rows):
+            data += rng.choice(list(row_forms(row, previous)))
     return bytes(data)
 
 
@@ -120,20 +172,53 @@ def damaged(rng, data):
 
 
 def shapes():
-    """One machine with 255 rows of each map byte, each with as many bytes as its bits ask for."""
+    """One machine with rows of each map byte, each with as many bytes as its bits ask for: 255 equal ones, and up to 255 different ones."""
     for bits in range(256):
-        fields = [1] * sum(1 for v in (1, 2, 4, 8) if bits & v)
-        yield bytes([1, 2, 2, 255] + ([bits] + fields) * 255)
+        count = sum(1 for v in (1, 2, 4, 8) if bits & v)
+        yield bytes([1, 2, 2, 255] + ([bits] + [1] * count) * 255)
+        rows = list(itertools.islice(itertools.product([bits], *[range(64)] * count), 255))
+        yield bytes([1, 64, 64, len(rows)] + [b for row in rows for b in row])
+
+
+def counted(*counts):
+    """Machines with so many rows, all of them different."""
+    rows = [(19 if k % 3 else 3, k // 64, k % 64) for k in range(255)]
+    return bytes([len(counts), 0] + [b for count in counts for b in [64, count] + [b for row in rows[:count] for b in row]])
+
+
+def twins_at_ends():
+    """Of a machine with 255 rows an early or a late one again, as its last row or as the next; the same in the last of 16 machines."""
+    whole = counted(255)
+    rows = [whole[k:k + 3] for k in range(4, len(whole), 3)]
+    for k in (0, 1, 252, 253):
+        for data in (rows[:254] + [rows[k]], rows[:k + 1] + [rows[k]] + rows[k + 2:]):
+            yield whole[:4] + b''.join(data)
+            yield bytes([16, 0] + [64, 0] * 15) + whole[2:4] + b''.join(data)
+
+
+def row_pairs():
+    """All files of a machine with two rows, two states and one type, and those with one row more between the two, which leaves another state than
+    the first."""
+    messages = [(None, None), (0, None), (None, 0)]
+    rows = [(left, entered) + message + (progress,) for left in (0, 1) for entered in (0, 1) for message in messages for progress in (False, True)]
+    for first, second in itertools.product(rows, repeat=2):
+        for data in row_forms(first, 0):
+            for more in row_forms(second, first[0]):
+                yield bytes([1, 1, 2, 2] + data + more)
+            for more in row_forms(second, 1 - first[0]):
+                yield bytes([1, 1, 2, 3] + data + [3, 1 - first[0], first[0]] + more)
 
 
 def edges():
-    longest = [16, 64] + sum(([64, 64] + [31 - 8, 63, 63, 63] * 64 for _ in range(16)), [])
+    longest = [16, 64] + [b for _ in range(16) for b in [64, 64] + [b for k in range(64) for b in (31 - 8, 63 - k, 63, 63)]]
     yield from (b'', b'\x00', b'\x01', b'\x11\x00', bytes([1, 65]), bytes([1, 0, 65, 0]), bytes([1, 0, 64, 0]), bytes([16, 64] + [64, 0] * 16))
     yield bytes(longest)
     yield bytes(longest) + b'\x00'
     yield bytes(longest)[:-1]
+    yield counted(255, 255, 255, 255, 4)
+    yield counted(255, 255, 255, 255, 5)
     yield bytes([5, 0] + ([1, 255] + [0] * 255) * 4 + [1, 4] + [0] * 4)
-    yield bytes([5, 0] + ([1, 255] + [0] * 255) * 4 + [1, 5] + [0] * 5)
+    yield from twins_at_ends()
     yield bytes(65536)
     yield bytes([1, 0, 1, 0]) + bytes(65532)
     yield b'\xff' * 65536
@@ -142,12 +227,16 @@ def edges():
 def files(rng):
     yield from edges()
     yield from shapes()
+    yield from row_pairs()
     for _ in range(FILES):
         kind = rng.randrange(10)
         if kind == 0:
             yield bytes(rng.choice([0, 1, 2, 3, 16, rng.randrange(256)]) for _ in range(rng.randint(0, 40)))
-        elif kind < 4:
+        elif kind < 3:
             yield whole_file(rng, rng.choice([2, 8, 80, 255]))
+        elif kind == 3:
+            data = with_twin(rng, whole_file(rng, rng.choice([2, 8, 80, 255])))
+            yield data if rng.random() < 0.5 else damaged(rng, data)
         else:
             yield damaged(rng, whole_file(rng, rng.choice([2, 8, 40])))
 
@@ -217,8 +306,8 @@ def compare(driver, seed):
         if line != other:
             sys.exit('reading.py: %s: %s, but the second reader says %s' % (case[:60].hex(' '), line, other))
     met = sorted({int(line.split()[1]) for line in owed if line.startswith('refused')})
-    if met != list(range(1, 9)):
+    if met != [*range(1, 9), 26]:
         sys.exit('reading.py: only the faults %s were met' % met)
-    print('reading.py: seed %d: %d files, of which %d read; every number from 1 to 8 was met'
-          % (seed, len(cases), sum(line.startswith('counts') for line in owed)))
+    print('reading.py: seed %d: %d files, of which %d read and %d are refused with 26; every number from 1 to 8 was met'
+          % (seed, len(cases), sum(line.startswith('counts') for line in owed), sum(line.startswith('refused 26 ') for line in owed)))
     return len(cases)

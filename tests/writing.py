@@ -1,9 +1,9 @@
 """Compare `write` with a second writer, on lists of numbers of many shapes, whole, cut off, damaged and gone on, and on buffers of many lengths.
 
 The writer below was written from request L2 of document 02, in another style than the definitions: a generator says which values the
-next number may have, and is sent the number; a row's bytes are searched, the fewest of all that read back as the row. The C program
-prints the answer and the buffer afterwards, with the bytes before and behind it. What was written is read again by the second reader
-of reading.py, row by row.
+next number may have, and is sent the number; rows are compared with those between the same two states; a row's bytes are searched, the
+fewest of all that read back as the row. The C program prints the answer and the buffer afterwards, with the bytes before and behind it.
+What was written is read again by the second reader of reading.py, row by row.
 
 That no file of the plant is shorter is held by enumeration. For plants of up to three rows all files are made that have one of the 32 map
 bytes for each row, and the row's own fields. For plants of one machine with up to two states, one type and two rows all files over the
@@ -22,6 +22,7 @@ from reading import Fault
 
 LISTS = 6000
 DRAWN = 6000
+TWINS = 200
 GUARD = 8
 WROTE = 8
 
@@ -35,12 +36,17 @@ def listed_plant():
     states, rows = [], []
     for m in range(machines):
         states.append((yield range(1, 65)))
+        between = {}
         for _ in range((yield range(min(255, 1024 - len(rows)) + 1))):
             left = yield range(states[m])
             entered = yield range(states[m])
             kind = yield range(3)
             number = yield range(types if kind else 1)
             progress = yield range(2)
+            parallel = between.setdefault((left, entered), [])
+            if (kind, number, progress) in parallel:
+                raise Fault(26, 2 + 2 * len(states) + 5 * len(rows))
+            parallel.append((kind, number, progress))
             rows.append((m, left, entered, number if kind == 1 else None, number if kind == 2 else None, progress == 1))
     return types, states, rows
 
@@ -109,14 +115,17 @@ def list_of(types, machines):
 
 
 def drawn_rows(rng, states, types, count):
-    """Rows that often leave the state that the row before leaves, or the one that it enters, and often enter the state they leave."""
-    rows, left, entered = [], 0, 0
-    for _ in range(count):
+    """Up to so many different rows that often leave the state that the row before leaves, or the one that it enters, and often enter the
+    state they leave. One that is there already is drawn again; after some tries there are no more."""
+    rows, left, entered, again = {}, 0, 0, 0
+    while len(rows) < count and again < reading.TRIES:
         left = rng.choice([left, left, entered, rng.randrange(states), rng.randrange(states)])
         entered = rng.choice([left, rng.randrange(states), rng.randrange(states)])
         kind = rng.choice([0, 1, 2]) if types else 0
-        rows.append((left, entered, kind, rng.randrange(types) if kind else 0, rng.randrange(2)))
-    return rows
+        row = left, entered, kind, rng.randrange(types) if kind else 0, rng.randrange(2)
+        again = again + 1 if row in rows else 0
+        rows[row] = True
+    return list(rows)
 
 
 def drawn_list(rng, most_machines, most_rows):
@@ -134,8 +143,33 @@ def longest_list():
 
 
 def counted_list(*counts):
-    """Machines with so many rows, all alike and written as one byte."""
-    return list_of(0, [(1, [(0, 0, 0, 0, 0)] * count) for count in counts])
+    """Machines with so many rows, all different."""
+    return list_of(0, [(64, [(k // 64 % 64, k % 64, 0, 0, k // 4096) for k in range(count)]) for count in counts])
+
+
+def twin_list(rng, numbers):
+    """A list that says a plant, with a row twice in one of its machines."""
+    types, states, rows = said(numbers)
+    machines = [[(left, entered, 1 if sent is not None else 2 if taken is not None else 0, sent or taken or 0, int(progress))
+                 for own, left, entered, sent, taken, progress in rows if own == m] for m in range(len(states))]
+    reading.put_twin(rng, machines, (0, 0, 0, 0, 0))
+    return list_of(types, list(zip(states, machines)))
+
+
+def twin_lists(rng):
+    """Lists with a row twice: whole, cut off behind it and within it, gone on, and with its numbers and those behind it changed."""
+    for i in range(TWINS):
+        numbers = twin_list(rng, drawn_list(rng, *rng.choice([(1, 2), (2, 8), (3, 12), (16, 4), (6, 255)] if i % 10 == 0 else [(1, 2), (2, 8), (3, 12)])))
+        try:
+            said(numbers)
+        except Fault as fault:
+            first = fault.args[1]
+        yield numbers
+        yield numbers + [0]
+        for end in range(first, min(len(numbers), first + 7)):
+            yield numbers[:end]
+            for other in {2, 3, 64, 65535, numbers[end] + 1} - {numbers[end]}:
+                yield numbers[:end] + [other] + numbers[end + 1:]
 
 
 def edges():
@@ -214,6 +248,8 @@ def cases(rng):
     yield [1, 0, 1, 0], lent(rng, 65536)
     for numbers in damaged_lists(rng):
         yield numbers, lent(rng, needed(numbers) - rng.choice([0, 0, 0, 0, 1, 4]))
+    for numbers in twin_lists(rng):
+        yield numbers, lent(rng, rng.choice([0, 6, 4130]))
     for i in range(LISTS):
         numbers = drawn_list(rng, *rng.choice([(1, 2), (2, 8), (16, 8), (16, 40), (6, 255)] if i % 10 == 0 else [(1, 2), (2, 8), (3, 12), (8, 4)]))
         length = needed(numbers)
@@ -235,7 +271,8 @@ def with_counts(types, states, counts):
 
 
 def small_lists(rng):
-    """All plants of up to two rows, one or two machines, up to two states and one type; some of three rows, up to three states and two types."""
+    """All plants of up to two rows, one or two machines, up to two states and one type, those with a row twice as well; some of three rows, up to
+    three states and two types."""
     for states in ((1,), (2,), (1, 1), (1, 2), (2, 1), (2, 2)):
         for counts in itertools.product(range(3), repeat=len(states)):
             if sum(counts) <= 2:
@@ -356,13 +393,13 @@ def compare(driver, seed):
     rng = random.Random(seed)
     given = list(cases(rng))
     met, written = judged(driver, given)
-    for kind in ((WROTE, 0), (0, 23), (0, 24), (0, 25)):
+    for kind in ((WROTE, 0), (0, 23), (0, 24), (0, 25), (0, 26)):
         if met.get(kind, 0) < 1000:
             sys.exit('writing.py: kind %d with number %d was met %d times only' % (*kind, met.get(kind, 0)))
     small = [(list(numbers), lent(rng, needed(numbers) + 2)) for numbers in dict.fromkeys(tuple(n) for n in small_lists(random.Random(figures.SEED)))]
     plants, files = hold_shortest(judged(driver, small)[1])
     figures.hold(small_plants=plants, small_files=files)
-    print('writing.py: seed %d: %d lists and buffers, of which %d are written, up to %d bytes, and %d, %d and %d refused with 23, 24 and 25; '
+    print('writing.py: seed %d: %d lists and buffers, of which %d are written, up to %d bytes, and %d, %d, %d and %d refused with 23, 24, 25 and 26; '
           '%d small plants, none of whose %d files is shorter than what was written'
-          % (seed, len(given), len(written), max(len(data) for _, data in written), met[0, 23], met[0, 24], met[0, 25], plants, files))
+          % (seed, len(given), len(written), max(len(data) for _, data in written), *(met[0, k] for k in (23, 24, 25, 26)), plants, files))
     return len(given) + len(small)

@@ -17,7 +17,8 @@ static const char *in_words(unsigned number) {
         "the list is too short for the cycles", "the set ends within an entry", "a number of the set is outside limits",
         "an entry of the set is no quiet cycle", "the set has no entry or more than 256", "no fault", "there is not one content for each type",
         "a content or G is not a number up to 1,000,000", "the weights do not pass", "the list of numbers ends early or goes on",
-        "a number of the list is outside its values or the limits", "the buffer is too short for the file"};
+        "a number of the list is outside its values or the limits", "the buffer is too short for the file",
+        "a row is equal to an earlier row of its machine"};
     return number < sizeof words / sizeof words[0] ? words[number] : "unknown";
 }
 

@@ -1,7 +1,7 @@
 //! Safe wrappers around the C interface of Hemtaluq: slices in, enums out.
 
 /// The version of the interface that these wrappers are written for.
-pub const VERSION: u32 = 3;
+pub const VERSION: u32 = 4;
 
 /// Bytes of the longest plant file.
 pub const LONGEST_FILE: usize = 4130;
@@ -44,6 +44,7 @@ impl Fault {
             23 => "the list of numbers ends early or goes on",
             24 => "a number of the list is outside its values or the limits",
             25 => "the buffer is too short for the file",
+            26 => "a row is equal to an earlier row of its machine",
             _ => "unknown",
         }
     }

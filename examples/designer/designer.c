@@ -7,6 +7,7 @@
  * sign. A list that cannot be opened counts as empty. The exit code is 0 for a file written, 2 for a refusal, with which PLANT is neither
  * made nor touched, 1 for a PLANT that cannot be written, and 3 for a library of another version than the header's. */
 #include <stdio.h>
+#include <string.h>
 #include "hemtaluq.h"
 
 /* A list that goes on behind its plant is refused at its first extra number, whose index is at most HEMTALUQ_LONGEST_LIST, and no number
@@ -61,11 +62,24 @@ static void load(const char *name) {
     fclose(file);
 }
 
-/* An index is hard to find in a text, so the line is told as well. A buffer for the longest file is never too short, so that 25 does not come. */
+/* A buffer for the longest file is never too short, so that 25 does not come. */
+static const char *in_words(unsigned number) {
+    if (number == HEMTALUQ_LIST_LENGTH) return "the list of numbers ends early or goes on";
+    return number == HEMTALUQ_LIST_NUMBER ? "a number of the list is outside its values or the limits" : "a row is equal to an earlier row of its machine";
+}
+
+/* The index of the row that a twin row is equal to. The call has found it among the rows of the machine, each of five numbers. */
+static size_t earlier_row(size_t place) {
+    size_t earlier = place - 5;
+    while (memcmp(numbers + earlier, numbers + place, 5 * sizeof *numbers) != 0) earlier -= 5;
+    return earlier;
+}
+
+/* An index is hard to find in a text, so the line is told as well. */
 static int refuse(unsigned number, size_t place) {
-    printf("refused with %u at %zu: %s ", number, place,
-           number == HEMTALUQ_LIST_LENGTH ? "the list of numbers ends early or goes on" : "a number of the list is outside its values or the limits");
-    if (place < count) printf("(line %zu)\n", lines[place]);
+    printf("refused with %u at %zu: %s ", number, place, in_words(number));
+    if (number == HEMTALUQ_TWIN_ROW) printf("(line %zu; the earlier row is in line %zu)\n", lines[place], lines[earlier_row(place)]);
+    else if (place < count) printf("(line %zu)\n", lines[place]);
     else if (count > 0) printf("(after line %zu)\n", lines[count - 1]);
     else printf("(no number)\n");
     return 2;

@@ -32,9 +32,16 @@ fn numbers_of(text: &[u8]) -> (Vec<u16>, Vec<usize>) {
     (numbers, lines)
 }
 
+/// The index of the row that a twin row is equal to. The call has found it among the rows of the machine, each of five numbers.
+fn earlier_row(numbers: &[u16], place: usize) -> usize {
+    let (before, behind) = numbers.split_at(place);
+    place - 5 * (1 + before.rchunks(5).take_while(|row| *row != &behind[..5]).count())
+}
+
 /// An index is hard to find in a text, so the line is told as well.
-fn refuse(fault: Fault, lines: &[usize]) -> ExitCode {
+fn refuse(fault: Fault, numbers: &[u16], lines: &[usize]) -> ExitCode {
     let line = match (lines.get(fault.place), lines.last()) {
+        (Some(line), _) if fault.number == 26 => format!("line {line}; the earlier row is in line {}", lines[earlier_row(numbers, fault.place)]),
         (Some(line), _) => format!("line {line}"),
         (None, Some(last)) => format!("after line {last}"),
         (None, None) => "no number".to_string(),
@@ -65,6 +72,6 @@ fn main() -> ExitCode {
     let (numbers, lines) = numbers_of(&std::fs::read(&arguments[1]).unwrap_or_default());
     match hemtaluq::write(&numbers) {
         Ok(file) => store(&arguments[2], &file),
-        Err(fault) => refuse(fault, &lines),
+        Err(fault) => refuse(fault, &numbers, &lines),
     }
 }

@@ -86,7 +86,7 @@ pub struct WriteAnswer {
     pub length: usize,
 }
 
-const VERSION: u32 = 3;
+const VERSION: u32 = 4;
 
 // The version of this library's interface. This export has no revision: what it means never changes.
 #[no_mangle]

@@ -86,7 +86,7 @@ first-each s at first p f =
     (λ k i q. FirstRows first (machineCount p + 1) (machineCount p + 1) q)
     (machineCount p)
     states
-    (λ k i next q r g l h. own-row first (machineCount p) q r (h .machine) g)
+    (λ k i next q r g l h fresh. own-row first (machineCount p) q r (h .machine) g)
     n
     0
     0

@@ -1,5 +1,5 @@
-// Decoding plant files into a table of rows: the rows are stored as they are read. No entry point: `weighing`, `listing` and `cycle_sets`
-// call it.
+// Decoding plant files into a table of rows: the rows are stored as they are read, and of the rows of a machine their keys are kept, so that a
+// twin is found. No entry point: `weighing`, `listing` and `cycle_sets` call it.
 ghost use mathlib.Core.Path.{_≡_};
 ghost use mathlib.Core.List.{List};
 ghost use Prim.Native.Nat.{ℕ, _+_, _≤_, _<_, min};
@@ -9,11 +9,17 @@ ghost use Rattle.plant.specs.Reading.{readPlant};
 ghost use Rattle.plant.specs.Steps.{faultFound, endFound};
 ghost use Rattle.tables.specs.Tables.{RoomFor};
 ghost use Rattle.decoding.specs.Tables.{plantOf, Ready};
-ghost use Rattle.decoding.specs.Inner.Steps.{RowsRead, MachineRead, MachinesRead};
+ghost use Rattle.decoding.specs.Inner.Steps.{RowsBefore, RowsRead, MachineRead, MachinesRead};
 use plant::End;
 use plant::Fault;
 use plant::FieldStep;
 use plant_rows::RowStep;
+
+// A machine has at most so many rows,
+const MOST_ROWS: usize = 255;
+
+// and one with few needs no long list of keys, which has to be cleared.
+const FEW_ROWS: usize = 32;
 
 // What a table of rows lacks for a plant. Machine m has the rows from first[m] up to, and not including, first[m + 1]. Entries past the counts are unused.
 pub struct Shape {
@@ -30,6 +36,13 @@ pub struct Decoded {
     pub shape: Shape,
 }
 
+// The machine of which the rows are read: its number, and its counts of states and of rows.
+struct Head {
+    machine: u8,
+    states: u8,
+    rows: usize,
+}
+
 // Where reading a machine ended, its count of states, and the count of rows up to its last.
 struct MachineEnd {
     end: End,
@@ -37,27 +50,58 @@ struct MachineEnd {
     rows: usize,
 }
 
-// `n` rows of machine `m`, from the part of the file that begins after its two bytes, stored behind the `used` rows so far.
-fn read_rows(s: &[u8], n: usize, m: u8, states: u8, types: u8, used: usize, table: &mut [u8]) -> End
-    requires { ⌜ RoomFor (min 1024 (used + length (now s))) (now table) × (used + n ≤ 1024) × (types ≤ 64) ⌝ }
-    ensures { λ r. ⌜ RowsRead n m states types used (now (s .entry)) (now (table .entry)) (now (table .exit)) r ⌝ }
+// The rows of a machine, from the part of the file that begins after its two bytes, stored behind the `used` rows so far, by way of a list that has
+// room for their keys.
+fn read_rows_in(
+    s: &[u8],
+    head: Head,
+    types: u8,
+    used: usize,
+    table: &mut [u8],
+    keys: &mut [u32],
+) -> End
+    requires { ⌜ RoomFor (min 1024 (used + length (now s))) (now table) × (used + head .rows ≤ 1024) × (types ≤ 64) ⌝ }
+    requires { ⌜ RowsBefore (head .machine) used (now table) × (head .rows ≤ length (now keys)) ⌝ }
+    ensures { λ r. ⌜ RowsRead (head .rows) (head .machine) (head .states) types used (now (s .entry)) (now (table .entry)) (now (table .exit)) r ⌝ }
 {
     let mut at = 0;
     let mut implied = 0;
+    let mut left = 0;
     let mut i = 0;
-    while i < n {
-        let step = plant_rows::row_at(s, at, states, types, implied);
-        match step {
+    while i < head.rows {
+        let step = plant_rows::row_at(s, at, head.states, types, implied);
+        let row = match step {
             RowStep::Fault(fault) => return End::Fault(fault),
-            RowStep::Value(row) => {
-                implied = row.left;
-                at = row.next;
-                tables::store_row(table, used + i, m, row);
-            }
+            RowStep::Value(fields) => fields,
+        };
+        let kept = twins::keep_row(keys, i, left, row);
+        if kept.twin {
+            return End::Fault(Fault {
+                number: 26,
+                place: at,
+            });
         }
+        left = kept.states;
+        implied = row.left;
+        at = row.next;
+        tables::store_row(table, used + i, head.machine, row);
         i += 1;
     }
     End::At(at)
+}
+
+// The same, with a list of keys of our own.
+fn read_rows(s: &[u8], head: Head, types: u8, used: usize, table: &mut [u8]) -> End
+    requires { ⌜ RoomFor (min 1024 (used + length (now s))) (now table) × (used + head .rows ≤ 1024) × (types ≤ 64) ⌝ }
+    requires { ⌜ RowsBefore (head .machine) used (now table) × (head .rows ≤ 255) ⌝ }
+    ensures { λ r. ⌜ RowsRead (head .rows) (head .machine) (head .states) types used (now (s .entry)) (now (table .entry)) (now (table .exit)) r ⌝ }
+{
+    if head.rows <= FEW_ROWS {
+        let mut keys = [0u32; FEW_ROWS];
+        return read_rows_in(s, head, types, used, table, &mut keys);
+    }
+    let mut keys = [0u32; MOST_ROWS];
+    read_rows_in(s, head, types, used, table, &mut keys)
 }
 
 // A machine whose bytes have a fault.
@@ -81,6 +125,7 @@ fn read_machine(
     table: &mut [u8],
 ) -> MachineEnd
     requires { ⌜ RoomFor (min 1024 (length (now file))) (now table) × (used ≤ 1024) × (used ≤ at) × (types ≤ 64) × (m < 16) ⌝ }
+    requires { ⌜ RowsBefore m used (now table) ⌝ }
     ensures { λ r. ⌜ MachineRead (now (file .entry)) at m types used (now (table .entry)) (now (table .exit)) r ⌝ }
 {
     let states_step = plant::states_byte(file, at);
@@ -95,7 +140,12 @@ fn read_machine(
     };
     let n = own.value as usize;
     let from = own.next;
-    let end = read_rows(&file[from..], n, m as u8, count.value, types, used, table);
+    let head = Head {
+        machine: m as u8,
+        states: count.value,
+        rows: n,
+    };
+    let end = read_rows(&file[from..], head, types, used, table);
     MachineEnd {
         end: file_ends::moved(end, from),
         states: count.value,

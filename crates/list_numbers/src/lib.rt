@@ -1,16 +1,20 @@
-// The numbers of a list that says a plant, judged: counts one by one, and the five of a row together, with their fault apart. No entry point:
-// `writing` calls it.
+// The numbers of a list that says a plant, judged: counts one by one, and the five of a row together, with their fault apart; and the row that they
+// say. No entry point: `written_rows` and `writing` call it.
 ghost use mathlib.Core.Path.{_≡_};
-ghost use mathlib.Core.Bool.{false};
-ghost use Prim.Native.Nat.{ℕ, _-_, _≤_, min};
+ghost use mathlib.Core.Bool.{false, cond};
+ghost use mathlib.Core.Option.{none, some};
+ghost use Prim.Native.Nat.{ℕ, _+_, _-_, _≤_, _<_, min};
 ghost use lib.ListN.{length};
+ghost use lib.Dec.{eqb};
 ghost use Rattle.plant.specs.Reading.{inRange};
-ghost use Rattle.plant.specs.Steps.{faultFound, fieldFound};
+ghost use Rattle.plant.specs.Steps.{faultFound, typeOf, fieldFound};
+ghost use Rattle.plant_rows.specs.Rows.{fieldsRow};
 ghost use Rattle.plant_lists.specs.Lists.{numberIn, rowsNumber, typesFor, listedRow};
-ghost use Rattle.plant_lists.specs.Inner.Rows.{numberPasses, rowPasses, numberFault};
+ghost use Rattle.plant_lists.specs.Inner.Rows.{numberPasses, rowPasses, rowListed, RowThere, numberFault};
 use plant::Fault;
 use plant::Field;
 use plant::FieldStep;
+use plant_rows::RowFields;
 
 fn in_range(x: u16, low: u16, end: u16) -> bool
     ensures { λ r. ⌜ r ≡ inRange low end x ⌝ }
@@ -140,4 +144,32 @@ pub fn row_fault(numbers: &[u16], at: usize, states: u8, types: u8) -> Fault
         return Fault { number: 24, place };
     }
     Fault { number: 23, place }
+}
+
+// The type of a row of this kind, or 64 if it is not of the kind wanted.
+fn type_if(kind: u16, wanted: u16, message: u16) -> u8
+    requires { ⌜ message < 64 ⌝ }
+    ensures { λ r. ⌜ typeOf r ≡ cond (eqb kind wanted) (some message) none ⌝ }
+{
+    if kind == wanted {
+        return message as u8;
+    }
+    64
+}
+
+// The row that the five numbers at `at` say, and the index after them.
+pub fn listed_row(numbers: &[u16], at: usize) -> RowFields
+    requires { ⌜ RowThere (now numbers) at ⌝ }
+    ensures { λ r. ⌜ ((m : ℕ) → fieldsRow m r ≡ rowListed m (now (numbers .entry)) at) × (r .next ≡ at + 5) ⌝ }
+{
+    let kind = numbers[at + 2];
+    let message = numbers[at + 3];
+    RowFields {
+        left: numbers[at] as u8,
+        entered: numbers[at + 1] as u8,
+        sent: type_if(kind, 1, message),
+        taken: type_if(kind, 2, message),
+        progress: numbers[at + 4] == 1,
+        next: at + 5,
+    }
 }

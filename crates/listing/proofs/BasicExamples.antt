@@ -54,8 +54,8 @@ loops : judged (0x01 ∷ 0x00 ∷ 0x02 ∷ 0x02 ∷ 0x03 ∷ 0x01 ∷ 0x01 ∷ 0
 unfolding byteAt byteThat byteIn mapByte stateField typeField readRow readRows rowsByte readMachine readMachines readPlant checked checkedSize checkedRoom below sum selected unleft joined paths cyclesThrough flattened
 loops = refl
 
--- Rows 0 and 1 from state 0 to 1 and row 2 back make two cycles.
-parallel-rows : judged (0x01 ∷ 0x00 ∷ 0x02 ∷ 0x03 ∷ 0x02 ∷ 0x01 ∷ 0x02 ∷ 0x01 ∷ 0x03 ∷ 0x01 ∷ 0x00 ∷ []) 0 6 ≡ found (2 ∷ 0 ∷ 2 ∷ 2 ∷ 1 ∷ 2 ∷ []) 11
+-- Rows 0 and 1 from state 0 to 1, of which one has progress, and row 2 back make two cycles.
+parallel-rows : judged (0x01 ∷ 0x00 ∷ 0x02 ∷ 0x03 ∷ 0x02 ∷ 0x01 ∷ 0x12 ∷ 0x01 ∷ 0x03 ∷ 0x01 ∷ 0x00 ∷ []) 0 6 ≡ found (2 ∷ 0 ∷ 2 ∷ 2 ∷ 1 ∷ 2 ∷ []) 11
 unfolding byteAt byteThat byteIn mapByte stateField typeField readRow readRows rowsByte readMachine readMachines readPlant checked checkedSize checkedRoom below sum selected unleft joined paths cyclesThrough flattened
 parallel-rows = refl
 
@@ -71,10 +71,10 @@ no-rows = refl
 
 -- ---- number 13
 
--- n rows from state 0 to state 1.
+-- n rows from state 0 to state 1, each of which sends another type.
 rowsBytes : ℕ → List ℕ
 rowsBytes zero = []
-rowsBytes (suc n) = 0x02 ∷ 0x01 ∷ rowsBytes n
+rowsBytes (suc n) = 0x06 ∷ 0x01 ∷ n ∷ rowsBytes n
 
 -- 25 states are too many, whatever the room; that there is no such machine comes first.
 states-25 : judged (0x01 ∷ 0x00 ∷ 0x19 ∷ 0x00 ∷ []) 0 0 ≡ fault 13 0
@@ -87,11 +87,11 @@ unfolding byteAt byteThat byteIn mapByte stateField typeField readRow readRows r
 states-25-machine-1 = refl
 
 -- 49 rows are too many.
-rows-49 : judged (0x01 ∷ 0x00 ∷ 0x02 ∷ 0x31 ∷ rowsBytes 49) 0 0 ≡ fault 13 0
+rows-49 : judged (0x01 ∷ 0x31 ∷ 0x02 ∷ 0x31 ∷ rowsBytes 49) 0 0 ≡ fault 13 0
 unfolding rowsBytes byteAt byteThat byteIn mapByte stateField typeField readRow readRows rowsByte readMachine readMachines readPlant checked checkedSize checkedRoom below sum selected unleft joined paths cyclesThrough flattened
 rows-49 = refl
 
 -- 24 states and 48 rows are not. These lead from state 0 to state 1 only, so there is no cycle.
-states-24-rows-48 : judged (0x01 ∷ 0x00 ∷ 0x18 ∷ 0x30 ∷ rowsBytes 48) 0 0 ≡ found [] 100
+states-24-rows-48 : judged (0x01 ∷ 0x31 ∷ 0x18 ∷ 0x30 ∷ rowsBytes 48) 0 0 ≡ found [] 148
 unfolding rowsBytes byteAt byteThat byteIn mapByte stateField typeField readRow readRows rowsByte readMachine readMachines readPlant checked checkedSize checkedRoom below sum selected unleft joined paths cyclesThrough flattened
 states-24-rows-48 = refl

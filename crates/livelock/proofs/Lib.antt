@@ -2,6 +2,7 @@
 pub mod BasicExamples
 pub mod ListLaws
 pub mod StoreLaws
+pub mod BitLaws
 pub mod SumLaws
 pub mod Pigeonhole
 pub mod Tests

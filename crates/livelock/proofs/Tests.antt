@@ -1,5 +1,5 @@
 -- The laws of the tests of specs/Tests, each of which is true exactly where what it tests holds; and tests of well-formedness with theirs.
-use mathlib.Core.Path.{_≡_, refl, ap}
+use mathlib.Core.Path.{_≡_, refl, sym, ap}
 use mathlib.Core.Logic.{_≢_, _↔_, Iff·trans, Iff·and}
 use mathlib.Core.Bool.{Bool, true, false, _&&_, _||_, not, false≢true}
 use mathlib.Core.Option.{Option, none, some}
@@ -45,6 +45,12 @@ at-most-iff a b = (leb-true a b, le-leb a b)
 pub implies-iff : {B : Type 0} (a b : Bool) → (b ≡ true) ↔ B → ((not a || b) ≡ true) ↔ (a ≡ true → B)
 implies-iff true b q = (λ h t. q .0 h, λ h. q .1 (h refl))
 implies-iff false b q = (λ h t. absurd (false≢true t), λ h. refl)
+
+-- Two tests that hold in the same cases are the same.
+pub same-test : (a b : Bool) → (a ≡ true) ↔ (b ≡ true) → a ≡ b
+same-test true b h = sym (h .0 refl)
+same-test false true h = h .1 refl
+same-test false false h = refl
 
 -- The test for different numbers exactly where they are.
 pub differ-iff : (a b : ℕ) → (not (eqb a b) ≡ true) ↔ (a ≢ b)

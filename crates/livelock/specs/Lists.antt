@@ -35,7 +35,7 @@ module _ {A : Type 0} where
   All F [] = Unit {0}
   All F (x ∷ xs) = F x × All F xs
 
--- No two elements are equal.
-unfoldable pub Distinct : List ℕ → Type 0
-Distinct [] = Unit {0}
-Distinct (x ∷ xs) = All (λ y. x ≢ y) xs × Distinct xs
+  -- No two elements are equal.
+  unfoldable pub Distinct : List A → Type 0
+  Distinct [] = Unit {0}
+  Distinct (x ∷ xs) = All (λ y. x ≢ y) xs × Distinct xs

@@ -1,7 +1,7 @@
 -- Files that the checker reads by the definitions alone, so that an edit of a definition is caught here first.
 use mathlib.Core.Path.{_≡_, refl}
 use mathlib.Core.Bool.{true, false}
-use mathlib.Core.Option.{none}
+use mathlib.Core.Option.{none, some}
 use mathlib.Core.List.{List, [], _∷_}
 use Prim.Native.Nat.{ℕ}
 use lib.ListN.{replicate}
@@ -123,7 +123,7 @@ bytes-remain = refl
 rows-1020 : Plant
 rows-1020 = record { types = 0; states = 1 ∷ []; rows = replicate 1020 (rowWith 0 0 0 none none false) }
 
-total-of-rows : readMachines 2 (0x01 ∷ 0x02 ∷ 0x00 ∷ 0x00 ∷ 0x01 ∷ 0x03 ∷ []) 0 rows-1020 ≡ fault 7 5
+total-of-rows : readMachines 2 (0x01 ∷ 0x02 ∷ 0x00 ∷ 0x10 ∷ 0x01 ∷ 0x03 ∷ []) 0 rows-1020 ≡ fault 7 5
 unfolding rows-1020 byteAt byteThat byteIn mapByte stateField typeField readRow readRows rowsByte readMachine readMachines
 total-of-rows = refl
 
@@ -136,6 +136,58 @@ rows-left = (refl, refl)
 most-rows : (rowsByte 769 (0xFF ∷ []) 0 ≡ found 255 1) × (rowsByte 770 (0xFF ∷ []) 0 ≡ fault 7 0)
 unfolding byteAt byteThat rowsByte
 most-rows = (refl, refl)
+
+-- ---- twin rows (document 02, L4)
+
+-- Number 26, at the map byte of the second row: the row before it, and one further back.
+twin-rows : (readPlant (0x01 ∷ 0x00 ∷ 0x01 ∷ 0x02 ∷ 0x10 ∷ 0x10 ∷ []) ≡ fault 26 5) × (readPlant (0x01 ∷ 0x00 ∷ 0x01 ∷ 0x03 ∷ 0x10 ∷ 0x00 ∷ 0x10 ∷ []) ≡ fault 26 6)
+unfolding byteAt byteThat byteIn mapByte stateField typeField readRow readRows rowsByte readMachine readMachines readPlant
+twin-rows = (refl, refl)
+
+-- However its fields were left out: state 0 written, and state 1 implied.
+twins-left-out : (readPlant (0x01 ∷ 0x00 ∷ 0x01 ∷ 0x02 ∷ 0x10 ∷ 0x13 ∷ 0x00 ∷ 0x00 ∷ []) ≡ fault 26 5)
+    × (readPlant (0x01 ∷ 0x00 ∷ 0x02 ∷ 0x02 ∷ 0x03 ∷ 0x01 ∷ 0x00 ∷ 0x02 ∷ 0x00 ∷ []) ≡ fault 26 7)
+unfolding byteAt byteThat byteIn mapByte stateField typeField readRow readRows rowsByte readMachine readMachines readPlant
+twins-left-out = (refl, refl)
+
+-- The row's own fields come first: a missing type, and type 1 of 1.
+fields-first : (readPlant (0x01 ∷ 0x01 ∷ 0x01 ∷ 0x02 ∷ 0x04 ∷ 0x00 ∷ 0x04 ∷ []) ≡ fault 1 7) × (readPlant (0x01 ∷ 0x01 ∷ 0x01 ∷ 0x02 ∷ 0x04 ∷ 0x00 ∷ 0x04 ∷ 0x01 ∷ []) ≡ fault 6 7)
+unfolding byteAt byteThat byteIn mapByte stateField typeField readRow readRows rowsByte readMachine readMachines readPlant
+fields-first = (refl, refl)
+
+-- Whatever follows comes later: a missing byte, a wrong map byte, and a byte that remains.
+twin-before-next : (readPlant (0x01 ∷ 0x00 ∷ 0x01 ∷ 0x03 ∷ 0x10 ∷ 0x10 ∷ []) ≡ fault 26 5)
+    × (readPlant (0x01 ∷ 0x00 ∷ 0x01 ∷ 0x03 ∷ 0x10 ∷ 0x10 ∷ 0xFF ∷ []) ≡ fault 26 5)
+    × (readPlant (0x01 ∷ 0x00 ∷ 0x01 ∷ 0x02 ∷ 0x10 ∷ 0x10 ∷ 0x00 ∷ []) ≡ fault 26 5)
+unfolding byteAt byteThat byteIn mapByte stateField typeField readRow readRows rowsByte readMachine readMachines readPlant
+twin-before-next = (refl, refl, refl)
+
+-- The same row in another machine is no twin.
+same-in-both : readPlant (0x02 ∷ 0x00 ∷ 0x01 ∷ 0x01 ∷ 0x10 ∷ 0x01 ∷ 0x01 ∷ 0x10 ∷ [])
+    ≡ found (record { types = 0; states = 1 ∷ 1 ∷ []; rows = rowWith 0 0 0 none none true ∷ rowWith 1 0 0 none none true ∷ [] }) 8
+unfolding byteAt byteThat byteIn mapByte stateField typeField readRow readRows rowsByte readMachine readMachines readPlant
+same-in-both = refl
+
+-- Nor is a row that differs in one field: the first leaves state 0, enters state 1 and sends type 0, and each of the others differs from it in
+-- the state left, the state entered, the type sent, that it takes the type, that it has none, and progress.
+one-field-differs : readPlant (0x01 ∷ 0x02 ∷ 0x02 ∷ 0x07 ∷ 0x06 ∷ 0x01 ∷ 0x00 ∷ 0x05 ∷ 0x01 ∷ 0x00 ∷ 0x05 ∷ 0x00 ∷ 0x00 ∷ 0x06 ∷ 0x01 ∷ 0x01 ∷ 0x0A ∷ 0x01 ∷ 0x00 ∷ 0x02 ∷ 0x01 ∷ 0x16 ∷ 0x01 ∷ 0x00 ∷ [])
+    ≡ found
+    (record {
+      types = 2;
+      states = 2 ∷ [];
+      rows =
+          rowWith 0 0 1 (some 0) none false
+          ∷ rowWith 0 1 1 (some 0) none false
+          ∷ rowWith 0 0 0 (some 0) none false
+          ∷ rowWith 0 0 1 (some 1) none false
+          ∷ rowWith 0 0 1 none (some 0) false
+          ∷ rowWith 0 0 1 none none false
+          ∷ rowWith 0 0 1 (some 0) none true
+          ∷ [];
+    })
+    24
+unfolding byteAt byteThat byteIn mapByte stateField typeField readRow readRows rowsByte readMachine readMachines readPlant
+one-field-differs = refl
 
 -- ---- limits and implied states
 

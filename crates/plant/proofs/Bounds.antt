@@ -14,7 +14,8 @@ use Rattle.livelock.proofs.Tests.{and-iff, both-iff, less-iff, at-most-iff}
 use Rattle.plant.specs.Found.{Found, found, fault, andThen}
 use Rattle.plant.specs.Reading.{byteAt, byteThat, inRange, byteIn, hasBit, isMap, mapByte, stateField, typeField, readRow}
 use Rattle.plant.specs.Reading.{withRow, readRows, rowsByte}
-use Rattle.plant.specs.Limits.{mostRowBytes, OneMessage, Placed, at-the-end, within}
+use Rattle.plant.specs.Twins.{hasTwin, unlessTwin}
+use Rattle.plant.specs.Limits.{mostRowBytes, OneMessage, Placed, at-the-end, within, at-twin}
 
 -- P of a value and the offset after it, and of a fault that it is placed in a file of n bytes.
 pub data Each {A : Type 0} (P : A → ℕ → Type 0) (n : ℕ) : Found A → Type 0 where
@@ -77,10 +78,10 @@ module _ (s : List ℕ) (at : ℕ) where
       (λ b next h. (record { inside = omega (arith, h .0, h .1); near = omega (arith, h .1) }, both-iff _ _ (at-most-iff low b) (less-iff b end) .0 (h .2)))
       (byteThat-each (inRange low end) number l u)
 
-  -- A map byte takes at most one byte of the file and has only bits that may stand.
-  pub mapByte-each : Each (λ map next. Next (length s) (at + 1) next × (isMap map ≡ true)) (length s) (mapByte s at)
+  -- A map byte lies in the file, takes at most one byte of it and has only bits that may stand.
+  pub mapByte-each : Each (λ map next. Next (length s) (at + 1) next × (isMap map ≡ true) × (at < length s)) (length s) (mapByte s at)
   unfolding mapByte
-  mapByte-each = each-weaken (λ b next h. (record { inside = omega (arith, h .0, h .1); near = omega (arith, h .1) }, h .2)) (byteThat-each isMap 4 (omega arith) (omega arith))
+  mapByte-each = each-weaken (λ b next h. (record { inside = omega (arith, h .0, h .1); near = omega (arith, h .1) }, h .2, h .0)) (byteThat-each isMap 4 (omega arith) (omega arith))
 
   -- A count of rows takes at most one byte of the file and is at most 255, and at most 1,024 with the rows before it.
   pub rowsByte-each : (used : ℕ) → Each (λ n next. Next (length s) (at + 1) next × ((n ≤ 255) × (used + n ≤ 1024))) (length s) (rowsByte used s at)
@@ -140,9 +141,9 @@ pub one-bit : (b : Bool) → cond b 1 0 ≤ 1
 one-bit true = omega arith
 one-bit false = omega arith
 
--- A row takes at most four bytes of the file and is a row of the machine, with types of the plant.
+-- A row begins in the file, takes at most four bytes of it and is a row of the machine, with types of the plant.
 pub readRow-each : (s : List ℕ) (m states types implied at : ℕ) → implied < states → at ≤ length s
-    → Each (λ r next. Next (length s) (at + mostRowBytes) next × RowIn m states types r) (length s) (readRow m states types implied s at)
+    → Each (λ r next. Next (length s) (at + mostRowBytes) next × RowIn m states types r × (at < length s)) (length s) (readRow m states types implied s at)
 unfolding readRow
 readRow-each s m states types implied at hi l =
     each-then (mapByte-each s at) λ map a ha.
@@ -156,15 +157,23 @@ readRow-each s m states types implied at hi l =
         near = omega (arith, ha .0 .near, hb .0 .near, hc .0 .near, hd .0 .near, he .0 .near, one-bit (hasBit map 1), one-bit (hasBit map 2), one-type map (ha .1));
       },
       record { machine = refl; left = hb .1; entered = hc .1; sent = hd .1; taken = he .1; one-message = one-stands map (ha .1) (hd .2) (he .2) },
+      ha .2,
     )
+
+-- What holds of every row that can be found, and that it is no twin; a twin is refused where it begins, which has to be in the file.
+pub each-unless : {P : Row → ℕ → Type 0} {n : ℕ} (earlier : List Row) (at : ℕ) {x : Found Row} → ((r : Row) (next : ℕ) → P r next → at < n) → Each P n x
+    → Each (λ r next. P r next × (hasTwin r earlier ≡ false)) n (unlessTwin earlier at x)
+each-unless earlier at inside (got {a} {next} p) = each-cond (hasTwin a earlier) (λ t. stopped (at-twin (inside a next p))) (λ t. got (p, t))
+each-unless earlier at inside (stopped h) = stopped h
 
 -- Rows keep what each row keeps. J speaks of the rows still to come, the offset and the plant so far.
 pub readRows-each : (s : List ℕ) (J : ℕ → ℕ → Plant → Type 0) (m states : ℕ)
-    → ((k at next : ℕ) (q : Plant) (r : Row) → J (suc k) at q → next ≤ at + mostRowBytes → RowIn m states (q .types) r → J k next (withRow q r))
+    → ((k at next : ℕ) (q : Plant) (r : Row) → J (suc k) at q → next ≤ at + mostRowBytes → RowIn m states (q .types) r → hasTwin r (q .rows) ≡ false
+    → J k next (withRow q r))
     → (n implied at : ℕ) (p : Plant) → implied < states → at ≤ length s → J n at p
     → Each (λ q next. (next ≤ length s) × J 0 next q) (length s) (readRows n m states implied s at p)
 unfolding readRows
 readRows-each s J m states keeps zero implied at p hi l j = got (l, j)
 readRows-each s J m states keeps (suc n) implied at p hi l j =
-    each-then (readRow-each s m states (p .types) implied at hi l) λ r next h.
-    readRows-each s J m states keeps n (r .left) next (withRow p r) (h .1 .left) (h .0 .inside) (keeps n at next p r j (h .0 .near) (h .1))
+    each-then (each-unless (p .rows) at (λ r next h. h .2) (readRow-each s m states (p .types) implied at hi l)) λ r next h.
+    readRows-each s J m states keeps n (r .left) next (withRow p r) (h .0 .1 .left) (h .0 .0 .inside) (keeps n at next p r j (h .0 .0 .near) (h .0 .1) (h .1))

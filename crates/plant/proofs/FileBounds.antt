@@ -8,13 +8,15 @@ use lib.ListN.{length, drop, length-append, length-drop, List·getD-append}
 use lib.Seq.{getD-at}
 use lib.Dec.{ltb, eqb}
 use borrow.Author.Tests.{ltb-true, ltb-false, eqb-true, ne-eqb}
-use Rattle.livelock.specs.Lists.{All, sum}
+use Rattle.livelock.specs.Lists.{All, Distinct, sum}
 use Rattle.livelock.specs.Plants.{Row, Plant, rowCount, machineCount, stateCount, RowFits, WellFormed}
 use Rattle.livelock.proofs.ListLaws.{all-append, all-weaken}
 use Rattle.livelock.proofs.SumLaws.{sum-append, sum-equal, sum-zero}
 use Rattle.plant.specs.Found.{Found, found, fault, movedBy}
 use Rattle.plant.specs.Reading.{withRow, withMachine, readMachine, readMachines, noMachines, readPlant}
-use Rattle.plant.specs.Limits.{mostRowBytes, longestFile, Ascending, rowsOf, OneMessage, WithinLimits, Placed, at-the-end, within}
+use Rattle.plant.specs.Twins.{hasTwin}
+use Rattle.plant.specs.Limits.{mostRowBytes, longestFile, Ascending, rowsOf, Numbered, OneMessage, WithinLimits, Placed, at-the-end, within, at-twin}
+use Rattle.plant.proofs.TwinLaws.{distinct-snoc}
 use Rattle.plant.proofs.Bounds.{Each, got, stopped, each-found, each-fault, each-then, each-cond, byteIn-each, rowsByte-each, one-bit, RowIn, readRows-each}
 
 -- ---- the plant while it is read
@@ -28,6 +30,7 @@ pub record Formed (at : ℕ) (p : Plant) : Type 0 where
   pub formed : WellFormed p
   pub ascending : Ascending (p .rows)
   pub one-message : All OneMessage (p .rows)
+  pub no-twins : Distinct (p .rows)
   pub bytes : at ≤ 2 + 2 * machineCount p + mostRowBytes * rowCount p
 
 -- The plant while the rows of its last machine are read, of which k are to come.
@@ -49,9 +52,9 @@ rowsOf-snoc p r m = omega (arith, sum-append (λ (q : Row). cond (eqb (q .machin
 
 -- A row more of the last machine.
 pub with-row : (m states k at next : ℕ) (p : Plant) (r : Row) → Growing m states (suc k) at p → next ≤ at + mostRowBytes → RowIn m states (p .types) r
-    → Growing m states k next (withRow p r)
+    → hasTwin r (p .rows) ≡ false → Growing m states k next (withRow p r)
 unfolding All
-with-row m states k at next p r g l i =
+with-row m states k at next p r g l i fresh =
     record {
       so-far =
           record {
@@ -62,6 +65,7 @@ with-row m states k at next p r g l i =
             formed = all-append _ (p .rows) (r ∷ []) (g .so-far .formed) (fits, tt);
             ascending = ascending-snoc (p .rows) r (g .so-far .ascending) (all-weaken (RowFits (p .types) (p .states)) _ (λ q f. omega (arith, f .machine, i .machine, g .last)) (p .rows) (g .so-far .formed));
             one-message = all-append _ (p .rows) (r ∷ []) (g .so-far .one-message) (i .one-message, tt);
+            no-twins = distinct-snoc (p .rows) r (g .so-far .no-twins) fresh;
             bytes = omega (arith, more, g .so-far .bytes);
           };
       last = g .last;
@@ -123,6 +127,7 @@ with-machine states n at next p f l hs hn =
             formed = all-weaken (RowFits (p .types) (p .states)) _ (row-kept (p .types) (p .states) states) (p .rows) (f .formed);
             ascending = f .ascending;
             one-message = f .one-message;
+            no-twins = f .no-twins;
             bytes = omega (arith, more, f .bytes);
           };
       last = more-suc;
@@ -148,6 +153,30 @@ each-moved s b l f (stopped h) = stopped (placed-moved h)
     placed-moved : {number place : ℕ} → Placed (length (drop b s)) number place → Placed (length s) number (b + place)
     placed-moved at-the-end = let e : b + length (drop b s) ≡ length s = omega (arith, length-drop b s) in rw e at-the-end
     placed-moved (within {number} {place} h u i) = let g : b + place < length s = omega (arith, length-drop b s) in within h u g
+    placed-moved (at-twin {place} i) = let g : b + place < length s = omega (arith, length-drop b s) in at-twin g
+
+-- The rows of a plant are of machines that it has, with a machine more that was read as well.
+pub machine-numbered : (s : List ℕ) (at : ℕ) (p : Plant) → Numbered p → Each (λ q next. Numbered q) (length s) (readMachine s at p)
+unfolding readMachine All
+machine-numbered s at p h =
+    each-then (byteIn-each s at 1 _ 3 (omega arith) (omega arith)) λ states a ha.
+    each-then (rowsByte-each s a (rowCount p)) λ n b hb.
+    let more : machineCount (withMachine p states) ≡ machineCount p + 1 = length-append (p .states) (states ∷ []) in
+    each-moved s b (hb .0 .inside)
+    (λ q next g. g .1 .1)
+    (readRows-each
+    (drop b s)
+    (λ k i q. (machineCount q ≡ machineCount p + 1) × Numbered q)
+    (machineCount p)
+    states
+    (λ k i next q r g l own fresh. (g .0, all-append _ (q .rows) (r ∷ []) (g .1) (omega (arith, g .0, own .machine), tt)))
+    n
+    0
+    0
+    (withMachine p states)
+    (ha .1 .0)
+    zero-le
+    (more, all-weaken (λ r. r .machine < machineCount p) _ (λ r l. omega (arith, l, more)) (p .rows) h))
 
 -- A plant of k machines.
 pub record Machines (k at : ℕ) (p : Plant) : Type 0 where
@@ -167,6 +196,7 @@ formed-limits machines p at least most m =
       rows-in-all = m .so-far .rows-in-all;
       ascending = m .so-far .ascending;
       one-message = m .so-far .one-message;
+      no-twins = m .so-far .no-twins;
     }
 
 module _ (s : List ℕ) where
@@ -205,10 +235,10 @@ module _ (s : List ℕ) where
 
   -- The plant before its first machine is one of no machines.
   pub no-machines : (at types : ℕ) → at ≤ 2 → types ≤ 64 → Machines 0 at (noMachines types)
-  unfolding All Ascending sum
+  unfolding All Ascending Distinct sum
   no-machines at types l h =
       record {
-        so-far = record { few-types = h; states = tt; rows-in-all = zero-le; rows-each = λ m. zero-le; formed = tt; ascending = tt; one-message = tt; bytes = omega arith };
+        so-far = record { few-types = h; states = tt; rows-in-all = zero-le; rows-each = λ m. zero-le; formed = tt; ascending = tt; one-message = tt; no-twins = tt; bytes = omega arith };
         number = refl;
       }
 

@@ -14,7 +14,7 @@ use Rattle.plant.specs.Reading.{byteAt, byteThat, byteIn, hasBit, mapByt
 use Rattle.plant.specs.Reading.{noMachines, withRow, withMachine, readRows, rowsByte, readMachine, readMachines, readPlant}
 use Rattle.plant.specs.Limits.{mostRowBytes, longestFile}
 use Rattle.plant.proofs.Bounds.{Each, got, stopped, byteIn-each, mapByte-each, rowsByte-each, stateField-each, typeField-each}
-use Rattle.plant.proofs.Bounds.{one-type, one-bit, readRow-each}
+use Rattle.plant.proofs.Bounds.{one-type, one-bit, readRow-each, each-unless}
 use Rattle.plant.proofs.FileBounds.{Formed, Machines, readMachine-each, readMachines-each, no-machines}
 
 -- What follows may be compared at the values that can be read.
@@ -87,8 +87,8 @@ module _ (s s′ : List ℕ) (N : ℕ) (g : Agree s s′ N) where
   readRows-same m states zero implied at p hi l = refl
   readRows-same m states (suc n) implied at p hi l =
       rw (← readRow-same m states (p .types) implied at hi (omega arith))
-      (same-then (readRow-each s m states (p .types) implied at hi (omega (arith, g .long))) λ r next h.
-      readRows-same m states n (r .left) next (withRow p r) (h .1 .left) (omega (arith, h .0 .near)))
+      (same-then (each-unless (p .rows) at (λ r next h. h .2) (readRow-each s m states (p .types) implied at hi (omega (arith, g .long)))) λ r next h.
+      readRows-same m states n (r .left) next (withRow p r) (h .0 .1 .left) (omega (arith, h .0 .0 .near)))
 
 -- ---- machines and the file
 

@@ -1,8 +1,11 @@
 -- What holds of every value that reading finds, whatever a fault says.
 use mathlib.Core.Path.{_≡_, refl, subst}
 use mathlib.Core.Bool.{Bool, true, false, cond}
+use mathlib.Core.List.{List}
 use Prim.Native.Nat.{ℕ, _+_}
+use Rattle.livelock.specs.Plants.{Row}
 use Rattle.plant.specs.Found.{Found, found, fault, andThen, movedBy}
+use Rattle.plant.specs.Twins.{hasTwin, unlessTwin}
 
 -- P of a value that was found, and the offset after it.
 pub data Gives {A : Type 0} (P : A → ℕ → Type 0) : Found A → Type 0 where
@@ -35,3 +38,9 @@ gives-cond false f g = g refl
 pub gives-moved : {A : Type 0} {P R : A → ℕ → Type 0} (b : ℕ) {x : Found A} → Gives P x → ((a : A) (next : ℕ) → P a next → R a (b + next)) → Gives R (movedBy b x)
 gives-moved b (value p) f = value (f _ _ p)
 gives-moved b no-value f = no-value
+
+-- Unless a row is a twin of an earlier one.
+pub gives-unless : {P : Row → ℕ → Type 0} (earlier : List Row) (at : ℕ) {x : Found Row} → Gives P x
+    → Gives (λ r next. P r next × (hasTwin r earlier ≡ false)) (unlessTwin earlier at x)
+gives-unless earlier at (value {a} p) = gives-cond (hasTwin a earlier) (λ t. no-value) (λ t. value (p, t))
+gives-unless earlier at no-value = no-value

@@ -3,7 +3,9 @@ pub mod BasicExamples
 pub mod Told
 pub mod Gives
 pub mod ByteLaws
+pub mod TwinLaws
 pub mod Bounds
+pub mod Takes
 pub mod FileBounds
 pub mod FirstBytes
 pub mod FileLaws

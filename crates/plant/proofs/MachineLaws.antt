@@ -9,7 +9,7 @@ use lib.Seq.{take-all}
 use Rattle.livelock.specs.Plants.{Plant, rowCount, machineCount}
 use Rattle.plant.specs.Found.{Found, found, fault, andThen, movedBy}
 use Rattle.plant.specs.Reading.{byteIn, withMachine, readRows, rowsByte, readMachine, readMachines}
-use Rattle.plant.specs.Limits.{Placed, at-the-end, within}
+use Rattle.plant.specs.Limits.{Placed, at-the-end, within, at-twin}
 use Rattle.plant.specs.Steps.{endFound}
 use Rattle.plant.specs.Steps.{offsetOf}
 use Rattle.plant.specs.declared.Fault.{Fault}
@@ -47,6 +47,7 @@ module _ (s : List ℕ) (at : ℕ) (p : Plant) where
 pub place-within : (n number place : ℕ) → Placed n number place → place ≤ n
 place-within n number place at-the-end = le-refl n
 place-within n number place (within h u l) = omega arith
+place-within n number place (at-twin l) = omega arith
 
 end-within : (J : Plant → ℕ → Type 0) (n : ℕ) (p : Plant) (e : End) → Each (λ q next. (next ≤ n) × J q next) n (endFound e p) → offsetOf e ≤ n
 end-within J n p (Ends.At next) (got h) = h .0
@@ -63,7 +64,7 @@ rows-end n m states b s p q end h e =
     (length (drop b s))
     q
     end
-    (rw (e, part-is) (readRows-each (drop b s) (λ k at q. Unit {0}) m states (λ k at next q r j l i. tt) n 0 0 p h zero-le tt)))
+    (rw (e, part-is) (readRows-each (drop b s) (λ k at q. Unit {0}) m states (λ k at next q r j l i f. tt) n 0 0 p h zero-le tt)))
 
 -- ---- what is left to read after i of n machines
 

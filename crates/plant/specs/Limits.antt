@@ -6,7 +6,7 @@ use mathlib.Core.Option.{none}
 use mathlib.Core.List.{List, [], _∷_}
 use Prim.Native.Nat.{ℕ, _+_, _*_, _≤_, _<_}
 use lib.Dec.{eqb}
-use Rattle.livelock.specs.Lists.{All, count}
+use Rattle.livelock.specs.Lists.{All, Distinct, count}
 use Rattle.livelock.specs.Plants.{Row, Plant, rowCount, machineCount, WellFormed}
 
 -- "A row is a map byte, then one byte for each field whose bit stands": the most bytes of a row. The type sent and the type taken never
@@ -32,6 +32,10 @@ rowsIn m (r ∷ rs) = cond (eqb (r .machine) m) (r ∷ rowsIn m rs) (rowsIn m rs
 abbrev pub rowsOf : Plant → ℕ → ℕ
 rowsOf p m = count (λ r. eqb (r .machine) m) (p .rows)
 
+-- "Machines … are numbered from 0": every row is of a machine that the plant has.
+abbrev pub Numbered : Plant → Type 0
+Numbered p = All (λ r. r .machine < machineCount p) (p .rows)
+
 -- "it sends one message, takes one, or does neither": not both.
 abbrev pub OneMessage : Row → Type 0
 OneMessage r = (r .sent ≡ none) ⊎ (r .taken ≡ none)
@@ -53,8 +57,12 @@ pub record WithinLimits (p : Plant) : Type 0 where
   pub ascending : Ascending (p .rows)
   -- "bits 2 and 3 never stand together"
   pub one-message : All OneMessage (p .rows)
+  -- "A row equal to an earlier row of its machine … is no longer accepted" (document 02, L4): no two rows are equal.
+  pub no-twins : Distinct (p .rows)
 
--- "the file ends before it: file length", and the place of every other fault, 2 to 8, is a byte of the file: a fault in a file of n bytes.
+-- "the file ends before it: file length", and the place of every other fault, 2 to 8 and 26, is a byte of the file: a fault in a file of n
+-- bytes.
 pub data Placed (n : ℕ) : ℕ → ℕ → Type 0 where
   at-the-end : Placed n 1 n
   within : {number place : ℕ} → 2 ≤ number → number ≤ 8 → place < n → Placed n number place
+  at-twin : {place : ℕ} → place < n → Placed n 26 place

@@ -7,6 +7,7 @@ use lib.ListN.{length, getD, drop}
 use lib.Dec.{leb, ltb, eqb}
 use Rattle.livelock.specs.Plants.{Row, Plant, rowCount, machineCount}
 use Rattle.plant.specs.Found.{Found, found, fault, andThen, movedBy}
+use Rattle.plant.specs.Twins.{unlessTwin}
 
 -- ---- bytes
 
@@ -77,11 +78,12 @@ withRow p r = record { types = p .types; states = p .states; rows = p .rows ++ (
 abbrev pub withMachine : Plant → ℕ → Plant
 withMachine p states = record { types = p .types; states = p .states ++ (states ∷ []); rows = p .rows }
 
--- "its rows": n rows of machine m, the first of which has this implied state.
+-- "its rows": n rows of machine m, the first of which has this implied state; each is no twin of an earlier one (document 02, L4).
 unfoldable pub readRows : ℕ → ℕ → ℕ → ℕ → List ℕ → ℕ → Plant → Found Plant
 readRows zero m states implied s at p = found p at
 readRows (suc n) m states implied s at p =
-    andThen (readRow m states (p .types) implied s at) (λ r next. readRows n m states (impliedLeft (some r)) s next (withRow p r))
+    andThen (unlessTwin (p .rows) at (readRow m states (p .types) implied s at))
+    (λ r next. readRows n m states (impliedLeft (some r)) s next (withRow p r))
 
 -- "one byte of rows (0 to 255)", and number 7: "total of rows so far above 1,024".
 unfoldable pub rowsByte : ℕ → List ℕ → ℕ → Found ℕ

@@ -7,7 +7,7 @@ use native.Mathlib.Omega.{arith}
 use lib.ListN.{length, drop, length-drop}
 use lib.Dec.{leb}
 use borrow.Author.Tests.{le-ltb, le-leb}
-use Rattle.livelock.specs.Lists.{All}
+use Rattle.livelock.specs.Lists.{All, Distinct}
 use Rattle.livelock.specs.Plants.{Row, Plant, rowCount, machineCount}
 use Rattle.plant.specs.Found.{found}
 use Rattle.plant.specs.Limits.{WithinLimits}
@@ -45,14 +45,14 @@ rowsByte-leaves used n s at t e few =
     byteThat-leaves s at n t e (λ n. leb n 255 && leb (used + n) 1024) 7 (rw (le-leb n 255 (few .0), le-leb (used + n) 1024 (few .1)))
 
 machine-reads : (p : Plant) (states : ℕ) (rs : List Row) → (1 ≤ states) × (states ≤ 64) → (length rs ≤ 255) × (rowCount p + length rs ≤ 1024)
-    → All (RowIn (machineCount p) states (p .types)) rs
+    → All (RowIn (machineCount p) states (p .types)) rs → Distinct (p .rows ++ rs)
     → (s : List ℕ) (at : ℕ) (t : List ℕ) → drop at s ≡ states ∷ (length rs ∷ (rowsBytes 0 rs ++ t)) → Leaves s (withRows (withMachine p states) rs) t (readMachine s at p)
 unfolding readMachine fileRows
-machine-reads p states rs size few own s at t e =
+machine-reads p states rs size few own fresh s at t e =
     leaves-then _ (byteIn-leaves s at states (length rs ∷ (rowsBytes 0 rs ++ t)) e 1 65 3 (size .0) (omega (arith, size .1))) λ a la ea.
     leaves-then _ (rowsByte-leaves (rowCount p) (length rs) s a (rowsBytes 0 rs ++ t) ea few) λ b lb eb.
     leaves-moved s b lb
-    (rows-read (fileRows (machineCount p) states) (machineCount p) states (row-reads (machineCount p) states) rs (withMachine p states) own 0 (drop b s) 0 t zero-le eb)
+    (rows-read (fileRows (machineCount p) states) (machineCount p) states (row-reads (machineCount p) states) rs (withMachine p states) own fresh 0 (drop b s) 0 t zero-le eb)
 
 module _ (p : Plant) (w : WithinLimits p) where
   file-leaves : (s : List ℕ) → s ≡ fileOf p → Leaves s p [] (readPlant s)

@@ -1,5 +1,6 @@
 -- A plant machine by machine: its first machines, and one machine more.
 use mathlib.Core.Path.{_≡_, refl, sym, _∙_, ap, subst}
+use mathlib.Core.Logic.{_≢_}
 use mathlib.Core.Bool.{Bool, true, false, cond}
 use mathlib.Core.List.{List, [], _∷_, _++_, append-assoc, append-nil}
 use Prim.Native.Nat.{ℕ, zero, suc, _+_, _≤_, _<_, zero-le}
@@ -11,7 +12,7 @@ use lib.ListN.{length, getD, take, length-take, length-append, List·getD-append
 use lib.Seq.{getD-at, take-suc, take-all}
 use lib.Dec.{ltb, eqb}
 use borrow.Author.Tests.{lt-ltb, le-ltb, eqb-true, eq-eqb, ne-eqb}
-use Rattle.livelock.specs.Lists.{All}
+use Rattle.livelock.specs.Lists.{All, Distinct}
 use Rattle.livelock.specs.Plants.{Row, Plant, machineCount, stateCount, RowFits}
 use Rattle.livelock.proofs.ListLaws.{all-append, all-weaken, all-always}
 use Rattle.plant.specs.Limits.{Ascending, OneMessage, rowsIn, WithinLimits}
@@ -46,6 +47,26 @@ few-below k (r ∷ rs) = go (ltb (r .machine) k) (few-below k rs)
     go : (b : Bool) → length (rowsBelow k rs) ≤ length rs → length (cond b (r ∷ rowsBelow k rs) (rowsBelow k rs)) ≤ suc (length rs)
     go true ih = omega (arith, ih)
     go false ih = omega (arith, ih)
+
+-- What holds of all rows holds of them,
+each-below : (F : Row → Type 0) (k : ℕ) (rs : List Row) → All F rs → All F (rowsBelow k rs)
+unfolding rowsBelow All
+each-below F k [] h = tt
+each-below F k (r ∷ rs) h = go (ltb (r .machine) k) (each-below F k rs (h .1))
+  where
+    go : (b : Bool) → All F (rowsBelow k rs) → All F (cond b (r ∷ rowsBelow k rs) (rowsBelow k rs))
+    go true ih = (h .0, ih)
+    go false ih = ih
+
+-- and where all rows are different, they are.
+pub distinct-below : (k : ℕ) (rs : List Row) → Distinct rs → Distinct (rowsBelow k rs)
+unfolding rowsBelow Distinct
+distinct-below k [] d = tt
+distinct-below k (r ∷ rs) d = go (ltb (r .machine) k) (distinct-below k rs (d .1))
+  where
+    go : (b : Bool) → Distinct (rowsBelow k rs) → Distinct (cond b (r ∷ rowsBelow k rs) (rowsBelow k rs))
+    go true ih = (each-below (λ q. r ≢ q) k rs (d .0), ih)
+    go false ih = ih
 
 -- In ascending order of their machines the rows before machine k + 1 are those before machine k and then those of k.
 pub below-next : (k : ℕ) (rs : List Row) → Ascending rs → rowsBelow (k + 1) rs ≡ rowsBelow k rs ++ rowsIn k rs

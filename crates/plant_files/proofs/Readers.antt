@@ -6,24 +6,26 @@ use native.Mathlib.Nat.{zero-add}
 use native.Mathlib.Omega.{arith}
 use lib.ListN.{length, drop, length-append}
 use lib.Seq.{append-snoc}
-use Rattle.livelock.specs.Lists.{All}
+use Rattle.livelock.specs.Lists.{All, Distinct}
 use Rattle.livelock.specs.Plants.{Row, Plant, rowCount, machineCount, stateCount}
 use Rattle.livelock.proofs.ListLaws.{all-at, all-both}
 use Rattle.plant.specs.Found.{Found, found, andThen}
+use Rattle.plant.specs.Twins.{unlessTwin}
 use Rattle.plant.specs.Limits.{rowsIn, WithinLimits}
 use Rattle.plant.specs.Reading.{withRow, withMachine, noMachines}
 use Rattle.plant.proofs.Bounds.{RowIn}
-use Rattle.plant.proofs.Gives.{Gives, value, gives-then, gives-weaken}
+use Rattle.plant.proofs.Gives.{Gives, value, gives-then, gives-weaken, gives-unless}
 use Rattle.plant.proofs.MachineRows.{rowsIn-count}
+use Rattle.plant.proofs.TwinLaws.{distinct-fresh}
 use Rattle.plant_files.specs.Files.{machineAs, machinesAs}
 use Rattle.plant_files.specs.Inner.Parts.{withRows}
-use Rattle.plant_files.proofs.Remainders.{Leaves, leaves, leaves-then}
-use Rattle.plant_files.proofs.PlantParts.{rowsBelow, few-below, below-next, rows-in, upTo, upTo-count, upTo-all, upTo-none, next-machine}
+use Rattle.plant_files.proofs.Remainders.{Leaves, leaves, leaves-then, leaves-unless}
+use Rattle.plant_files.proofs.PlantParts.{rowsBelow, few-below, distinct-below, below-next, rows-in, upTo, upTo-count, upTo-all, upTo-none, next-machine}
 use Rattle.plant_files.proofs.PlantParts.{machine-more, numbered-more}
 
 -- ---- rows
 
--- `many` reads n rows by reading one after the other with `one`, and `all` writes rows by writing one after the other with `row`. `one` gets
+-- `many` reads n rows by reading one after the other with `one`, each of which is no twin of an earlier one, and `all` writes rows by writing one after the other with `row`. `one` gets
 -- the count of types and the implied state, at which nothing looks in a list of numbers.
 pub record RowReader : Type 0 where
   pub row : ℕ → Row → List ℕ
@@ -34,24 +36,24 @@ pub record RowReader : Type 0 where
   pub all-more : (implied : ℕ) (r : Row) (rs : List Row) → all implied (r ∷ rs) ≡ row implied r ++ all (r .left) rs
   pub many-none : (implied : ℕ) (s : List ℕ) (at : ℕ) (p : Plant) → many 0 implied s at p ≡ found p at
   pub many-more : (n implied : ℕ) (s : List ℕ) (at : ℕ) (p : Plant)
-      → many (suc n) implied s at p ≡ andThen (one (p .types) implied s at) (λ r next. many n (r .left) s next (withRow p r))
+      → many (suc n) implied s at p ≡ andThen (unlessTwin (p .rows) at (one (p .types) implied s at)) (λ r next. many n (r .left) s next (withRow p r))
 
--- What is written of rows is read as those rows, if one row is.
+-- What is written of rows that are all different is read as those rows, if one row is.
 module _ (x : RowReader) (m states : ℕ)
     (one-reads : (types implied : ℕ) (r : Row) → RowIn m states types r
     → (s : List ℕ) (at : ℕ) (t : List ℕ) → drop at s ≡ x .row implied r ++ t → Leaves s r t (x .one types implied s at)) where
-  pub rows-read : (rs : List Row) (p : Plant) → All (RowIn m states (p .types)) rs → (implied : ℕ) (s : List ℕ) (at : ℕ) (t : List ℕ)
+  pub rows-read : (rs : List Row) (p : Plant) → All (RowIn m states (p .types)) rs → Distinct (p .rows ++ rs) → (implied : ℕ) (s : List ℕ) (at : ℕ) (t : List ℕ)
       → at ≤ length s → drop at s ≡ x .all implied rs ++ t → Leaves s (withRows p rs) t (x .many (length rs) implied s at p)
   unfolding All
-  rows-read [] p h implied s at t l e =
+  rows-read [] p h d implied s at t l e =
       rw (x .many-none implied s at p, append-nil (p .rows)) (leaves at l (e ∙ ap (λ (y : List ℕ). y ++ t) (x .all-none implied)))
-  rows-read (r ∷ rs) p h implied s at t l e =
+  rows-read (r ∷ rs) p h d implied s at t l e =
       rw (x .many-more (length rs) implied s at p)
-      (leaves-then _ (one-reads (p .types) implied r (h .0) s at (x .all (r .left) rs ++ t) before) λ next l′ e′.
+      (leaves-then _ (leaves-unless (p .rows) at (distinct-fresh (p .rows) r rs d) (one-reads (p .types) implied r (h .0) s at (x .all (r .left) rs ++ t) before)) λ next l′ e′.
       subst
       (λ (rows : List Row). Leaves s (record { types = p .types; states = p .states; rows = rows }) t (x .many (length rs) (r .left) s next (withRow p r)))
       (append-snoc (p .rows) r rs)
-      (rows-read rs (withRow p r) (h .1) (r .left) s next t l′ e′))
+      (rows-read rs (withRow p r) (h .1) (rw (append-snoc (p .rows) r rs) d) (r .left) s next t l′ e′))
     where
       before : drop at s ≡ x .row implied r ++ (x .all (r .left) rs ++ t)
       before = e ∙ ap (λ (y : List ℕ). y ++ t) (x .all-more implied r rs) ∙ append-assoc (x .row implied r) (x .all (r .left) rs) t
@@ -86,8 +88,8 @@ module _ (x : RowReader) (From : ℕ → List ℕ → ℕ → Type 0) (span : Sp
       }))
   rows-from (suc n) implied at p =
       rw (x .many-more n implied s at p)
-      (gives-then (one-from (p .types) implied at) λ r next h.
-      gives-weaken (λ q last g. more r next q last h g) (rows-from n (r .left) next (withRow p r)))
+      (gives-then (gives-unless (p .rows) at (one-from (p .types) implied at)) λ r next h.
+      gives-weaken (λ q last g. more r next q last (h .0) g) (rows-from n (r .left) next (withRow p r)))
     where
       more : (r : Row) (next : ℕ) (q : Plant) (last : ℕ) → (r .machine ≡ m) × From at (x .row implied r) next
           → RowsFrom From (x .all (r .left)) n m next (withRow p r) q last → RowsFrom From (x .all implied) (suc n) m at p q last
@@ -114,7 +116,7 @@ pub record MachineReader : Type 0 where
 -- machines.
 module _ (x : MachineReader) (p : Plant) (w : WithinLimits p)
     (one-reads : (q : Plant) (states : ℕ) (rs : List Row) → (1 ≤ states) × (states ≤ 64) → (length rs ≤ 255) × (rowCount q + length rs ≤ 1024)
-    → All (RowIn (machineCount q) states (q .types)) rs
+    → All (RowIn (machineCount q) states (q .types)) rs → Distinct (q .rows ++ rs)
     → (s : List ℕ) (at : ℕ) (t : List ℕ) → drop at s ≡ states ∷ (length rs ∷ (x .rows rs ++ t)) → Leaves s (withRows (withMachine q states) rs) t (x .one s at q)) where
   machines-from-k : (n k : ℕ) → k + n ≡ machineCount p → (s : List ℕ) (at : ℕ) (t : List ℕ) → at ≤ length s → drop at s ≡ machinesAs (x .rows) n k p ++ t
       → Leaves s p t (x .many n s at (upTo p k))
@@ -140,10 +142,13 @@ module _ (x : MachineReader) (p : Plant) (w : WithinLimits p)
       own : All (RowIn (machineCount (upTo p k)) (stateCount p k) (p .types)) rs
       own = rw (upTo-count p w k (omega (arith, c))) (rows-in (p .types) (p .states) k (p .rows) (all-both _ _ (p .rows) (w .formed) (w .one-message)))
 
+      fresh : Distinct (rowsBelow k (p .rows) ++ rs)
+      fresh = rw (← below-next k (p .rows) (w .ascending)) (distinct-below (k + 1) (p .rows) (w .no-twins))
+
       machine : Leaves s (upTo p (k + 1)) (machinesAs (x .rows) n (k + 1) p ++ t) (x .one s at (upTo p k))
       machine =
           subst (λ (q : Plant). Leaves s q (machinesAs (x .rows) n (k + 1) p ++ t) (x .one s at (upTo p k))) (next-machine p w k there)
-          (one-reads (upTo p k) (stateCount p k) rs (all-at _ 0 (p .states) (w .states) k there) few own s at (machinesAs (x .rows) n (k + 1) p ++ t)
+          (one-reads (upTo p k) (stateCount p k) rs (all-at _ 0 (p .states) (w .states) k there) few own fresh s at (machinesAs (x .rows) n (k + 1) p ++ t)
           (e ∙ append-assoc (machineAs (x .rows) p k) (machinesAs (x .rows) n (k + 1) p) t))
 
   pub machines-read : (s : List ℕ) (at : ℕ) → at ≤ length s → drop at s ≡ machinesAs (x .rows) (machineCount p) 0 p

@@ -1,13 +1,15 @@
 -- What reading finds in a list of which only the part from an offset on is known: a value, and the part that remains behind it.
 use mathlib.Core.Path.{_≡_, sym, _∙_, ap}
-use mathlib.Core.Bool.{Bool, true}
+use mathlib.Core.Bool.{Bool, true, false}
 use mathlib.Core.List.{List, [], _∷_}
 use Prim.Native.Nat.{ℕ, suc, _+_, _≤_, _<_}
 use native.Mathlib.Omega.{arith}
 use lib.ListN.{length, getD, drop, length-drop}
 use lib.Seq.{drop-cons, drop-drop}
 use borrow.Author.Tests.{lt-ltb, le-leb}
+use Rattle.livelock.specs.Plants.{Row}
 use Rattle.plant.specs.Found.{Found, found, andThen, movedBy}
+use Rattle.plant.specs.Twins.{hasTwin, unlessTwin}
 use Rattle.plant.specs.Reading.{byteAt, byteThat, inRange, byteIn}
 
 -- The value a is found in s, and t remains behind it.
@@ -22,6 +24,10 @@ leaves-then k (leaves next l e) f = f next l e
 -- What is found in the part of a list from an offset on is found in the list.
 pub leaves-moved : {A : Type 0} (s : List ℕ) (b : ℕ) {a : A} {t : List ℕ} {x : Found A} → b ≤ length s → Leaves (drop b s) a t x → Leaves s a t (movedBy b x)
 leaves-moved s b l (leaves next h e) = leaves (b + next) (omega (arith, length-drop b s)) (sym (drop-drop next b s) ∙ e)
+
+-- A row that is no twin.
+pub leaves-unless : {s t : List ℕ} {r : Row} (earlier : List Row) (at : ℕ) {x : Found Row} → hasTwin r earlier ≡ false → Leaves s r t x → Leaves s r t (unlessTwin earlier at x)
+leaves-unless earlier at h (leaves next l e) = rw h (leaves next l e)
 
 -- Where nothing remains, the value was found at the end.
 pub leaves-nothing : {A : Type 0} (s : List ℕ) (a : A) (x : Found A) → Leaves s a [] x → x ≡ found a (length s)

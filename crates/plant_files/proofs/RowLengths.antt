@@ -15,6 +15,7 @@ use Rattle.livelock.specs.Lists.{below}
 use Rattle.livelock.specs.Plants.{Row, rowWith}
 use Rattle.livelock.specs.Tests.{every}
 use Rattle.livelock.proofs.Tests.{and-iff, equal-iff, every-below-iff}
+use Rattle.livelock.proofs.BitLaws.{bit-same}
 use Rattle.plant.specs.Found.{found, fault, andThen}
 use Rattle.plant.specs.Reading.{byteAt, byteThat, byteIn, hasBit, isMap, mapByte, stateField, typeField, readRow}
 use Rattle.plant.proofs.Bounds.{one-bit}
@@ -155,12 +156,6 @@ readRow-is s m states types implied at =
 no-more : (stands : Bool) (state absent : ℕ) → (stands ≡ false → absent ≡ state) → cond (differs state absent) 1 0 ≤ cond stands 1 0
 no-more true state absent h = one-bit (differs state absent)
 no-more false state absent h = rw (eq-eqb state absent (sym (h refl))) (omega arith)
-
-bit-same : (a b : Bool) → _≡_ {A = ℕ} (cond a 1 0) (cond b 1 0) → a ≡ b
-bit-same true true e = refl
-bit-same true false e = absurd (omega (arith, e))
-bit-same false true e = absurd (omega (arith, e))
-bit-same false false e = refl
 
 module _ (map implied : ℕ) (r : Row) (f : Fitting map implied r) where
   left-no-more : cond (differs (r .left) implied) 1 0 ≤ cond (hasBit map 1) 1 0

@@ -1,6 +1,6 @@
 -- Lists that the checker reads by the definitions alone, so that an edit of a definition is caught here first.
 use mathlib.Core.Path.{_≡_, refl}
-use mathlib.Core.Bool.{false}
+use mathlib.Core.Bool.{true, false}
 use mathlib.Core.Option.{none}
 use mathlib.Core.List.{List, [], _∷_}
 use Prim.Native.Nat.{ℕ}
@@ -80,3 +80,24 @@ kinds = (refl, refl, refl, refl, refl, refl)
 most : listedPlant (1 ∷ 64 ∷ 64 ∷ 0 ∷ []) ≡ found (record { types = 64; states = 64 ∷ []; rows = [] }) 4
 unfolding numberThat listedRow listedRows listedMachine listedMachines listedPlant
 most = refl
+
+-- ---- twin rows (document 02, L4)
+
+-- Number 26, at the first number of the second row: the row before it, and one further back; before the next number is missed or one is extra.
+twin-rows : (listedPlant (1 ∷ 0 ∷ 1 ∷ 2 ∷ 0 ∷ 0 ∷ 0 ∷ 0 ∷ 1 ∷ 0 ∷ 0 ∷ 0 ∷ 0 ∷ 1 ∷ []) ≡ fault 26 9)
+    × (listedPlant (1 ∷ 0 ∷ 1 ∷ 3 ∷ 0 ∷ 0 ∷ 0 ∷ 0 ∷ 1 ∷ 0 ∷ 0 ∷ 0 ∷ 0 ∷ 0 ∷ 0 ∷ 0 ∷ 0 ∷ 0 ∷ 1 ∷ []) ≡ fault 26 14)
+    × (listedPlant (1 ∷ 0 ∷ 1 ∷ 3 ∷ 0 ∷ 0 ∷ 0 ∷ 0 ∷ 1 ∷ 0 ∷ 0 ∷ 0 ∷ 0 ∷ 1 ∷ []) ≡ fault 26 9)
+    × (listedPlant (1 ∷ 0 ∷ 1 ∷ 2 ∷ 0 ∷ 0 ∷ 0 ∷ 0 ∷ 1 ∷ 0 ∷ 0 ∷ 0 ∷ 0 ∷ 1 ∷ 9 ∷ []) ≡ fault 26 9)
+unfolding numberThat listedRow listedRows listedMachine listedMachines listedPlant
+twin-rows = (refl, refl, refl, refl)
+
+-- Its last number is judged first, and missed first.
+numbers-first : (listedPlant (1 ∷ 0 ∷ 1 ∷ 2 ∷ 0 ∷ 0 ∷ 0 ∷ 0 ∷ 1 ∷ 0 ∷ 0 ∷ 0 ∷ 0 ∷ 2 ∷ []) ≡ fault 24 13) × (listedPlant (1 ∷ 0 ∷ 1 ∷ 2 ∷ 0 ∷ 0 ∷ 0 ∷ 0 ∷ 1 ∷ 0 ∷ 0 ∷ 0 ∷ 0 ∷ []) ≡ fault 23 13)
+unfolding numberThat listedRow listedRows listedMachine listedMachines listedPlant
+numbers-first = (refl, refl)
+
+-- The same row in another machine is no twin.
+same-in-both : listedPlant (2 ∷ 0 ∷ 1 ∷ 1 ∷ 0 ∷ 0 ∷ 0 ∷ 0 ∷ 1 ∷ 1 ∷ 1 ∷ 0 ∷ 0 ∷ 0 ∷ 0 ∷ 1 ∷ [])
+    ≡ found (record { types = 0; states = 1 ∷ 1 ∷ []; rows = rowWith 0 0 0 none none true ∷ rowWith 1 0 0 none none true ∷ [] }) 16
+unfolding numberThat listedRow listedRows listedMachine listedMachines listedPlant
+same-in-both = refl

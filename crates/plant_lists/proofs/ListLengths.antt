@@ -9,7 +9,7 @@ use lib.Dec.{ltb, leb}
 use Rattle.livelock.specs.Plants.{Plant, rowCount, machineCount}
 use Rattle.plant.specs.Found.{Found, found, fault}
 use Rattle.plant.specs.Reading.{inRange, withRow, withMachine, noMachines}
-use Rattle.plant.proofs.Gives.{Gives, value, no-value, given-found, gives-then, gives-weaken, gives-cond}
+use Rattle.plant.proofs.Gives.{Gives, value, no-value, given-found, gives-then, gives-weaken, gives-cond, gives-unless}
 use Rattle.plant_lists.specs.Lists.{listedRows, listedMachine, listedMachines, listedPlant, longestList}
 use Rattle.plant_lists.proofs.NumberLaws.{ranged, number-is}
 use Rattle.plant_lists.proofs.RowSaid.{row-said}
@@ -31,8 +31,8 @@ rows-take : (n m states : ℕ) (s : List ℕ) (at : ℕ) (p : Plant) → Gives (
 unfolding listedRows
 rows-take zero m states s at p = value {a = p} {next = at} (omega arith, omega arith)
 rows-take (suc n) m states s at p =
-    gives-then (row-said m states (p .types) s at) λ r next h.
-    gives-weaken (λ q last g. (omega (arith, g .0, h .ends), omega (arith, g .1, length-append (p .rows) (r ∷ [])))) (rows-take n m states s next (withRow p r))
+    gives-then (gives-unless (p .rows) at (row-said m states (p .types) s at)) λ r next h.
+    gives-weaken (λ q last g. (omega (arith, g .0, h .0 .ends), omega (arith, g .1, length-append (p .rows) (r ∷ [])))) (rows-take n m states s next (withRow p r))
 
 -- A machine takes two numbers and five for each of its rows,
 machine-takes : (s : List ℕ) (at : ℕ) (p : Plant) → Gives (λ q next. next + 5 * rowCount p ≡ at + 2 + 5 * rowCount q) (listedMachine s at p)

@@ -12,7 +12,7 @@ use Rattle.plant.specs.Found.{found}
 use Rattle.plant.specs.Limits.{WithinLimits}
 use Rattle.plant.specs.Reading.{inRange, withRow, withMachine, noMachines}
 use Rattle.plant.proofs.FileBounds.{Formed, Growing, with-row, with-machine, Machines, no-machines, formed-limits}
-use Rattle.plant.proofs.Gives.{Gives, value, no-value, given-found, gives-then, gives-weaken, gives-cond}
+use Rattle.plant.proofs.Gives.{Gives, value, no-value, given-found, gives-then, gives-weaken, gives-cond, gives-unless}
 use Rattle.plant_lists.specs.Lists.{listedRows, listedMachine, listedMachines, listedPlant}
 use Rattle.plant_lists.proofs.NumberLaws.{ranged, number-is}
 use Rattle.plant_lists.proofs.RowSaid.{row-said}
@@ -22,7 +22,8 @@ rows-growing : (m states n : ℕ) (s : List ℕ) (at : ℕ) (p : Plant) → Grow
 unfolding listedRows
 rows-growing m states zero s at p g = value {next = at} g
 rows-growing m states (suc n) s at p g =
-    gives-then (row-said m states (p .types) s at) λ r next h. rows-growing m states n s next (withRow p r) (with-row m states n 0 0 p r g zero-le (h .lies))
+    gives-then (gives-unless (p .rows) at (row-said m states (p .types) s at)) λ r next h.
+    rows-growing m states n s next (withRow p r) (with-row m states n 0 0 p r g zero-le (h .0 .lies) (h .1))
 
 machine-more : (s : List ℕ) (at : ℕ) (p : Plant) → Formed 0 p → Gives (λ q next. Machines (machineCount p + 1) 0 q) (listedMachine s at p)
 unfolding listedMachine

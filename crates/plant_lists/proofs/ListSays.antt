@@ -9,7 +9,7 @@ use native.Mathlib.Omega.{arith}
 use lib.ListN.{length, drop, length-drop}
 use lib.Dec.{leb, eqb}
 use borrow.Author.Tests.{le-ltb}
-use Rattle.livelock.specs.Lists.{All}
+use Rattle.livelock.specs.Lists.{All, Distinct}
 use Rattle.livelock.specs.Plants.{Row, Plant, TypeIn, rowWith, rowCount, machineCount}
 use Rattle.livelock.proofs.Tests.{both-iff, at-most-iff}
 use Rattle.plant.specs.Found.{found}
@@ -78,13 +78,13 @@ row-says m states types r fits s at t e =
     k = kind-says types (r .sent) (r .taken) (fits .sent) (fits .taken) (fits .one-message)
 
 machine-says : (p : Plant) (states : ℕ) (rs : List Row) → (1 ≤ states) × (states ≤ 64) → (length rs ≤ 255) × (rowCount p + length rs ≤ 1024)
-    → All (RowIn (machineCount p) states (p .types)) rs
+    → All (RowIn (machineCount p) states (p .types)) rs → Distinct (p .rows ++ rs)
     → (s : List ℕ) (at : ℕ) (t : List ℕ) → drop at s ≡ states ∷ (length rs ∷ (rowsNumbers rs ++ t)) → Leaves s (withRows (withMachine p states) rs) t (listedMachine s at p)
 unfolding listedMachine listRows
-machine-says p states rs size few own s at t e =
+machine-says p states rs size few own fresh s at t e =
     leaves-then _ (number-leaves s at states _ e (inRange 1 65) (in-range 1 65 states (size .0) (omega (arith, size .1)))) λ a la ea.
     leaves-then _ (number-leaves s a (length rs) _ ea (λ n. leb n 255 && leb (rowCount p + n) 1024) (both-iff _ _ (at-most-iff (length rs) 255) (at-most-iff (rowCount p + length rs) 1024) .1 few)) λ b lb eb.
-    rows-read (listRows (machineCount p) states) (machineCount p) states (λ types implied r. row-says (machineCount p) states types r) rs (withMachine p states) own 0 s b t lb eb
+    rows-read (listRows (machineCount p) states) (machineCount p) states (λ types implied r. row-says (machineCount p) states types r) rs (withMachine p states) own fresh 0 s b t lb eb
 
 module _ (p : Plant) (w : WithinLimits p) where
   list-leaves : (s : List ℕ) → s ≡ listOf p → Leaves s p [] (listedPlant s)

@@ -1,4 +1,4 @@
--- The writer's list of numbers (document 02, L2): what it says, and numbers 23 and 24.
+-- The writer's list of numbers (document 02, L2 and L4): what it says, and numbers 23, 24 and 26.
 use mathlib.Core.Bool.{Bool, _&&_, cond}
 use mathlib.Core.Option.{Option, none, some}
 use mathlib.Core.List.{List, [], _∷_, _++_}
@@ -7,6 +7,7 @@ use lib.ListN.{length, getD}
 use lib.Dec.{leb, ltb, eqb}
 use Rattle.livelock.specs.Plants.{Row, Plant, rowWith, rowCount, machineCount}
 use Rattle.plant.specs.Found.{Found, found, fault, andThen}
+use Rattle.plant.specs.Twins.{unlessTwin}
 use Rattle.plant.specs.Reading.{inRange, withRow, withMachine, noMachines}
 use Rattle.plant_files.specs.Files.{plantAs}
 
@@ -50,11 +51,11 @@ listedRow m states types s at =
     andThen (numberIn 0 2 s d) (λ progress e.
     found (rowWith m left entered (sentBy kind type) (takenBy kind type) (eqb progress 1)) e)))))
 
--- n rows of machine m.
+-- n rows of machine m; each is no twin of an earlier one (document 02, L4).
 unfoldable pub listedRows : ℕ → ℕ → ℕ → List ℕ → ℕ → Plant → Found Plant
 listedRows zero m states s at p = found p at
 listedRows (suc n) m states s at p =
-    andThen (listedRow m states (p .types) s at) (λ r next. listedRows n m states s next (withRow p r))
+    andThen (unlessTwin (p .rows) at (listedRow m states (p .types) s at)) (λ r next. listedRows n m states s next (withRow p r))
 
 -- ---- machines and the list
 

@@ -1,9 +1,9 @@
 -- Laws of reading without a table: what is kept of a part that was read, and of what the parts make.
 --
--- No plant is stored, so the loops say that there is one: a plant with the counts so far, from which what is left to read gives
--- what the whole gives. A row or a machine that was read gives the next such plant, and at the end it is the plant of the
+-- No plant is stored, so the loops say that there is one: a plant with the counts so far, of which the keys are kept, from which what is left to
+-- read gives what the whole gives. A row or a machine that was read gives the next such plant, and at the end it is the plant of the
 -- definition, with the counts that were kept. Where a fault was found, no plant is needed.
-use mathlib.Core.Path.{_≡_, refl, subst}
+use mathlib.Core.Path.{_≡_, refl, sym, _∙_, subst}
 use mathlib.Core.Bool.{true, false, true≢false}
 use mathlib.Core.List.{List, [], _∷_}
 use Prim.Native.Nat.{ℕ, _+_, _-_, _≤_, _<_, zero-le}
@@ -14,15 +14,22 @@ use Rattle.livelock.specs.Plants.{Row, Plant, rowCount, machineCount}
 use Rattle.plant.specs.Found.{Found, found, fault, andThen, movedBy}
 use Rattle.plant.specs.Reading.{byteIn, withRow, withMachine, noMachines, readRow, readRows, rowsByte, readMachine, readMachines, fileEnd, readPlant}
 use Rattle.reading.specs.Answers.{counts, refused, countsOf}
-use Rattle.plant.specs.Steps.{faultFound}
-use Rattle.plant.specs.Steps.{endFound}
-use Rattle.plant.specs.Steps.{offsetOf}
+use Rattle.plant.specs.Limits.{rowsIn, Numbered}
+use Rattle.plant.specs.Steps.{faultFound, endFound, offsetOf}
+use Rattle.plant_rows.specs.Rows.{fieldsRow}
+use Rattle.plant_rows.specs.declared.RowFields.{RowFields}
+use Rattle.twins.specs.Keys.{RowsKept, RowKept}
+use Rattle.twins.specs.declared.Keeping.{Keeping}
 use Rattle.reading.specs.Inner.Counting.{Counts, Counted, at-end, at-fault}
 use Rattle.plant.specs.declared.Fault.{Fault}
 use Rattle.plant.specs.declared.End.{End}
 use Rattle.plant.specs.declared.End.the-variants as Ends
-use Rattle.plant.proofs.Bounds.{Each, got, stopped, readRows-each}
-use Rattle.plant.proofs.RowLaws.{row-stops, row-goes-on, rows-done}
+use Rattle.livelock.specs.Lists.{All}
+use Rattle.plant.proofs.Bounds.{Each, got, stopped, each-found, readRows-each}
+use Rattle.plant.proofs.FileBounds.{machine-numbered}
+use Rattle.plant.proofs.MachineRows.{rowsIn-next}
+use Rattle.plant.proofs.RowLaws.{row-stops, row-is-twin, row-goes-on, rows-done}
+use Rattle.twins.proofs.KeyLaws.{none-kept}
 use Rattle.plant.proofs.MachineLaws.{part-is, place-within, machine-stops, machine-goes-on, machines-done, machine-read}
 use Rattle.plant.proofs.PlantLaws.{file-read}
 
@@ -79,44 +86,57 @@ module _ (machines types rows : ℕ) where
 
 -- ---- rows
 
--- After i of n rows: a plant with i rows more, from which what is left to read gives what the whole gives.
-pub record RowsLeft (n m states types : ℕ) (s : List ℕ) (p : Plant) (at implied i : ℕ) : Type 0 where
+-- After i of n rows, which are kept: a plant with i rows more, from which what is left to read gives what the whole gives.
+pub record RowsLeft (n m states types : ℕ) (s : List ℕ) (p : Plant) (keys : List ℕ) (at implied left i : ℕ) : Type 0 where
   pub plant : Plant
   pub counts : Counts plant (machineCount p) types (rowCount p + i)
+  pub rows-kept : RowsKept m i (plant .rows) keys left
   pub rest : readRows (n - i) m states implied s at plant ≡ readRows n m states 0 s 0 p
 
 module _ (n m states types : ℕ) (s : List ℕ) (p : Plant) where
   -- Before the first row it is the plant given.
-  pub rows-begin : p .types ≡ types → RowsLeft n m states types s p 0 0 0
-  rows-begin t = record { plant = p; counts = record { machines = refl; types = t; rows = omega arith }; rest = rw sub-zero }
+  pub rows-begin : (keys : List ℕ) → p .types ≡ types → rowsIn m (p .rows) ≡ [] → RowsLeft n m states types s p keys 0 0 0 0
+  rows-begin keys t none =
+      record { plant = p; counts = record { machines = refl; types = t; rows = omega arith }; rows-kept = none-kept m (p .rows) keys none; rest = rw sub-zero }
 
-  module _ (at implied i : ℕ) (left : RowsLeft n m states types s p at implied i) where
+  module _ (keys : List ℕ) (at implied left i : ℕ) (g : RowsLeft n m states types s p keys at implied left i) where
     -- The row at `at`, with the types of the plant so far.
-    row-is : (x : Found Row) → readRow m states types implied s at ≡ x → readRow m states (left .plant .types) implied s at ≡ x
-    row-is x e = rw (left .counts .types) e
+    row-is : (x : Found Row) → readRow m states types implied s at ≡ x → readRow m states (g .plant .types) implied s at ≡ x
+    row-is x e = rw (g .counts .types) e
 
     -- A fault of the next row is kept as that of all the rows,
     pub rows-stop : i < n → (f : Fault) → readRow m states types implied s at ≡ faultFound f
         → Counted (machineCount p) types (rowCount p + n) (readRows n m states 0 s 0 p) (Ends.Fault f)
-    rows-stop more f e = fault-kept _ _ _ _ f (row-stops m states implied at s n i _ more (left .plant) _ _ (row-is _ e) (left .rest))
+    rows-stop more f e = fault-kept _ _ _ _ f (row-stops m states implied at s n i _ more (g .plant) _ _ (row-is _ e) (g .rest))
 
-    -- a row that was read gives such a plant with one row more,
-    pub rows-go-on : i < n → (r : Row) (next : ℕ) → readRow m states types implied s at ≡ found r next → RowsLeft n m states types s p next (r .left) (i + 1)
-    rows-go-on more r next e =
-        let h = left .counts in
-        record {
-          plant = withRow (left .plant) r;
-          counts = record { machines = h .machines; types = h .types; rows = omega (arith, length-append (left .plant .rows) (r ∷ []), h .rows) };
-          rest = row-goes-on m states implied at s n i _ more (left .plant) _ r next (row-is _ e) refl (left .rest);
-        }
+    module _ (f : RowFields) (next : ℕ) (e : readRow m states types implied s at ≡ found (fieldsRow m f) next) (after : List ℕ) (k : Keeping) (h : RowKept i f left keys after k) where
+      -- so is 26 where it begins, if it is told to be a twin;
+      pub rows-twin : i < n → k .twin ≡ true
+          → Counted (machineCount p) types (rowCount p + n) (readRows n m states 0 s 0 p) (Ends.Fault (record { number = 26; place = at }))
+      rows-twin more t =
+          fault-kept _ _ _ _ (record { number = 26; place = at })
+          (row-is-twin m states implied at s n i _ more (g .plant) _ next (row-is _ e) (sym (h .told m (g .plant .rows) (g .rows-kept)) ∙ t) (g .rest))
+
+      -- a row that is told to be none gives such a plant with one row more,
+      pub rows-go-on : i < n → k .twin ≡ false → RowsLeft n m states types s p after next (f .left) (k .states) (i + 1)
+      rows-go-on more t =
+          let c = g .counts in
+          record {
+            plant = withRow (g .plant) (fieldsRow m f);
+            counts = record { machines = c .machines; types = c .types; rows = omega (arith, length-append (g .plant .rows) (fieldsRow m f ∷ []), c .rows) };
+            rows-kept = h .kept m (g .plant .rows) (g .rows-kept) t;
+            rest =
+                row-goes-on m states implied at s n i _ more (g .plant) _ (fieldsRow m f) next (row-is _ e)
+                (sym (h .told m (g .plant .rows) (g .rows-kept)) ∙ t) refl (g .rest);
+          }
 
     -- and after the last row the offset and the counts are kept.
     pub rows-end : i ≤ n → n ≤ i → Counted (machineCount p) types (rowCount p + n) (readRows n m states 0 s 0 p) (Ends.At at)
     rows-end within done =
-        let h = left .counts in
-        kept _ _ _ _ (Ends.At at) (left .plant)
+        let h = g .counts in
+        kept _ _ _ _ (Ends.At at) (g .plant)
         (record { machines = h .machines; types = h .types; rows = omega (arith, h .rows) })
-        (rows-done m states implied at s n i _ (left .plant) done (left .rest))
+        (rows-done m states implied at s n i _ (g .plant) done (g .rest))
 
 -- ---- one machine
 
@@ -127,11 +147,11 @@ module _ (s : List ℕ) (at : ℕ) (p : Plant) (used states a : ℕ) (u : rowCou
   machine-is n b f = machine-read s at p used states a u e (machineCount p) n b _ (withMachine p states) refl f refl refl
 
   -- What is kept of its rows is kept of the machine, with the offset counted from the start of the file.
-  pub machine-kept : (types n b : ℕ) (inner r : End) → rowsByte used s a ≡ found n b → p .types ≡ types
-      → ((m : ℕ) (q : Plant) → q .types ≡ types → Counted (machineCount q) types (rowCount q + n) (readRows n m states 0 (take (length s - b) (drop b s)) 0 q) inner)
+  pub machine-kept : (types n b : ℕ) (inner r : End) → rowsByte used s a ≡ found n b → p .types ≡ types → Numbered p
+      → ((m : ℕ) (q : Plant) → q .types ≡ types → rowsIn m (q .rows) ≡ [] → Counted (machineCount q) types (rowCount q + n) (readRows n m states 0 (take (length s - b) (drop b s)) 0 q) inner)
       → ((q : Plant) → endFound r q ≡ movedBy b (endFound inner q)) → Counted (machineCount p + 1) types (used + n) (readMachine s at p) r
-  machine-kept types n b inner r f t rows moves =
-      let h = rows (machineCount p) (withMachine p states) t in
+  machine-kept types n b inner r f t numbered rows moves =
+      let h = rows (machineCount p) (withMachine p states) t (rowsIn-next p numbered) in
       rw (← machine-is n b f, ← u, ← length-append (p .states) (states ∷ [])) (moved-kept _ _ _ b _ inner r h moves)
 
 -- Reading rows in the part from b on ends in that part.
@@ -149,7 +169,7 @@ rows-within n m states k types rows b s p e h c =
     (readRows n m states 0 (drop b s) 0 p)
     e
     (rw part-is at c)
-    (readRows-each (drop b s) (λ j at q. Unit {0}) m states (λ j at next q r i l f. tt) n 0 0 p h zero-le tt))
+    (readRows-each (drop b s) (λ j at q. Unit {0}) m states (λ j at next q r i l f t. tt) n 0 0 p h zero-le tt))
 
 -- ---- machines
 
@@ -157,12 +177,14 @@ rows-within n m states k types rows b s p e h c =
 pub record MachinesLeft (n from types : ℕ) (s : List ℕ) (at rows i : ℕ) : Type 0 where
   pub plant : Plant
   pub counts : Counts plant i types rows
+  pub numbered : Numbered plant
   pub rest : readMachines (n - i) s at plant ≡ readMachines n s from (noMachines types)
 
 module _ (n from types : ℕ) (s : List ℕ) where
   -- Before the first machine it is the plant without machines.
   pub machines-begin : MachinesLeft n from types s from 0 0
-  machines-begin = record { plant = noMachines types; counts = record { machines = refl; types = refl; rows = refl }; rest = rw sub-zero }
+  unfolding All
+  machines-begin = record { plant = noMachines types; counts = record { machines = refl; types = refl; rows = refl }; numbered = tt; rest = rw sub-zero }
 
   module _ (at rows i : ℕ) (left : MachinesLeft n from types s at rows i) where
     module _ (more : i < n) (k : ℕ) (e : End) (h : Counted (machineCount (left .plant) + 1) types k (readMachine s at (left .plant)) e) where
@@ -180,6 +202,7 @@ module _ (n from types : ℕ) (s : List ℕ) where
           record {
             plant = w .0;
             counts = record { machines = omega (arith, c .machines, left .counts .machines); types = c .types; rows = c .rows };
+            numbered = each-found (w .0) next (machine-numbered s at (left .plant) (left .numbered)) (w .1 .0);
             rest = machine-goes-on s at n i (left .plant) _ (left .rest) more (w .0) next (w .1 .0);
           }
 

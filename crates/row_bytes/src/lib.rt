@@ -1,5 +1,5 @@
 // The bytes of a row, stored in a buffer one behind the other. Every field is stored, and where its bit does not stand the next one takes
-// its place: a store is cheaper than a jump that cannot be foreseen. No entry point: `writing` calls it.
+// its place: a store is cheaper than a jump that cannot be foreseen. No entry point: `written_rows` and `writing` call it.
 ghost use mathlib.Core.Path.{_≡_};
 ghost use mathlib.Core.Bool.{cond};
 ghost use Prim.Native.Nat.{ℕ, _+_, _≤_, _<_};

@@ -13,7 +13,7 @@ use Rattle.livelock.specs.Lists.{All, Distinct}
 use Rattle.livelock.specs.Plants.{Row, Plant, hasProgress}
 use Rattle.livelock.specs.Cycles.{Walk, leaves, enters, RowOf, firstLeft, SimpleCycle, Quiet}
 use Rattle.livelock.proofs.ListLaws.{all-weaken, all-always, all-both, all-of-map, all-map-of, getD-replicate-default}
-use Rattle.livelock.proofs.Tests.{and-iff, both-iff, equal-iff, not-iff, simple-cycle-iff, quiet-iff}
+use Rattle.livelock.proofs.Tests.{same-test, and-iff, both-iff, equal-iff, not-iff, simple-cycle-iff, quiet-iff}
 use Rattle.tables.specs.Tables.{rowIn}
 use Rattle.set_entries.specs.Sets.{isQuietCycleOf}
 use Rattle.set_entries.specs.Entries.{TableOf}
@@ -101,12 +101,6 @@ module _ (P : Plant) (rows : ℕ) (c : List ℕ) (is : TableOf P rows c) (m end 
               once = w .once .1;
             }),
       )
-
--- Tests that are true together are equal.
-same-test : (a b : Bool) → (a ≡ true) ↔ (b ≡ true) → a ≡ b
-same-test true b h = sym (h .0 refl)
-same-test false true h = h .1 refl
-same-test false false h = refl
 
 -- For rows of the plant, at least one, with no state marked, the test tells whether they are a quiet simple cycle.
 pub leads-is : (P : Plant) (rows : ℕ) (c : List ℕ) → TableOf P rows c → (m : ℕ) (ks : List ℕ) → 0 < length ks → All (λ k. k < rows) ks

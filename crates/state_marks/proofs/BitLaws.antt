@@ -7,12 +7,13 @@ use native.Mathlib.Decide.{ℕ-discrete}
 use native.Mathlib.Omega.{arith}
 use lib.ListN.{getD, getD-replicate}
 use lib.Arith.{digits-mod}
-use lib.Bits.{bitAnd, bitOr, bitXor, differ, and-step, xor-step, and-shr, or-shr, xor-shr, shifted-half, shifted-even}
+use lib.Bits.{bitAnd, bitOr, bitXor, differ, and-step, xor-step, and-shr, xor-shr, shifted-half, shifted-even}
 use lib.Count.{trailingZeros, under}
 use lib.Pow.{pow-pos, pow-mono}
 use Rattle.livelock.proofs.ListLaws.{getD-replicate-default}
+use Rattle.livelock.proofs.BitLaws.{or-bit}
 use Rattle.state_marks.specs.Marks.{column, marksOf, BelowOnly, OthersKept, Closed}
-use Rattle.state_marks.proofs.MarkLaws.{mark-bit, none-left, or-lowest}
+use Rattle.state_marks.proofs.MarkLaws.{mark-bit, none-left}
 
 -- The mark of a state, from the bits.
 abbrev pub mark : ℕ → ℕ → ℕ
@@ -66,8 +67,7 @@ module _ (x : ℕ) (l : x < 24) where
   pub mark-or : (a b : ℕ) → mark (bitOr a b) x ≡ max (mark a x) (mark b x)
   mark-or a b =
       mark-bit 24 (bitOr a b) x l
-      ∙ ap (λ (z : ℕ). z % 2) (or-shr a b x)
-      ∙ or-lowest (a / 2 ^ x) (b / 2 ^ x)
+      ∙ or-bit a b x
       ∙ ap₂ max (sym (mark-bit 24 a x l)) (sym (mark-bit 24 b x l))
 
   -- and of a difference,

@@ -5,8 +5,9 @@ use Prim.Native.Nat.{ℕ, zero, suc, _*_, _/_, _%_, _^_, _<_, max}
 use native.Mathlib.Nat.{not-suc-le-zero, le-of-suc-le-suc, div-one, div-div-eq-div-mul, mul-comm, pow-suc, zero-lt-suc, max-zero, mod-lt}
 use native.Mathlib.Omega.{arith}
 use lib.ListN.{length, getD, set, replicate}
-use lib.Arith.{digits-div, digits-mod}
+use lib.Arith.{digits-div}
 use lib.Bits.{bitOr, or-step, or-zero-r, shifted-half, shifted-even}
+use Rattle.livelock.proofs.BitLaws.{or-lowest}
 use Rattle.state_marks.specs.Marks.{marksOf}
 
 -- There is a mark for each state.
@@ -30,16 +31,9 @@ unfolding marksOf
 none-left zero = refl
 none-left (suc n) = ap (λ (z : List ℕ). 0 ∷ z) (none-left n)
 
--- Bit 0 of a union of bits is the greater of the two,
-one-bit : (a b : ℕ) → max (a % 2) (b % 2) < 2
-one-bit a b = omega (arith, mod-lt a (zero-lt-suc 1), mod-lt b (zero-lt-suc 1))
-
-pub or-lowest : (a b : ℕ) → bitOr a b % 2 ≡ max (a % 2) (b % 2)
-or-lowest a b = ap (λ (x : ℕ). x % 2) (or-step a b) ∙ digits-mod (bitOr (a / 2) (b / 2)) (one-bit a b)
-
--- and the others are the union of the others.
+-- The other bits of a union than bit 0 are the union of the others.
 or-half : (a b : ℕ) → bitOr a b / 2 ≡ bitOr (a / 2) (b / 2)
-or-half a b = ap (λ (x : ℕ). x / 2) (or-step a b) ∙ digits-div (bitOr (a / 2) (b / 2)) (one-bit a b)
+or-half a b = ap (λ (x : ℕ). x / 2) (or-step a b) ∙ digits-div (bitOr (a / 2) (b / 2)) (omega (arith, mod-lt a (zero-lt-suc 1), mod-lt b (zero-lt-suc 1)))
 
 -- The union with bit s marks state s.
 pub marked : (n bits s : ℕ) → s < n → marksOf n (bitOr bits (1 * 2 ^ s)) ≡ set (marksOf n bits) s 1

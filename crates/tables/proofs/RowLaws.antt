@@ -48,7 +48,8 @@ pub row-progress : (r : TableRow) → r .progress ≡ hasProgress (rowOf r)
 unfolding hasProgress
 row-progress r = refl
 
-rows-stored : {k : ℕ} {r : Row} {before after : List ℕ} → Stored k r before after → map (rowIn after) (below (k + 1)) ≡ map (rowIn before) (below k) ++ (r ∷ [])
+-- A row is stored behind the others: there is one row more,
+pub rows-stored : {k : ℕ} {r : Row} {before after : List ℕ} → Stored k r before after → map (rowIn after) (below (k + 1)) ≡ map (rowIn before) (below k) ++ (r ∷ [])
 unfolding below
 rows-stored {k} {r} {before} {after} h =
     rw (
@@ -58,7 +59,7 @@ rows-stored {k} {r} {before} {after} h =
       h .stored,
     )
 
--- A row is stored behind the others: the plant has one row more.
+-- in the plant as well.
 pub with-row : {k : ℕ} {r : Row} {before after : List ℕ} → Stored k r before after → (types : ℕ) (states : List ℕ)
     → plantIn types states (k + 1) after ≡ withRow (plantIn types states k before) r
 with-row h types states = λ i. record { types = types; states = states; rows = rows-stored h i }

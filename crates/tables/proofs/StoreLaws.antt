@@ -9,7 +9,8 @@ use lib.ListN.{length, getD, set, length-set}
 use lib.Seq.{getD-set-same, getD-set-other}
 use lib.Dec.{eqb}
 use Rattle.plant_rows.specs.declared.RowFields.{RowFields}
-use Rattle.tables.specs.Tables.{rowIn, fieldsRow, RoomFor, Stored}
+use Rattle.plant_rows.specs.Rows.{fieldsRow}
+use Rattle.tables.specs.Tables.{rowIn, RoomFor, Stored}
 
 -- Bytes of different rows are different bytes.
 apart : (i k x y : ℕ) → (i ≡ k → ⊥) → x < 8 → y < 8 → 8 * i + x ≡ 8 * k + y → ⊥

@@ -7,7 +7,6 @@ use lib.Dec.{eqb}
 use Rattle.livelock.specs.Lists.{below}
 use Rattle.livelock.specs.Plants.{Row, Plant}
 use Rattle.plant.specs.Steps.{typeOf}
-use Rattle.plant_rows.specs.declared.RowFields.{RowFields}
 use Rattle.tables.specs.declared.TableRow.{TableRow}
 
 -- Row k of a table: the bytes from 8 × k on.
@@ -26,11 +25,6 @@ rowIn table k =
 abbrev pub rowOf : TableRow → Row
 rowOf r =
     record { machine = r .machine; left = r .left; entered = r .entered; sent = typeOf (r .sent); taken = typeOf (r .taken); progress = r .progress }
-
--- A row of machine m that was read.
-abbrev pub fieldsRow : ℕ → RowFields → Row
-fieldsRow m r =
-    record { machine = m; left = r .left; entered = r .entered; sent = typeOf (r .sent); taken = typeOf (r .taken); progress = r .progress }
 
 -- A table has room for so many rows.
 abbrev pub RoomFor : ℕ → List ℕ → Type 0

@@ -5,7 +5,8 @@ ghost use mathlib.Core.Path.{_≡_};
 ghost use Prim.Native.Nat.{_+_};
 ghost use mathlib.Core.Bool.{cond};
 ghost use Rattle.plant.specs.Steps.{typeOf};
-ghost use Rattle.tables.specs.Tables.{rowIn, rowOf, fieldsRow, RoomFor, Stored};
+ghost use Rattle.plant_rows.specs.Rows.{fieldsRow};
+ghost use Rattle.tables.specs.Tables.{rowIn, rowOf, RoomFor, Stored};
 use plant_rows::RowFields;
 
 // A row of a table.

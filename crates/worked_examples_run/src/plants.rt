@@ -26,8 +26,8 @@ pub const STATES_65: [u8; 4] = *b"\x01\x00\x41\x00";
 // One machine of two states whose only cycle is at state 1.
 pub const CYCLE_AT_STATE_1: [u8; 6] = *b"\x01\x00\x02\x01\x01\x01";
 
-// Rows 0 and 1 lead from state 0 to state 1, and row 2 leads back.
-pub const PARALLEL_ROWS: [u8; 11] = *b"\x01\x00\x02\x03\x02\x01\x02\x01\x03\x01\x00";
+// Rows 0 and 1, of which one has progress, lead from state 0 to state 1, and row 2 leads back.
+pub const PARALLEL_ROWS: [u8; 11] = *b"\x01\x00\x02\x03\x02\x01\x12\x01\x03\x01\x00";
 
 // Row 0 is at state 1 and row 1 at state 0.
 pub const ROWS_BEFORE_STATES: [u8; 8] = *b"\x01\x00\x02\x02\x01\x01\x01\x00";

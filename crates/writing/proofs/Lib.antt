@@ -1,5 +1,4 @@
 -- Laws for the writer's functions, and of its answers.
-pub mod RowsLaws
 pub mod MachineLaws
 pub mod PlantLaws
 pub mod OneToOne

@@ -17,10 +17,11 @@ use Rattle.plant_files.proofs.PlantParts.{machine-more, numbered-more}
 use Rattle.plant_lists.specs.Lists.{countNumber, rowsNumber, listedRows, listedMachine, listedMachines}
 use Rattle.row_bytes.specs.Stores.{Stored}
 use Rattle.row_bytes.proofs.StoreLaws.{stored-none, stored-then}
-use Rattle.writing.specs.declared.Point.{Point}
-use Rattle.writing.specs.declared.Step.{Step}
-use Rattle.writing.specs.declared.Step.the-variants as Steps
-use Rattle.writing.specs.Inner.Steps.{Near, RowsStored, rows-stored, rows-refused, MachineStored, machine-stored, machine-refused}
+use Rattle.written_rows.specs.declared.Point.{Point}
+use Rattle.written_rows.specs.declared.Step.{Step}
+use Rattle.written_rows.specs.declared.Step.the-variants as Steps
+use Rattle.written_rows.specs.Steps.{Near, RowsStored, rows-stored, rows-refused}
+use Rattle.writing.specs.Inner.Steps.{MachineStored, machine-stored, machine-refused}
 use Rattle.writing.specs.Inner.Steps.{MachinesGoing, MachinesStored, machines-stored, machines-refused}
 
 -- What ends at most at a limit ends at most at a further one.

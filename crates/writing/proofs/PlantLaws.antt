@@ -19,12 +19,13 @@ use Rattle.plant_lists.proofs.ListLengths.{listed-whole}
 use Rattle.plant_lists.proofs.ListLaws.{said-shortest}
 use Rattle.row_bytes.specs.Stores.{Stored}
 use Rattle.row_bytes.proofs.StoreLaws.{stored-then}
-use Rattle.writing.specs.declared.Point.{Point}
-use Rattle.writing.specs.declared.Step.{Step}
-use Rattle.writing.specs.declared.Step.the-variants as Steps
+use Rattle.written_rows.specs.declared.Point.{Point}
+use Rattle.written_rows.specs.declared.Step.{Step}
+use Rattle.written_rows.specs.declared.Step.the-variants as Steps
 use Rattle.writing.specs.Answers.{Answer, wrote, refused}
 use Rattle.writing.specs.Writing.{answerFor, bufferFor, SaysShortest, WritesShortest}
-use Rattle.writing.specs.Inner.Steps.{Near, MachinesStored, machines-stored, machines-refused, endStep, PlantStored, plant-stored, plant-refused}
+use Rattle.written_rows.specs.Steps.{Near}
+use Rattle.writing.specs.Inner.Steps.{MachinesStored, machines-stored, machines-refused, endStep, PlantStored, plant-stored, plant-refused}
 
 -- ---- the list
 

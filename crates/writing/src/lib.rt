@@ -1,23 +1,25 @@
 // Writing plant files: a list of numbers goes in, and the shortest file of the plant that it says comes out, or a refusal. The file is made in a
-// buffer of our own and copied at the end, so that nothing is written with a refusal.
+// buffer of our own and copied at the end, so that nothing is written with a refusal. Of the rows of a machine their keys are kept, so that a twin is
+// found.
 ghost use mathlib.Core.Path.{_≡_};
-ghost use Prim.Native.Nat.{ℕ, _+_, _-_, _*_, _≤_, min};
+ghost use Prim.Native.Nat.{_+_, _-_, _*_, _≤_, min};
 ghost use lib.ListN.{length};
 ghost use Rattle.livelock.specs.Plants.{Plant, rowCount};
 ghost use Rattle.plant.specs.Reading.{noMachines};
-ghost use Rattle.plant.specs.Limits.{mostRowBytes, longestFile};
-ghost use Rattle.plant_lists.specs.Lists.{listedRows, listedMachine, listedMachines, listedPlant};
+ghost use Rattle.plant.specs.Limits.{mostRowBytes, longestFile, Numbered};
+ghost use Rattle.plant_lists.specs.Lists.{listedMachine, listedMachines, listedPlant};
 ghost use Rattle.writing.specs.Answers.{answerOf};
 ghost use Rattle.writing.specs.Writing.{answerFor, bufferFor, WritesShortest};
-ghost use Rattle.writing.specs.Inner.Steps.{Room, Near, RowsStored, MachineStored, MachinesStored, PlantStored, endStep};
+ghost use Rattle.writing.specs.Inner.Steps.{MachineStored, MachinesStored, PlantStored, endStep};
+ghost use Rattle.written_rows.specs.Steps.{Room, ListKeyRoom, Near};
 use list_numbers::number_in;
-use list_numbers::row_fault;
-use list_numbers::row_passes;
 use list_numbers::rows_number;
 use plant::Fault;
 use plant::FieldStep;
 use row_bytes::put;
-use row_bytes::put_row;
+use written_rows::Point;
+use written_rows::Step;
+use written_rows::write_rows;
 
 // The bytes of the longest file.
 const LONGEST: usize = 4130;
@@ -25,57 +27,21 @@ const LONGEST: usize = 4130;
 // A list has a number for each byte of its file at least, so one of at most so many numbers needs no long buffer, which has to be cleared.
 const SHORT: usize = 128;
 
+// A machine has at most so many rows, and one of such a short list at most so many.
+const MOST_ROWS: usize = 255;
+
+const FEW_ROWS: usize = 32;
+
 // The answer of the writer: the length of the file, or a refusal.
 pub enum Writing {
     Wrote(usize),
     Refused(Fault),
 }
 
-// The index after the numbers that were read, and the offset after the bytes that were stored for them.
-pub struct Point {
-    pub at: usize,
-    pub pos: usize,
-}
-
-pub enum Step {
-    At(Point),
-    Fault(Fault),
-}
-
 // Where a machine's numbers and bytes end, and the count of rows with its own.
 pub struct Walked {
     pub step: Step,
     pub rows: usize,
-}
-
-// The `n` rows of a machine whose first number is at `from`.
-fn write_rows(
-    numbers: &[u16],
-    from: usize,
-    n: usize,
-    states: u8,
-    types: u8,
-    file: &mut [u8],
-    start: usize,
-) -> Step
-    requires { ⌜ (states ≤ 64) × (types ≤ 64) × Room (now numbers) (now file) from start (mostRowBytes * n) ⌝ }
-    ensures { λ r. ⌜ ((m : ℕ) (p : Plant) → p .types ≡ types → RowsStored n m p (now (file .entry)) (now (file .exit)) start (listedRows n m states (now (numbers .entry)) from p) r) ⌝ }
-    ensures { λ r. ⌜ Near (now (numbers .entry)) (start + mostRowBytes * n) r ⌝ }
-{
-    let mut at = from;
-    let mut pos = start;
-    let mut implied = 0;
-    let mut i = 0;
-    while i < n {
-        if !row_passes(numbers, at, states, types) {
-            return Step::Fault(row_fault(numbers, at, states, types));
-        }
-        pos = put_row(numbers, at, implied, file, pos);
-        implied = numbers[at];
-        at += 5;
-        i += 1;
-    }
-    Step::At(Point { at, pos })
 }
 
 // The machine whose first number is at `from`, after so many rows of other machines.
@@ -86,9 +52,10 @@ fn write_machine(
     used: usize,
     file: &mut [u8],
     start: usize,
+    keys: &mut [u32],
 ) -> Walked
-    requires { ⌜ (types ≤ 64) × (used ≤ 1024) × Room (now numbers) (now file) from start (2 + mostRowBytes * (1024 - used)) ⌝ }
-    ensures { λ r. ⌜ ((p : Plant) → p .types ≡ types → rowCount p ≡ used → MachineStored p (now (file .entry)) (now (file .exit)) start (r .rows) (listedMachine (now (numbers .entry)) from p) (r .step)) ⌝ }
+    requires { ⌜ (types ≤ 64) × (used ≤ 1024) × Room (now numbers) (now file) from start (2 + mostRowBytes * (1024 - used)) × ListKeyRoom (now numbers) (now keys) ⌝ }
+    ensures { λ r. ⌜ ((p : Plant) → p .types ≡ types → rowCount p ≡ used → Numbered p → MachineStored p (now (file .entry)) (now (file .exit)) start (r .rows) (listedMachine (now (numbers .entry)) from p) (r .step)) ⌝ }
     ensures { λ r. ⌜ (used ≤ r .rows) × (r .rows ≤ 1024) × Near (now (numbers .entry)) (start + 2 + mostRowBytes * (r .rows - used)) (r .step) ⌝ }
 {
     let states_step = number_in(numbers, from, 1, 65);
@@ -114,15 +81,11 @@ fn write_machine(
     let after_states = put(file, start, states.value, true);
     let after_count = put(file, after_states, count.value, true);
     let n = count.value as usize;
-    let step = write_rows(
-        numbers,
-        count.next,
-        n,
-        states.value,
-        types,
-        file,
-        after_count,
-    );
+    let point = Point {
+        at: count.next,
+        pos: after_count,
+    };
+    let step = write_rows(numbers, n, states.value, types, file, point, keys);
     Walked {
         step,
         rows: used + n,
@@ -137,8 +100,9 @@ fn write_machines(
     types: u8,
     file: &mut [u8],
     start: usize,
+    keys: &mut [u32],
 ) -> Step
-    requires { ⌜ (types ≤ 64) × Room (now numbers) (now file) from start (2 * n + mostRowBytes * 1024) ⌝ }
+    requires { ⌜ (types ≤ 64) × Room (now numbers) (now file) from start (2 * n + mostRowBytes * 1024) × ListKeyRoom (now numbers) (now keys) ⌝ }
     ensures { λ r. ⌜ MachinesStored n types (now (file .entry)) (now (file .exit)) start (listedMachines n (now (numbers .entry)) from (noMachines types)) r ⌝ }
     ensures { λ r. ⌜ Near (now (numbers .entry)) (start + (2 * n + mostRowBytes * 1024)) r ⌝ }
 {
@@ -147,7 +111,7 @@ fn write_machines(
     let mut rows = 0;
     let mut i = 0;
     while i < n {
-        let walked = write_machine(numbers, at, types, rows, file, pos);
+        let walked = write_machine(numbers, at, types, rows, file, pos, keys);
         rows = walked.rows;
         let step = walked.step;
         match step {
@@ -181,8 +145,8 @@ fn list_end(numbers: &[u16], step: Step) -> Step
 }
 
 // The plant that a list says, stored from the front of the buffer on.
-fn write_plant(numbers: &[u16], file: &mut [u8]) -> Step
-    requires { ⌜ min longestFile (length (now numbers)) ≤ length (now file) ⌝ }
+fn write_plant(numbers: &[u16], file: &mut [u8], keys: &mut [u32]) -> Step
+    requires { ⌜ (min longestFile (length (now numbers)) ≤ length (now file)) × ListKeyRoom (now numbers) (now keys) ⌝ }
     ensures { λ r. ⌜ PlantStored (now (file .entry)) (now (file .exit)) (listedPlant (now (numbers .entry))) r ⌝ }
     ensures { λ r. ⌜ Near (now (numbers .entry)) longestFile r ⌝ }
 {
@@ -199,18 +163,18 @@ fn write_plant(numbers: &[u16], file: &mut [u8]) -> Step
     let after_machines = put(file, 0, machines.value, true);
     let after_types = put(file, after_machines, types.value, true);
     let n = machines.value as usize;
-    let step = write_machines(numbers, types.next, n, types.value, file, after_types);
+    let step = write_machines(numbers, types.next, n, types.value, file, after_types, keys);
     list_end(numbers, step)
 }
 
-// Writes by way of a buffer that is long enough.
-fn write_in(numbers: &[u16], file: &mut [u8], out: &mut [u8]) -> Writing
-    requires { ⌜ min longestFile (length (now numbers)) ≤ length (now file) ⌝ }
+// Writes by way of a buffer and a list of keys that are long enough.
+fn write_in(numbers: &[u16], file: &mut [u8], keys: &mut [u32], out: &mut [u8]) -> Writing
+    requires { ⌜ (min longestFile (length (now numbers)) ≤ length (now file)) × ListKeyRoom (now numbers) (now keys) ⌝ }
     ensures { λ r. ⌜ answerOf r ≡ answerFor (listedPlant (now (numbers .entry))) (length (now (out .entry))) ⌝ }
     ensures { λ r. ⌜ now (out .exit) ≡ bufferFor (listedPlant (now (numbers .entry))) (now (out .entry)) ⌝ }
     ensures { λ r. ⌜ WritesShortest (now (numbers .entry)) (now (out .exit)) (answerOf r) ⌝ }
 {
-    let step = write_plant(numbers, file);
+    let step = write_plant(numbers, file, keys);
     match step {
         Step::Fault(fault) => Writing::Refused(fault),
         Step::At(point) => {
@@ -235,8 +199,10 @@ pub fn write(numbers: &[u16], out: &mut [u8]) -> Writing
 {
     if numbers.len() <= SHORT {
         let mut file = [0u8; SHORT];
-        return write_in(numbers, &mut file, out);
+        let mut keys = [0u32; FEW_ROWS];
+        return write_in(numbers, &mut file, &mut keys, out);
     }
     let mut file = [0u8; LONGEST];
-    write_in(numbers, &mut file, out)
+    let mut keys = [0u32; MOST_ROWS];
+    write_in(numbers, &mut file, &mut keys, out)
 }

@@ -10,7 +10,7 @@ use Rattle.plant.proofs.Bounds.{each-found, byteIn-each, rowsByte-each}
 use Rattle.plant.proofs.MachineLaws.{no-states, no-rows, machine-read, rows-end, part-is}
 use Rattle.tables.proofs.RowLaws.{rows-in}
 use Rattle.plant.proofs.Gives.{given-found}
-use Rattle.decoding.proofs.RoomLaws.{byte-takes, rows-byte-takes}
+use Rattle.plant.proofs.Takes.{byte-takes, rows-byte-takes}
 use Rattle.decoding.proofs.read_machine.Statement.{statement}
 use Rattle.decoding.proofs.read_machine.Tie as tie
 
@@ -60,6 +60,9 @@ returns-2 c =
 cast-n : tie.Need-cast-n
 cast-n c = search needs
 
+cast-t21 : tie.Need-cast-t21
+cast-t21 c = search needs
+
 sub-read-rows : tie.Need-sub-read-rows
 sub-read-rows c = each-found _ _ (rowsByte-each _ _ _) (told fieldFound (c .before .before .before .before .rows-byte .ensures) (c .before .before .rows-step .given .1)) .0 .inside
 
@@ -69,9 +72,6 @@ part-read-rows-start c = each-found _ _ (rowsByte-each _ _ _) (told fieldFound (
 part-read-rows-end : tie.Need-part-read-rows-end
 part-read-rows-end c = search needs
 
-cast-read-rows : tie.Need-cast-read-rows
-cast-read-rows c = search needs
-
 read-rows-requires : tie.Need-read-rows-requires
 read-rows-requires c κs =
     let a = c .before .before .before .before .before .before .before .before .before .before .before .before .before in
@@ -80,8 +80,10 @@ read-rows-requires c κs =
     let e = told fieldFound (c .before .before .before .before .before .before .rows-byte .ensures) (c .before .before .before .before .rows-step .given .1) in
     let r = each-found _ _ (rowsByte-each _ _ _) e in
     let s = given-found _ _ (byte-takes file (a .args .at) 1 65 3 (omega arith) (omega arith)) (told fieldFound (c .before .before .before .before .before .before .before .before .before .before .states-byte .ensures) (c .before .before .before .before .before .before .before .before .states-step .given .1)) in
-    let t = given-found _ _ (rows-byte-takes file _ _) e in
-    (omega (arith, a .pre .0, a .pre .2, s .0, t .0, t .1, ap length (part-is file from), length-drop from file), r .1 .1, a .pre .3)
+    let t = given-found _ _ (rows-byte-takes file _ _) e in (
+      (omega (arith, a .pre .0 .0, a .pre .0 .2, s .0, t .0, t .1, ap length (part-is file from), length-drop from file), r .1 .1, a .pre .0 .3),
+      (a .pre .1, r .1 .0),
+    )
 
 moved-requires : tie.Need-moved-requires
 moved-requires c κs =
@@ -91,8 +93,8 @@ moved-requires c κs =
     let e = rows-end _ _ _ (c .before .before .before .before .before .before .before .rows-step .given .0 .0 .next) (a .args .file .now) _ _ (c .before .before .read-rows .result) (q .1 .0) (c .before .before .read-rows .ensures .holds []) in
     omega (arith, r .0 .inside, a .good .0 .0)
 
-add-t21 : tie.Need-add-t21
-add-t21 c = search needs
+add-t23 : tie.Need-add-t23
+add-t23 c = search needs
 
 same-length : tie.Need-same-length
 same-length c = search needs
@@ -126,12 +128,12 @@ read-machine-spec =
     no-machine-requires-2
     returns-2
     cast-n
+    cast-t21
     sub-read-rows
     part-read-rows-start
     part-read-rows-end
-    cast-read-rows
     read-rows-requires
     moved-requires
-    add-t21
+    add-t23
     same-length
     returns-3)

@@ -56,7 +56,7 @@ read-machine-requires : tie.Need-read-machine-requires Inv-loop μ-loop
 read-machine-requires c κs =
     let h = c .before .before .loop .inv in
     let p = c .before .before .before .before .before .pre in
-    (omega (arith, h .long, p .0), h .few-rows, h .behind, p .1, omega (arith, c .before .loop-test .taken, p .2))
+    ((omega (arith, h .long, p .0), h .few-rows, h .behind, p .1, omega (arith, c .before .loop-test .taken, p .2)), h .first-rows .numbered)
 
 enum-known-end : tie.Need-enum-known-end Inv-loop μ-loop
 enum-known-end c = search needs

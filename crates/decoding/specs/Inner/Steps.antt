@@ -1,17 +1,21 @@
 -- What the private functions that fill a table give.
 use mathlib.Core.Path.{_≡_}
-use mathlib.Core.List.{List, [], _∷_, _++_}
+use mathlib.Core.List.{List, [], _∷_, _++_, map}
 use Prim.Native.Nat.{ℕ, _+_, _≤_, _<_}
 use lib.ListN.{length, getD}
-use Rattle.livelock.specs.Lists.{All}
+use Rattle.livelock.specs.Lists.{All, below}
 use Rattle.livelock.specs.Plants.{Plant}
 use Rattle.plant.specs.Reading.{noMachines, readRows, readMachine, readMachines}
 use Rattle.plant.specs.Steps.{endFound}
-use Rattle.tables.specs.Tables.{plantIn}
+use Rattle.tables.specs.Tables.{rowIn, plantIn}
 use Rattle.decoding.specs.Tables.{plantOf, rowsBefore, Ready}
 use Rattle.plant.specs.declared.End.{End}
 use Rattle.decoding.specs.declared.MachineEnd.{MachineEnd}
 use Rattle.decoding.specs.declared.Decoded.{Decoded}
+
+-- The rows that a table has so far are of machines before m.
+abbrev pub RowsBefore : ℕ → ℕ → List ℕ → Type 0
+RowsBefore m used table = All (λ r. r .machine < m) (map (rowIn table) (below used))
 
 -- n rows of machine m were read behind the `used` rows that the table had, whatever the machines of the plant.
 pub record RowsRead (n m states types used : ℕ) (s before after : List ℕ) (e : End) : Type 0 where

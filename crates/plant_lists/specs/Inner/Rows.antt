@@ -38,7 +38,7 @@ pub record RowThere (s : List ℕ) (at : ℕ) : Type 0 where
   pub left : getD s at 0 < 256
   pub entered : getD s (at + 1) 0 < 256
   pub kind : getD s (at + 2) 0 < 3
-  pub type : getD s (at + 3) 0 < 256
+  pub type : getD s (at + 3) 0 < 64
   pub progress : getD s (at + 4) 0 < 2
 
 -- The fault at a number that does not pass: 24 where there is one, and 23 where it is missing.

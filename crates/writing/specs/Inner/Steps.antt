@@ -1,56 +1,23 @@
--- What the writer's private functions ensure: what was read of the list, and the bytes that were stored for it.
+-- What the writer's private functions ensure beside `write_rows`: what was read of the list, and the bytes that were stored for it.
 use mathlib.Core.Path.{_≡_}
 use mathlib.Core.Bool.{cond}
-use mathlib.Core.List.{List, [], _∷_}
-use Prim.Native.Nat.{ℕ, _+_, _-_, _≤_, _<_, min}
+use mathlib.Core.List.{List, _∷_}
+use Prim.Native.Nat.{ℕ, _+_, _-_}
 use lib.ListN.{length}
 use lib.Dec.{ltb}
 use Rattle.livelock.specs.Lists.{All}
 use Rattle.livelock.specs.Plants.{Row, Plant, rowCount, machineCount}
 use Rattle.plant.specs.Found.{Found, found}
-use Rattle.plant.specs.Limits.{longestFile}
+use Rattle.plant.specs.Limits.{Numbered}
 use Rattle.plant.specs.Reading.{withMachine, noMachines}
 use Rattle.plant.specs.Steps.{faultFound}
 use Rattle.plant.specs.declared.Fault.{Fault}
 use Rattle.plant_files.specs.Files.{rowsBytes, machinesAs, fileOf}
 use Rattle.plant_files.specs.Inner.Parts.{withRows}
-use Rattle.plant_lists.specs.Lists.{listedRows, listedMachines}
+use Rattle.plant_lists.specs.Lists.{listedMachines}
 use Rattle.row_bytes.specs.Stores.{Stored}
-use Rattle.writing.specs.declared.Step.{Step}
-use Rattle.writing.specs.declared.Step.the-variants as Steps
-
--- Before the number at `at` is read and the byte at `pos` is stored, with so many bytes to come at most: the buffer has as many bytes as the
--- longest file, or as the list has numbers, and no more bytes were stored than numbers read.
-pub record Room (s file : List ℕ) (at pos bytes : ℕ) : Type 0 where
-  pub space : min longestFile (length s) ≤ length file
-  pub inside : at ≤ length s
-  pub behind : pos ≤ at
-  pub within : pos + bytes ≤ longestFile
-
--- A step ends in the list, with no more bytes stored than numbers read, and at most at a limit.
-abbrev pub Near : List ℕ → ℕ → Step → Type 0
-Near s limit (Steps.At p) = (p .at ≤ length s) × (p .pos ≤ p .at) × (p .pos ≤ limit)
-Near s limit (Steps.Fault f) = Unit {0}
-
--- The state that the last of these rows leaves.
-unfoldable pub lastLeft : ℕ → List Row → ℕ
-lastLeft implied [] = implied
-lastLeft implied (r ∷ rs) = lastLeft (r .left) rs
-
--- n rows of machine m were read behind those of p and stored, or there was a fault.
-pub data RowsStored (n m : ℕ) (p : Plant) (before after : List ℕ) (pos : ℕ) : Found Plant → Step → Type 0 where
-  rows-stored : (rs : List Row) {next end : ℕ} → length rs ≡ n → All (λ r. r .machine ≡ m) rs → Stored before after pos (rowsBytes 0 rs) end
-      → RowsStored n m p before after pos (found (withRows p rs) next) (Steps.At (record { at = next; pos = end }))
-  rows-refused : {f : Fault} → RowsStored n m p before after pos (faultFound f) (Steps.Fault f)
-
--- After i of n rows: what is left to read, behind the rows rs, gives what the whole gives.
-pub record RowsGoing (n m states from : ℕ) (s : List ℕ) (p : Plant) (before : List ℕ) (pos i at : ℕ) (file : List ℕ) (end implied : ℕ) : Type 0 where
-  pub rs : List Row
-  pub count : length rs ≡ i
-  pub machine : All (λ r. r .machine ≡ m) rs
-  pub left : implied ≡ lastLeft 0 rs
-  pub stored : Stored before file pos (rowsBytes 0 rs) end
-  pub rest : listedRows (n - i) m states s at (withRows p rs) ≡ listedRows n m states s from p
+use Rattle.written_rows.specs.declared.Step.{Step}
+use Rattle.written_rows.specs.declared.Step.the-variants as Steps
 
 -- A machine was read behind those of p and stored, or there was a fault. `rows` is the count of rows with its own.
 pub data MachineStored (p : Plant) (before after : List ℕ) (pos rows : ℕ) : Found Plant → Step → Type 0 where
@@ -65,7 +32,7 @@ pub record MachinesGoing (n from : ℕ) (s : List ℕ) (types : ℕ) (before : L
   pub few : q .types ≡ types
   pub count : machineCount q ≡ i
   pub total : rowCount q ≡ rows
-  pub numbered : All (λ r. r .machine < machineCount q) (q .rows)
+  pub numbered : Numbered q
   pub stored : Stored before file pos (machinesAs (rowsBytes 0) i 0 q) end
   pub rest : listedMachines (n - i) s at q ≡ listedMachines n s from (noMachines types)
 

@@ -9,8 +9,8 @@ ORDER = 10
 WRITE = '''Write the plant file of a plant text.
 
 %s
-A row sends one type, takes one type, or does neither; `progress` marks the rows that bring a fresh reading. A name is of letters,
-digits, _ - and . and begins with a letter, a digit or _. Types are named before the first machine.
+A row sends one type, takes one type, or does neither; `progress` marks the rows that bring a fresh reading. No machine has the same
+row twice. A name is of letters, digits, _ - and . and begins with a letter, a digit or _. Types are named before the first machine.
 
 The file is made by the proved writer: it reads as the text's rows, and no file that does is shorter. A plant has 1 to 16 machines,
 at most 64 types, 1 to 64 states and at most 255 rows in a machine, and 1,024 rows in all.''' % plant_text.__doc__.split('\n', 2)[2]

@@ -1,0 +1,2 @@
+-- Laws of keys and of rows that are kept.
+pub mod KeyLaws

@@ -1,0 +1,2 @@
+-- Laws for the function that writes the rows of a machine.
+pub mod RowsLaws
