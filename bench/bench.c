@@ -1,6 +1,6 @@
 /* Measures a proved call and its peer side by side, in one process and in turn, and prints one line of JSON.
  *
- *     bench check CASES SEED                    random inputs: the answers and the lent lists must be the same
+ *     bench check CASES SEED                    random inputs: the answers and the lent lists must be the same, those of floor.c too
  *     bench read REPS FILE                      the peer judges the rows and keeps none
  *     bench decode REPS FILE                    the peer keeps the rows in a table
  *     bench weigh REPS FILE WEIGHTS
@@ -144,16 +144,23 @@ static unsigned below(unsigned n) {
 
 #define PICK(...) ((const unsigned[]){__VA_ARGS__}[below(sizeof((const unsigned[]){__VA_ARGS__}) / sizeof(unsigned))])
 
-/* The five numbers of a row, as a list of numbers has them. */
-struct row { uint16_t left, entered, kind, type, progress; };
+/* The six numbers of a row, as a list of numbers has them. */
+struct row { uint16_t left, entered, kind, type, progress, sent; };
+
+#define ROW_NUMBERS (sizeof(struct row) / sizeof(uint16_t))
+
+/* Whether a row was drawn since this was cleared that takes and sends: kind 3. */
+static int takes_and_sends;
 
 static struct row random_row(unsigned implied, unsigned states, unsigned types) {
     struct row r = {0};
     r.left = (uint16_t)(below(3) ? below(states) : implied);
     r.entered = (uint16_t)(below(3) ? below(states) : r.left);
-    r.kind = (uint16_t)(types ? PICK(0, 1, 2, 2) : 0);
+    r.kind = (uint16_t)(types ? PICK(0, 1, 2, 2, 3, 3) : 0);
     r.type = (uint16_t)(r.kind ? below(types) : 0);
     r.progress = (uint16_t)!below(4);
+    r.sent = (uint16_t)(r.kind < 3 ? 0 : below(3) ? below(types) : r.type);
+    takes_and_sends |= r.kind == 3;
     return r;
 }
 
@@ -188,7 +195,8 @@ static size_t put_rows(uint8_t *f, const struct row *rows, unsigned count) {
         f[at++] = (uint8_t)(map | r->kind << 2 | r->progress << 4);
         if (map & 1) f[at++] = (uint8_t)r->left;
         if (map & 2) f[at++] = (uint8_t)r->entered;
-        if (r->kind) f[at++] = (uint8_t)r->type;
+        if (r->kind & 1) f[at++] = (uint8_t)(r->kind == 3 ? r->sent : r->type);
+        if (r->kind & 2) f[at++] = (uint8_t)r->type;
     }
     return at;
 }
@@ -248,9 +256,9 @@ static size_t random_list(uint16_t *n) {
         n[at++] = (uint16_t)states;
         n[at++] = (uint16_t)count;
         memcpy(n + at, rows, count * sizeof *rows);
-        at += 5 * count;
+        at += ROW_NUMBERS * count;
     }
-    if (!below(4)) n[below((unsigned)at)] = (uint16_t)PICK(0, 1, 2, 3, 16, 17, 63, 64, 65, 255, 256, 65535);
+    if (!below(4)) n[below((unsigned)at)] = (uint16_t)PICK(0, 1, 2, 3, 4, 16, 17, 63, 64, 65, 255, 256, 65535);
     if (!below(20)) at = below((unsigned)at + 1);
     if (!below(20)) n[at++] = 0;
     return at;
@@ -278,12 +286,20 @@ static void differ_on_list(void) {
     exit(1);
 }
 
+/* How often an answer of each kind was met, and with a row that takes and sends in what was given. */
+static long kinds[9], with_both[9];
+
+static void count(unsigned kind) {
+    kinds[kind]++;
+    with_both[kind] += takes_and_sends;
+}
+
 static void check(long cases) {
     static uint8_t plant[8192];
-    static uint16_t w[65];
+    static uint16_t w[65], before[64];
     static uint32_t s[300 * 70];
-    static uint16_t n[2 + 16 * (2 + 5 * 256) + 1];
-    long kinds[9] = {0}, read_with[27] = {0}, refusals[27] = {0};
+    static uint16_t n[2 + 16 * (2 + ROW_NUMBERS * 256) + 1];
+    long read_with[27] = {0}, refusals[27] = {0};
     file = plant;
     numbers = n;
     weights = w;
@@ -291,6 +307,7 @@ static void check(long cases) {
     out_ours = malloc(400000);
     out_peer = malloc(400000);
     for (long i = 0; i < cases; i++) {
+        takes_and_sends = 0;
         file_length = random_plant(plant);
         hemtaluq_read_answer r = peer_read(file, file_length);
         unsigned largest = PICK(2, 4, 1001, 1002);
@@ -298,39 +315,43 @@ static void check(long cases) {
         for (size_t t = 0; t < weight_count; t++) w[t] = (uint16_t)below(largest);
         for (size_t t = 0; t < 64; t++) contents[t] = below(PICK(5, 1000001, 1000002));
         g = below(PICK(5, 1000001, 1000002));
-        for (int t = 0; t < 64; t++) cycle_ours[t] = cycle_peer[t] = (uint16_t)below(65536);
+        for (int t = 0; t < 64; t++) before[t] = cycle_ours[t] = cycle_peer[t] = (uint16_t)below(65536);
         ours_read(), peers_read();
         if (!same_read()) differ("read");
         peers_decode();
         if (!same_read()) differ("decode");
-        kinds[a.r.kind]++;
+        count(a.r.kind);
         read_with[a.r.number]++;
         ours_weigh(), peers_weigh();
         if (!same_weigh()) differ("weigh");
-        kinds[a.w.kind]++;
+        count(a.w.kind);
+        memcpy(cycle_ours, before, sizeof before);
+        floors_weigh();
+        if (!same_weigh()) differ("weighing with cleared arrays");
         ours_quote(), peers_quote();
         if (!same_quote()) differ("quote");
-        kinds[a.q.kind]++;
+        count(a.q.kind);
         set_length = random_set(s, r.kind == HEMTALUQ_COUNTS ? (unsigned)r.machines : 1);
         ours_confirm(), peers_confirm();
         if (!same_confirm()) differ("confirm");
-        kinds[a.c.kind]++;
+        count(a.c.kind);
         machine = below(4);
         room = PICK(0, 2, 3, 10, 100, 200000);
         memset(out_ours, 0xA5, 2 * room);
         memset(out_peer, 0xA5, 2 * room);
         ours_list(), peers_list();
         if (!same_list() || memcmp(out_ours, out_peer, 2 * room)) differ("list");
-        kinds[a.l.kind]++;
+        count(a.l.kind);
+        takes_and_sends = 0;
         number_count = random_list(n);
         lend_bytes();
         ours_write(), peers_write();
         if (!same_write()) differ_on_list();
-        kinds[a.f.kind]++;
+        count(a.f.kind);
         refusals[a.f.number]++;
     }
     for (int k = 0; k < 9; k++)
-        if (kinds[k] < cases / 100) die("an answer was met too seldom");
+        if (with_both[k] < cases / 100) die("an answer was met too seldom with rows that take and send");
     if (read_with[0] < cases / 2 || read_with[HEMTALUQ_TWIN_ROW] < cases / 100) die("files that read, or twin rows in files, were met too seldom");
     for (int k = HEMTALUQ_LIST_LENGTH; k <= HEMTALUQ_TWIN_ROW; k++)
         if (refusals[k] < cases / 100) die("a refusal of write was met too seldom");

@@ -65,7 +65,6 @@ static struct fault decode(const uint8_t *file, size_t length, struct shape *c, 
             unsigned to, up = 64, down = 64;
             size_t start = at;
             FIELD(map, 32, 4);
-            if ((map & 12) == 12) FAULT(4, at - 1);
             if (map & 1) FIELD(from, c->states[m], 5);
             to = from;
             if (map & 2) FIELD(to, c->states[m], 5);

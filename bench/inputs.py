@@ -25,8 +25,8 @@ def numbers(types, machines):
     for states, rows in machines:
         said += [states, len(rows)]
         for left, entered, sent, taken, progress in rows:
-            kind = 1 if sent is not None else 2 if taken is not None else 0
-            said += [left, entered, kind, (0, sent, taken)[kind], int(progress)]
+            kind = (sent is not None) + 2 * (taken is not None)
+            said += [left, entered, kind, (0, sent, taken, taken)[kind], int(progress), sent if kind == 3 else 0]
     return said
 
 
@@ -36,6 +36,10 @@ def sends(a, b, t):
 
 def takes(a, b, t, progress=False):
     return (a, b, None, t, progress)
+
+
+def takes_and_sends(a, b, taken, sent, progress=False):
+    return (a, b, sent, taken, progress)
 
 
 def steps(a, b, progress=False):
@@ -57,6 +61,10 @@ RELAY = 3, [
 POLLING = 6, [(6, [r for i in range(3) for r in (sends(2 * i, 2 * i + 1, i), takes(2 * i + 1, (2 * i + 2) % 6, 3 + i, True))])] + [
     (2, [takes(0, 1, i), sends(1, 0, 3 + i)]) for i in range(3)]
 
+FEEDER = 2, [
+    (3, [sends(0, 1, 0), takes(1, 2, 1, True), steps(2, 0)]),
+    (2, [takes_and_sends(0, 1, 0, 1), takes(1, 1, 0), steps(1, 0)])]
+
 # Name, plant, weights that pass, the capacity of each channel in the Promela model, and SPIN's options -w (its table has 2 to
 # this power places) and -m (the depth that it reserves), from state 0 and from anywhere: cut to what the model needs.
 SMALL = [
@@ -64,6 +72,7 @@ SMALL = [
     ('two clients in turn', TWO_CLIENTS_IN_TURN, [2, 0, 0, 0, 1, 0], 1, ((10, 100), (16, 1000))),
     ('relay of three', RELAY, [3, 2, 1], 4, ((10, 100), (15, 1000))),
     ('panel and three probes', POLLING, [2] * 3 + [1] * 3, 1, ((10, 100), (16, 2000))),
+    ('control and feeder', FEEDER, [2, 1], 4, ((10, 100), (11, 1000))),
 ]
 
 
@@ -111,20 +120,35 @@ def different(count, draw):
     return rows
 
 
-def sends_or_takes(rng):
-    return sends if rng.random() < 0.5 else takes
+def with_messages(rng, left, entered, kinds):
+    """A row between these states of one of these kinds, with types of 64."""
+    kind = rng.choice(kinds)
+    return kind(left, entered, *(rng.randrange(64) for _ in range({steps: 0, sends: 1, takes: 1, takes_and_sends: 2}[kind])))
+
+
+MESSAGES = [sends, takes, takes_and_sends]
+
+
+def any_states(seed, kinds):
+    """16 machines, 1,024 rows of these kinds between any states."""
+    rng = random.Random(seed)
+    return 64, [(64, different(64, lambda rows: with_messages(rng, rng.randrange(64), rng.randrange(64), kinds))) for _ in range(16)]
 
 
 def largest():
-    """The longest file: 16 machines, 1,024 rows with all fields, sending and taking in no regular order."""
-    rng = random.Random(4130)
-    return 64, [(64, different(64, lambda rows: sends_or_takes(rng)(rng.randrange(64), rng.randrange(64), rng.randrange(64)))) for _ in range(16)]
+    """The longest file: all rows have all fields, as each takes and sends."""
+    return any_states(5154, [takes_and_sends])
+
+
+def one_message():
+    """As many rows, which send or take in no regular order."""
+    return any_states(4130, [sends, takes])
 
 
 def one_state_left():
     """1,024 rows, 255 of each machine but the last, and all of a machine leave one state: a row must be compared with every row before it."""
     rng = random.Random(255)
-    return 64, [(64, different(count, lambda rows: sends_or_takes(rng)(0, rng.randrange(64), rng.randrange(64)))) for count in (255, 255, 255, 255, 4)]
+    return 64, [(64, different(count, lambda rows: with_messages(rng, 0, rng.randrange(64), MESSAGES))) for count in (255, 255, 255, 255, 4)]
 
 
 def other_than(rng, state):
@@ -137,28 +161,26 @@ def implied(rows):
 
 
 def longest_row(rng, rows):
-    """A row, behind others, of a machine of 64 states and 64 types of which no state can be left out."""
+    """A row, behind others, of a machine of 64 states and 64 types that takes and sends, and of which no state can be left out."""
     left = other_than(rng, implied(rows))
-    return sends_or_takes(rng)(left, other_than(rng, left), rng.randrange(64))
+    return with_messages(rng, left, other_than(rng, left), [takes_and_sends])
 
 
 def mixed_row(rng, rows):
     """A row, behind others, of which each field is in the shortest file or not, at random."""
     left = other_than(rng, implied(rows)) if rng.random() < 0.5 else implied(rows)
     entered = other_than(rng, left) if rng.random() < 0.5 else left
-    kind = rng.choice([steps, sends, takes])
-    row = kind(left, entered) if kind is steps else kind(left, entered, rng.randrange(64))
-    return row[:4] + (rng.random() < 0.5,)
+    return with_messages(rng, left, entered, [steps] + MESSAGES)[:4] + (rng.random() < 0.5,)
 
 
 def longest_list():
-    """16 machines with rows of four bytes each: the longest list, of 5,154 numbers, and the longest file."""
-    rng = random.Random(5154)
+    """16 machines with rows of five bytes each: the longest list, of 6,178 numbers, and the longest file."""
+    rng = random.Random(6178)
     return 64, [(64, different(64, lambda rows: longest_row(rng, rows))) for _ in range(16)]
 
 
-def mixed_list():
-    """As long a list, with rows of one to four bytes in no regular order."""
+def mixed():
+    """As many machines and rows, and as long a list; the rows have one to five bytes in the shortest file, in no regular order."""
     rng = random.Random(2025)
     return 64, [(64, different(64, lambda rows: mixed_row(rng, rows))) for _ in range(16)]
 
@@ -251,8 +273,15 @@ def lp_text(types, machines):
     return '\n'.join(lines + ['End', ''])
 
 
+def act_of(sent, taken):
+    """What a row does to the channels: it takes first, then sends."""
+    acts = ['t%s%s' % one for one in ((taken, '?_'), (sent, '!0')) if one[0] is not None]
+    return 'atomic { %s; %s }' % tuple(acts) if len(acts) == 2 else acts[0] if acts else 'skip'
+
+
 def promela(types, machines, capacity, anywhere):
-    """One channel for each type, one process for each machine, with SPIN's progress labels. Sending to a full channel waits.
+    """One channel for each type, one process for each machine, with SPIN's progress labels. Sending to a full channel waits. A row that takes and
+    sends can begin when there is a message to take, and no other process moves between the two.
 
     The processes begin in state 0 with empty channels; or, anywhere, in any state, after any contents up to the capacity."""
     lines = ['chan t%d = [%d] of { bit };' % (t, capacity) for t in range(types)]
@@ -269,9 +298,8 @@ def promela(types, machines, capacity, anywhere):
             lines += ['s%d: if' % s]
             for k, (left, entered, sent, taken, progress) in enumerate(rows):
                 if left == s:
-                    act = 't%d!0' % sent if sent is not None else 't%d?_' % taken if taken is not None else 'skip'
                     mark = ' progress_%d: skip;' % k if progress else ''
-                    lines.append('    :: %s;%s goto s%d' % (act, mark, entered))
+                    lines.append('    :: %s;%s goto s%d' % (act_of(sent, taken), mark, entered))
             lines += ['    fi;']
         lines += ['}']
     return '\n'.join(lines) + '\n'

@@ -3,13 +3,12 @@ import textwrap
 
 # How far whole runs lie apart. Look again when the crates have changed.
 RUNS = (
-    'Three full runs of the same code, one after the other, of which this page has the last. The two before had, for reading, 1.07 and 1.08 with the largest file, 1.13 and 1.18 with ten machines and twice 1.27 with '
-    'plant A; for plant A 1.38 and 1.39 where weights pass, 1.87 and 1.75 where a cycle is shown, 1.41 and 1.44 for quoting and 1.20 and 1.23 for writing; for ten machines of eight states 1.10 and 1.20 where weights '
-    'pass, 1.19 and 1.23 where a cycle is shown, 1.11 and 1.13 for quoting and 1.19 and 1.18 for writing; for the 16 machines 1.25 and 1.29 where weights pass, 1.26 and 1.29 for quoting and 1.25 and 1.30 where it is '
-    'refused with 22; for confirming 1.30 and 1.32. The page before was measured on an Intel Xeon, without the test for twin rows on either side: it had 1.08 for reading plant A, 1.07 for reading ten machines, 1.34 and '
-    '2.01 for weighing plant A, 1.01 for quoting it, 1.14 for weighing the 16 machines and 1.10 for confirming. What the test for twin rows costs: in turn with the library before (`bench/run --against`, three runs on this machine), '
-    'reading takes 1.81 to 1.94 of its time with plant A, 1.79 to 1.81 with ten machines, 2.32 to 2.37 with the largest file and 6.03 to 6.39 where 255 rows of a machine leave one state; writing 1.20 to 1.23, 1.74 to 1.76, 2.42 to 2.45 and 5.41 to 5.45; weighing plant A where weights pass 1.28 to 1.32, '
-    'quoting it 1.28 to 1.36; weighing and quoting the 16 machines at most 1.05, so that their rows above are missed on this machine whether or not twins are looked for. '
+    'Three full runs of the same code, one after the other, of which this page has the last. The two before had, for reading, 1.07 and 1.06 with the largest file, 1.03 and 1.02 with ten machines and twice 1.21 with '
+    'plant A; for plant A 1.36 and 1.35 where weights pass, 2.00 and 2.02 where a cycle is shown, 1.19 and 1.25 for quoting and twice 1.07 for writing; for ten machines of eight states 0.99 and 0.97 where weights '
+    'pass, 1.04 and 0.97 where a cycle is shown, 0.99 and 1.00 for quoting and 1.07 and 1.08 for writing; for the 16 machines 1.22 and 1.11 where weights pass, 1.12 and 1.11 for quoting and 1.11 and 1.16 where it is '
+    'refused with 22; for confirming 1.07 and 1.10. The page before was measured on an AMD EPYC: it had 1.30 for reading plant A, 1.21 for reading ten machines, 1.19 to 1.24 where 16 machines are decided in all rounds and 1.29 for confirming. '
+    'What rows that take and send cost: in turn with the library before (`bench/run --against`), reading takes 0.98 to 1.00 of its time with files that both read, weighing, quoting and listing 0.90 to 1.02 and confirming 1.06; '
+    'the lists of the two differ, so that writing is not compared. '
     'Where 16 machines fail and none has a cycle of fewer than 64 rows, all are searched, which takes 15 times as long as to search the first.')
 
 # Why a goal is missed: for keys of bench/run that begin with the first word. The evidence is from `perf` and from the machine
@@ -20,7 +19,7 @@ DECIDING = (
 CAUSES = [
     ('read', 'Reading',
      'The keys of a machine\'s rows stand in an array that is cleared at each call, 255 words, or 32 for a file of at most 32 bytes, and the machines are read by a call of their own, whichever array it is '
-     'lent; the peer has one array, which it leaves as it is, and no call. Counted in instructions (valgrind), plant A takes 450 and the peer 362, ten machines 7,204 and 6,672, the largest file 102,596 and 103,037.'),
+     'lent; the peer has one array, which it leaves as it is, and no call. Counted in instructions (valgrind), plant A takes 434 and the peer 355, ten machines 6,808 and 6,657, the largest file 109,744 and 104,560.'),
     ('weigh-a', 'Weighing small plants',
      'A table of 512 bytes, a list of edges of 512 bytes, the heights of 8 states and for each machine the keys of 32 rows are cleared at each call, and the rows are stored before they are weighed; the peer '
      'leaves its arrays as they are. Where a cycle is shown, 1 KB of walks and 512 bytes of first edges are cleared, too, and the rounds from the start that was found are made once more (DECISIONS.md, 23). '
@@ -38,7 +37,7 @@ CAUSES = [
     ('confirm', 'Confirming',
      'The rows of an entry are gone through three times (number by number, as a cycle, and for the sums), by the peer once; the third loop branches at each row, and its time depends on the address it is linked at.'),
     ('write', 'Writing',
-     'The buffer in which the file is made is cleared at each call, 128 bytes for a short list and 4,130 for others, and so are the keys of a machine\'s rows; the peer leaves its own as they are.'),
+     'The buffer in which the file is made is cleared at each call, 128 bytes for a short list and 5,154 for others, and so are the keys of a machine\'s rows; the peer leaves its own as they are.'),
 ]
 
 
@@ -159,7 +158,7 @@ work: a ratio moves by a tenth from run to run, on plant A and the ring of 16 by
 `bench/peer.c` has the six calls in plain C, with the best algorithms we know: tables filled in place and, but for the numbers of rows between states, never cleared, Bellman–Ford
 relaxation in place in 32 bits, the same search for a cycle by exact lengths, depth-first listing over adjacency lists with bits for the states left and for dead ends, price classes by leading
 zeros, twin rows found by a key of one word for each row (bits for the states left say whether an earlier row of the machine leaves the state, and only then the keys of the machine are gone through,
-eight at a time in the compiler's vectors), a list judged with one test for the five numbers of a row, and its file made in the same pass, without a branch for a field that may be left out, in a buffer of its own that is copied at the end. Before measuring, both gave the same answers and left the same in the lent lists and buffers on {cases} random inputs, whole, with twin rows and damaged, and on
+eight at a time in the compiler's vectors), a list judged with one test for the six numbers of a row, and its file made in the same pass, without a branch for a field that may be left out, in a buffer of its own that is copied at the end. Before measuring, both gave the same answers and left the same in the lent lists and buffers on {cases} random inputs, whole, with rows that take and send, with twin rows and damaged, and on
 every input below. The files are in the cache; no buffer is cleared between two calls. Below 1 the proved call is faster. The goal is 1.2; 1.4 on plant A where weights pass and for writing it, 2 where a cycle is shown, and 2 for listing.
 Both show a cycle with the fewest rows of all machines, by the same search with the same falling limit: at worst every machine fails and has no shorter cycle than the first, and the search makes 64 rounds
 from each of 64 states over 1,024 rows, less a round from each state for every machine behind the first. A program that may show any cycle could take it from the predecessors of the last round, without a search, and this was not measured.
@@ -178,7 +177,7 @@ the arrays and the algorithms of the proved call, each array cleared by `memset`
 ## Against SPIN and GLPK
 
 How many times faster `weigh` is, on small plants whose weights pass. SPIN proves that a Promela model of the plant, with a bounded channel for
-each type, has no non-progress cycle (`pan -l`, partial order reduction on, compiled with -O2 and -DNP). The first column is from state 0 and empty channels, a weaker statement
+each type, has no non-progress cycle (`pan -l`, partial order reduction on, compiled with -O2 and -DNP); a row that takes and sends is an atomic step. The first column is from state 0 and empty channels, a weaker statement
 than that of weighing, which holds from any states and contents; the second has any states and any contents up to the channels'
 capacity ({capacities}). Both searches ran in a forked process without being loaded anew, with SPIN's table and depth cut to what the model needs; they include SPIN's own set-up and report, and the page faults of a new process. The command `pan -l` has SPIN's own sizes.
 GLPK solves the inequalities (1) to (4) of the published test as a linear program, "above 0" written as "at least 1"; it must find that there is no solution. Solve: the simplex method in one process, start-up and making the problem not counted. Make and solve: with the problem made anew.
@@ -201,7 +200,7 @@ The stack was painted, the call was run on it, and the deepest byte that changed
 
 {stack}
 
-The table of a plant has 8 KB, its edges 2 KB, for a file of at most 64 bytes 512 bytes each, and the keys of a machine's rows 1 KB; to show a cycle takes 5 KB more. `list` has the table and the graph of a machine's rows, 2 KB, and a frame for each row of a path; `confirm` has the table and the sums. `write` has the file, 4 KB, and the keys of a machine's rows, 1 KB, for a list of at most 128 numbers 128 bytes each.
+The table of a plant has 8 KB, its edges 2 KB, for a file of at most 64 bytes 512 bytes each, and the keys of a machine's rows 1 KB; to show a cycle takes 5 KB more. `list` has the table and the graph of a machine's rows, 2 KB, and a frame for each row of a path; `confirm` has the table and the sums. `write` has the file, 5 KB, and the keys of a machine's rows, 1 KB, for a list of at most 128 numbers 128 bytes each.
 
 {sizes}
 """

@@ -81,7 +81,7 @@ INLINE struct fault decode(const uint8_t *f, size_t length, struct table *t, int
             size_t start = at;
             NEED(at);
             unsigned map = f[at], entered, sent = NO_TYPE, taken = NO_TYPE;
-            if (map >= 32 || (map & 12) == 12) FAULT(4, at);
+            if (map >= 32) FAULT(4, at);
             at++;
             if (map & 1) {
                 NEED(at);
@@ -96,13 +96,17 @@ INLINE struct fault decode(const uint8_t *f, size_t length, struct table *t, int
                 if (entered >= states) FAULT(5, at);
                 at++;
             }
-            if (map & 12) {
+            if (map & 4) {
                 NEED(at);
-                unsigned type = f[at];
-                if (type >= types) FAULT(6, at);
+                sent = f[at];
+                if (sent >= types) FAULT(6, at);
                 at++;
-                sent = map & 4 ? type : NO_TYPE;
-                taken = map & 4 ? NO_TYPE : type;
+            }
+            if (map & 8) {
+                NEED(at);
+                taken = f[at];
+                if (taken >= types) FAULT(6, at);
+                at++;
             }
             if (is_twin(keys, rows - first, &states_left, left, key_of(left, entered, sent, taken, map >> 4))) FAULT(26, start);
             if (keep) {
@@ -481,7 +485,7 @@ static struct fault add_set(const struct table *t, const uint32_t *set, size_t l
             seen |= UINT64_C(1) << state;
             state = t->entered[k];
             if (t->sent[k] != NO_TYPE) sums[t->sent[k]] += repeats;
-            else if (t->taken[k] != NO_TYPE) sums[t->taken[k]] -= repeats;
+            if (t->taken[k] != NO_TYPE) sums[t->taken[k]] -= repeats;
         }
         if (wrong || state != start) FAULT(17, at);
         at = end;
@@ -522,20 +526,26 @@ hemtaluq_confirm_answer peer_confirm(const uint8_t *file, size_t length, const u
     JUDGED(low, end);       \
     unsigned x = numbers[at - 1]
 
+/* The ends of the fourth and of the sixth number of a row of this kind. */
 INLINE unsigned type_end(unsigned kind, unsigned types) {
     return kind ? types : 1u;
+}
+
+INLINE unsigned sent_end(unsigned kind, unsigned types) {
+    return kind == 3 ? types : 1u;
 }
 
 /* The first fault of a row of which a number is missing or wrong. */
 static __attribute__((noinline)) struct fault row_fault(const uint16_t *numbers, size_t count, size_t at, unsigned states, unsigned types) {
     JUDGED(0, states);
     JUDGED(0, states);
-    JUDGED(0, 3);
+    JUDGED(0, 4);
     JUDGED(0, type_end(numbers[at - 1], types));
+    JUDGED(0, 2);
     FAULT(at < count ? 24 : 23, at);
 }
 
-/* Judges a list, the five numbers of a row together, and lays the file's bytes in a buffer of its own, which has room for every file. */
+/* Judges a list, the six numbers of a row together, and lays the file's bytes in a buffer of its own, which has room for every file. */
 static struct fault lay(const uint16_t *numbers, size_t count, uint8_t *file, size_t *end) {
     size_t at = 0, rows = 0;
     uint32_t keys[255];
@@ -554,20 +564,22 @@ static struct fault lay(const uint16_t *numbers, size_t count, uint8_t *file, si
         unsigned implied = 0;
         uint64_t states_left = 0;
         for (unsigned i = 0; i < own; i++) {
-            if (count - at < 5) return row_fault(numbers, count, at, states, types);
-            unsigned left = numbers[at], entered = numbers[at + 1], kind = numbers[at + 2], type = numbers[at + 3], progress = numbers[at + 4];
-            if (left >= states || states <= entered || kind >= 3 || type >= type_end(kind, types) || progress >= 2)
+            if (count - at < 6) return row_fault(numbers, count, at, states, types);
+            unsigned left = numbers[at], entered = numbers[at + 1], kind = numbers[at + 2], type = numbers[at + 3], progress = numbers[at + 4], sent = numbers[at + 5];
+            if (left >= states || states <= entered || kind >= 4 || type >= type_end(kind, types) || progress >= 2 || sent >= sent_end(kind, types))
                 return row_fault(numbers, count, at, states, types);
-            if (is_twin(keys, i, &states_left, left, key_of(left, entered, kind, type, progress))) FAULT(26, at);
-            at += 5;
+            if (is_twin(keys, i, &states_left, left, key_of(left, entered, type, sent, progress | kind << 1))) FAULT(26, at);
+            at += 6;
             uint8_t *map = put++;
             *map = (uint8_t)((left != implied) | (entered != left) << 1 | kind << 2 | progress << 4);
             *put = (uint8_t)left;
             put += left != implied;
             *put = (uint8_t)entered;
             put += entered != left;
+            *put = (uint8_t)(kind == 3 ? sent : type);
+            put += kind & 1;
             *put = (uint8_t)type;
-            put += kind != 0;
+            put += kind >> 1;
             implied = left;
         }
     }

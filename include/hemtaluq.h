@@ -9,18 +9,23 @@
  * Every answer has a kind. With HEMTALUQ_REFUSED, number and place say which fault was met first and where. Fields that
  * an answer does not use are 0, and a list that was lent keeps its contents unless the kind says that it was written.
  *
+ * A row sends a message, takes one, does both or neither. A row that does both can happen when the type taken is present; it
+ * takes first, then sends. Where both types are one, it needs one such message and leaves as many as it found.
+ *
  * No machine has a row twice. A row that is equal to an earlier row of its machine, the one before it or any other, in state
  * left, state entered, type sent, type taken and progress is a twin row, also where the two leave out other fields; the same
  * row in another machine is none. Every call that takes a file, and hemtaluq_write, refuses it with HEMTALUQ_TWIN_ROW: after
  * the faults of the row's own bytes or numbers, and before the next byte or number is looked at.
  *
  * Versions: the linker's name of a call carries its revision, which the macros below add. A call whose struct or arguments
- * change gets the next revision, and then an object compiled with the old header does not link: its symbol is missing.
+ * change, or the form of a list that it takes, gets the next revision, and then an object compiled with the old header does
+ * not link: its symbol is missing.
  * HEMTALUQ_VERSION rises with every change of what this header declares, also where structs and arguments stay (a kind,
  * what a kind promises, a fault number, a limit). hemtaluq_version answers the version of the library that was linked, so
  * a program can see at its start whether that is the library of its header: hemtaluq_version() == HEMTALUQ_VERSION.
  * 1: the first. 2: the cycle that weigh shows is a shortest one. 3: write, with kind 8 and numbers 23 to 25. 4: number 26;
- * files and lists with a twin row were accepted before.
+ * files and lists with a twin row were accepted before. 5: a row can take and send; a row of write's list has six numbers,
+ * with kind 3; the longest file and the longest list are longer; files with such rows were refused with 4 before.
  */
 #ifndef HEMTALUQ_H
 #define HEMTALUQ_H
@@ -28,14 +33,14 @@
 #include <stddef.h>
 #include <stdint.h>
 
-#define HEMTALUQ_VERSION 4
+#define HEMTALUQ_VERSION 5
 
 #define hemtaluq_read hemtaluq_read_v1
 #define hemtaluq_weigh hemtaluq_weigh_v1
 #define hemtaluq_quote hemtaluq_quote_v1
 #define hemtaluq_list hemtaluq_list_v1
 #define hemtaluq_confirm hemtaluq_confirm_v1
-#define hemtaluq_write hemtaluq_write_v1
+#define hemtaluq_write hemtaluq_write_v2
 
 #ifdef __cplusplus
 extern "C" {
@@ -62,7 +67,7 @@ enum hemtaluq_fault {
     HEMTALUQ_FILE_ENDS = 1,         /* the file ends before a byte that it needs; the file's length */
     HEMTALUQ_COUNT_LIMITS = 2,      /* count of machines or of types outside limits; that byte */
     HEMTALUQ_STATE_LIMITS = 3,      /* a machine with 0 or more than 64 states; that byte */
-    HEMTALUQ_MAP_BYTE = 4,          /* bits 5 to 7 of a map byte, or bits 2 and 3 together; that byte */
+    HEMTALUQ_MAP_BYTE = 4,          /* one of bits 5 to 7 of a map byte; that byte */
     HEMTALUQ_NOT_A_STATE = 5,       /* not a state of the machine; that byte */
     HEMTALUQ_NOT_A_TYPE = 6,        /* not a type; that byte */
     HEMTALUQ_TOTAL_ROWS = 7,        /* more than 1,024 rows so far; that byte */
@@ -91,8 +96,8 @@ enum hemtaluq_fault {
 #define HEMTALUQ_MOST_TYPES 64
 #define HEMTALUQ_MOST_STATES 64         /* of one machine */
 #define HEMTALUQ_MOST_ROWS 1024         /* of all machines together */
-#define HEMTALUQ_LONGEST_FILE 4130      /* bytes of the longest file that reads as a plant, and of the longest that write writes */
-#define HEMTALUQ_LONGEST_LIST 5154      /* numbers of the longest list that says a plant */
+#define HEMTALUQ_LONGEST_FILE 5154      /* bytes of the longest file that reads as a plant, and of the longest that write writes */
+#define HEMTALUQ_LONGEST_LIST 6178      /* numbers of the longest list that says a plant */
 #define HEMTALUQ_LARGEST_WEIGHT 1000
 #define HEMTALUQ_LARGEST_AMOUNT 1000000 /* a content, g, or the repeats of an entry */
 #define HEMTALUQ_CYCLE_ENTRIES 64       /* the least length of the list lent to hemtaluq_weigh */
@@ -171,10 +176,11 @@ hemtaluq_confirm_answer hemtaluq_confirm(const uint8_t *file, size_t file_length
 
 /* The shortest file of a plant: every file that reads as the same types, machines and rows has at least as many bytes. The
  * list says the plant: count of machines (1 to 16), count of types (0 to 64), then for each machine its states (1 to 64), its
- * count of rows (0 to 255; of all machines at most 1,024) and five numbers for each row: state left, state entered, kind
- * (0 neither, 1 sends, 2 takes), type (0 for kind 0) and progress (0 or 1). Its numbers are judged one by one in this order,
- * and behind the fifth number of a row whether the row is a twin row; a number too many comes after all of them, and a short
- * buffer last.
+ * count of rows (0 to 255; of all machines at most 1,024) and six numbers for each row: state left, state entered, kind
+ * (0 neither, 1 sends, 2 takes, 3 takes and sends), type (the type sent for kind 1, the type taken for kinds 2 and 3, 0 for
+ * kind 0), progress (0 or 1) and, for kind 3, the type sent (0 for other kinds). Its numbers are judged one by one in this
+ * order, and behind the sixth number of a row whether the row is a twin row; a number too many comes after all of them, and
+ * a short buffer last.
  * Wrote: the first length bytes of out are the file, which hemtaluq_read and all other calls read as the list's types,
  * machines and rows. The later bytes of out are kept. A buffer of HEMTALUQ_LONGEST_FILE bytes is never too short. */
 typedef struct {

@@ -1,6 +1,6 @@
 """The command for people, tools/hemtaluq: its texts, its words, its pages, its search for weights, and its installation.
 
-- stored runs: data/command.txt, and the runs that README.md shows (command_runs.py)
+- stored runs: data/command.txt, and the runs that README.md and examples/README.md show (command_runs.py)
 - plant texts: wrong ones, and the way there and back of the plants of the evidence (command_texts.py)
 - weights: the plants of the stored certificates, and a solver that answers anything (command_weights.py)
 - pages: their structure, and in a browser (command_page.py)
@@ -40,14 +40,23 @@ def add(commands):
 NEEDS = {'glpsol': r'hemtaluq weights ', 'dot': r'\.svg'}
 
 
+def text_of(path):
+    with open(os.path.join(ROOT, path), encoding='utf-8') as source:
+        return source.read()
+
+
 def readme_section():
-    with open(os.path.join(ROOT, 'README.md'), encoding='utf-8') as source:
-        return source.read().split('\n## From a drawing to a sheet\n')[1].split('\n## ')[0]
+    return text_of('README.md').split('\n## From a drawing to a sheet\n')[1].split('\n## ')[0]
 
 
 def shown_in_readme():
     """The runs that README.md shows."""
     return command_runs.stored('\n'.join(line[4:] for line in readme_section().split('\n') if not line or line.startswith('    ')))
+
+
+def shown_in_examples():
+    """The runs that examples/README.md shows, between lines of three backquotes."""
+    return command_runs.stored(''.join(text_of('examples/README.md').split('```\n')[1::2]))
 
 
 def hold_commands():
@@ -60,15 +69,15 @@ def hold_commands():
 
 def hold_runs(folder):
     """All stored runs whose programs are there."""
-    with open(os.path.join(ROOT, 'tests', 'data', 'command.txt'), encoding='utf-8') as source:
-        stored = command_runs.stored(command_runs.without_comments(source.read()))
+    sources = (('data/command.txt', command_runs.stored(command_runs.without_comments(text_of('tests/data/command.txt')))),
+               ('README.md', shown_in_readme()), ('examples/README.md', shown_in_examples()))
     os.symlink(os.path.join(ROOT, 'examples'), os.path.join(folder, 'examples'))
     os.symlink(os.path.join(ROOT, 'tools'), os.path.join(folder, 'tools'))
     count = 0
-    for where, runs in (('data/command.txt', stored), ('README.md', shown_in_readme())):
+    for where, runs in sources:
         count += command_runs.hold(folder, [run for run in runs if not any(re.search(need, run[0]) and not shutil.which(program)
                                                                             for program, need in NEEDS.items())], where)
-    return count, len(stored) + len(shown_in_readme())
+    return count, sum(len(runs) for _, runs in sources)
 
 
 # ---- installed
@@ -150,7 +159,8 @@ def main():
         hold_commands()
         tried, runs = hold_runs(folder)
         texts, plants, planted = command_texts.hold(seed)
-        certificates = command_weights.hold(seed)
+        certificates, planted_in_weights = command_weights.hold(seed)
+        planted += planted_in_weights
         command_page.hold(folder)
         prefix, command = hold_installed(folder)
         if 'pkg-config' not in missing:

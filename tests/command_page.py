@@ -135,6 +135,17 @@ def hold_cycle(folder):
             sys.exit('command.py: report: the page with the cycle does not say %s' % part)
 
 
+def hold_both(folder):
+    """A row that takes and sends has both types in the tables, and in the drawing the type that it takes first."""
+    _, page = made(folder, 'both.html', 'feeder/plant.txt', '-w', '1', '1', status=1)
+    owed = [('red', ['3', 'feeder', 'closed', 'open', 'receipt', 'order', '']), ('red', ['5', 'feeder', 'open', 'closed', '', '', ''])]
+    tables = [table[1:] for table in page.tables if table[0][1][0] == 'row']
+    if [len(table) for table in tables] != [2, 6] or tables[0] != owed or [tables[1][k] for k in (3, 5)] != owed:
+        sys.exit('command.py: report: a row that takes and sends is told as %s' % tables)
+    if shutil.which('dot') and ('3 ?order !receipt' not in page.text or 'it takes one, before it sends' not in page.text):
+        sys.exit('command.py: report: a row that takes and sends is drawn otherwise')
+
+
 def hold_arguments(folder):
     """The numbers of progress rows that are asked for; names that are no HTML; and the contents are judged where the weights do not pass."""
     odd = os.path.join(folder, 'a<b>&.txt')
@@ -181,6 +192,7 @@ def hold(folder):
     """Whether a browser was there."""
     hold_passed(folder)
     hold_cycle(folder)
+    hold_both(folder)
     hold_arguments(folder)
     hold_drawing(folder)
     return hold_print(folder)

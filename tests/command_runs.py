@@ -1,4 +1,4 @@
-"""Runs of the command as stored: data/command.txt, and what README.md shows. Each is run by bash in a folder that has the examples."""
+"""Runs of the command as stored: data/command.txt, and what README.md and examples/README.md show. Each is run by bash in a folder with the examples."""
 import os
 import re
 import subprocess

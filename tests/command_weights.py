@@ -2,8 +2,8 @@
 are few types, by all weights up to that one, the smallest largest weight and then the smallest sum.
 
 Beside them stand plants whose weights or sets are just within the limits of the calls, and beyond them, and a solver that answers anything: what
-`weights` calls weights or a set was judged by a proved call, so nothing wrong may come of it. The search for cycles under weights of any size is
-compared with the independent implementation.
+`weights` calls weights or a set was judged by a proved call, so nothing wrong may come of it. The search for cycles under weights of any size, and
+the effects of the cycles found, are compared with the independent implementation, which must find the errors that are planted there.
 """
 import itertools
 import random
@@ -15,10 +15,11 @@ from unittest import mock
 import building
 import evidence_plants
 import evidence_solver
-from command_texts import drawn, loaded
+from command_texts import drawn, exchanged_if_both, forgetful, loaded
 from evidence_independent import Independent, TooMany
 
 from hemtaluq import binding, cycle_sets, outcomes, solver, weight_search
+from hemtaluq.plants import Plant
 
 LYING = 400
 HEAVY = 1500
@@ -61,11 +62,21 @@ def ring(name, marks):
     return ['machine ' + name] + ['s%d -> s%d %s' % (i, (i + 1) % len(marks), mark) for i, mark in enumerate(marks)]
 
 
-def doubling(types):
+def apart(sent, taken):
+    """A ring that takes one type and sends another twice, each message by a row of its own."""
+    return 2 * ['sends t%d' % sent] + ['takes t%d' % taken]
+
+
+def together(sent, taken):
+    """The same, where a row takes and sends; and one that takes and sends a type, which changes nothing."""
+    return ['sends t%d' % sent, 'takes t%d sends t%d' % (taken, sent), 'sends t%d takes t%d' % (taken, taken)]
+
+
+def doubling(types, marks=apart):
     """Each type must weigh more than twice the type before it, so the last of k types weighs 2^k - 1 at least."""
     lines = ['types ' + ' '.join('t%d' % t for t in range(types))] + ring('first', ['takes t0'])
     for t in range(1, types):
-        lines += ring('m%d' % t, 2 * ['sends t%d' % (t - 1)] + ['takes t%d' % t])
+        lines += ring('m%d' % t, marks(t - 1, t))
     return '\n'.join(lines)
 
 
@@ -80,11 +91,16 @@ def repeating(steps):
 
 
 def limits(library):
-    within, beyond = found(library, loaded(library, doubling(9))), found(library, loaded(library, doubling(10)))
-    if not isinstance(within, weight_search.Weights) or within.weights != [2 ** (t + 1) - 1 for t in range(9)]:
-        sys.exit('command.py: weights: 511 is the least largest weight, and this was found: %s' % (within,))
-    if not isinstance(beyond, weight_search.Beyond) or beyond.entries:
-        sys.exit('command.py: weights: 1,023 is beyond the limit, and this was found: %s' % (beyond,))
+    for marks in (apart, together):
+        within, beyond = [found(library, loaded(library, doubling(types, marks))) for types in (9, 10)]
+        if not isinstance(within, weight_search.Weights) or within.weights != [2 ** (t + 1) - 1 for t in range(9)]:
+            sys.exit('command.py: weights: 511 is the least largest weight, and this was found: %s' % (within,))
+        if not isinstance(beyond, weight_search.Beyond) or beyond.entries or beyond.weights != [2 ** (t + 1) - 1 for t in range(10)]:
+            sys.exit('command.py: weights: 1,023 is beyond the limit, and this was found: %s' % (beyond,))
+    hold_repeats(library)
+
+
+def hold_repeats(library):
     for steps in (3, 4):
         within = found(library, loaded(library, repeating(steps)))
         if not isinstance(within, weight_search.Balanced) or sum(entry.repeats for entry in within.entries) < 60 ** steps:
@@ -172,10 +188,10 @@ def hold_solver():
             pass
 
 
-def hold_heavy(library, seed):
+def hold_heavy(library, seed, count=HEAVY):
     """Under weights of any size: a quiet cycle that weighs zero or more is found exactly where the independent implementation has one."""
     rng, independent = random.Random(seed), Independent()
-    for _ in range(HEAVY):
+    for _ in range(count):
         data = evidence_plants.plant_file(rng, *drawn(rng, rng.choice([evidence_plants.small, evidence_plants.exchange, evidence_plants.passing])))
         plant, other = loaded(library, data), independent.plant(data)
         weights = [rng.choice([0, 1, 2, 3, 5000]) for _ in plant.types]
@@ -185,8 +201,34 @@ def hold_heavy(library, seed):
             continue
         cycles = [rows for m in range(len(plant.machines)) for rows in [weight_search.heavy_cycle(plant, m, weights)] if rows]
         if passes != (not cycles) or not all(independent.is_quiet_cycle(other, other.rows[rows[0]].machine, rows) for rows in cycles) \
-                or any(independent.weight(other, weights, rows) < 0 for rows in cycles):
+                or any(independent.weight(other, weights, rows) < 0 for rows in cycles) \
+                or any(weight_search.effect(plant, rows) != independent.effect(other, rows) for rows in cycles):
             sys.exit('command.py: weights: plant %s, weights %s: the cycles %s' % (data.hex(), weights, cycles))
+
+
+def with_rows(change, function):
+    """The function, on a plant whose rows are changed."""
+    def changed(plant, *more):
+        machines = [machine._replace(rows=[change(row) for row in machine.rows]) for machine in plant.machines]
+        return function(Plant(plant.path, plant.types, machines), *more)
+    return changed
+
+
+PLANTED = [(name, attribute, with_rows(change, getattr(weight_search, attribute)))
+           for name, change in (('what is sent is forgotten where something is taken', forgetful),
+                                ('the types of a row that takes and sends are exchanged', exchanged_if_both)) for attribute in ('effect', 'lengths')]
+
+
+def catches(library):
+    """How many planted errors are found."""
+    for name, attribute, wrong in PLANTED:
+        try:
+            with mock.patch.object(weight_search, attribute, wrong):
+                hold_heavy(library, 1, 300)
+        except SystemExit:
+            continue
+        sys.exit('command.py: weights: the planted error "%s", in %s, is not found' % (name, attribute))
+    return len(PLANTED)
 
 
 def without_solver():
@@ -198,6 +240,7 @@ def without_solver():
 
 
 def hold(seed):
+    """On how many plants weights were looked for, and how many planted errors were found."""
     library = binding.load()
     without_solver()
     right = lying(library, seed)
@@ -206,7 +249,8 @@ def hold(seed):
     hold_lies(library)
     hold_solver()
     hold_heavy(library, seed)
+    planted = catches(library)
     if solver.shutil.which('glpsol') is None:
-        return 0
+        return 0, planted
     limits(library)
-    return certificates(library)
+    return certificates(library), planted

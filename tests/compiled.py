@@ -2,7 +2,7 @@
 cycle_sets.py and writing.py.
 
 The calls are those of the C interface. The library is built in a folder of its own, from a copy of the crates in which the
-interface has one export more, of what `decode` holds. What the repository's folder `target` has of proofs is used.
+interface has one export more, of what `decode` holds, and so uses `decoding`. What the repository's folder `target` has of proofs is used.
 
     python3 tests/compiled.py [SEED]
 """
@@ -34,7 +34,8 @@ def build(folder):
     for part in ('crates', 'include', 'target'):
         if os.path.exists(os.path.join(ROOT, part)):
             shutil.copytree(os.path.join(ROOT, part), os.path.join(folder, part), ignore=shutil.ignore_patterns('log'))    # others write there
-    shutil.copy(os.path.join(ROOT, 'crates.txt'), folder)
+    with open(os.path.join(ROOT, 'crates.txt'), encoding='utf-8') as source, open(os.path.join(folder, 'crates.txt'), 'w', encoding='utf-8') as out:
+        out.write(source.read().replace('\ncabinet: ', '\ncabinet: decoding '))
     with open(os.path.join(folder, 'crates', 'cabinet', 'src', 'lib.rt'), 'a', encoding='utf-8') as source:
         source.write(reading.PROBE)
     run(folder, ['rt', 'staticlib', 'cabinet'])

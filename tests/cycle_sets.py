@@ -110,6 +110,8 @@ def cases(rng):
     long = [0, 1000000, 64] + list(range(64))
     yield bytes([1, 1, 64, 64] + [x for s in range(64) for x in (11, s, (s + 1) % 64, 0)]), long * 256
     yield bytes([1, 1, 64, 64] + [x for s in range(64) for x in (7, s, (s + 1) % 64, 0)]), long * 256
+    yield bytes([1, 2, 64, 64] + [x for s in range(64) for x in (15, s, (s + 1) % 64, 1, 0)]), long * 256
+    yield bytes([1, 1, 64, 64] + [x for s in range(64) for x in (15, s, (s + 1) % 64, 0, 0)]), long * 256
     for _ in range(CASES):
         data = weighing.plant_file(rng)
         if rng.random() < 0.03:

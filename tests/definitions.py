@@ -41,11 +41,11 @@ def random_plant(rng):
     rows = []
     for machine, count in enumerate(states):
         for _ in range(rng.randint(0, 4)):
-            kind = rng.choice(['neither', 'sends', 'takes', 'takes']) if types else 'neither'
-            message = rng.randrange(types) if kind != 'neither' else None
+            kind = rng.choice(['neither', 'sends', 'takes', 'takes', 'both']) if types else 'neither'
+            sent, taken = (rng.randrange(types), rng.randrange(types)) if types else (None, None)
             rows.append(Row(machine, rng.randrange(count), rng.randrange(count),
-                            message if kind == 'sends' else None,
-                            message if kind == 'takes' else None,
+                            sent if kind in ('sends', 'both') else None,
+                            taken if kind in ('takes', 'both') else None,
                             rng.random() < 0.3))
     return Plant(types, states, rows)
 

@@ -10,11 +10,12 @@
 - README's section Architecture names every crate, and docs/gate.md has a row for each with the number of its must-fail edits.
 - The crates whose specs README leads a reader through are those that the contracts of the calls, of the exports and of the program's line rest on.
 - The numbers of README's section Tests are figures that a test holds (figures.py).
-- The header of the C interface names every fault number of the table, and each once; its kinds are those of the computed examples of crate cabinet.
+- The header of the C interface names every fault number of the table, and each once; its kinds are those of the computed examples of crate answer_structs.
   The longest file and the longest list are those of the definitions, in the header and in the Rust wrappers.
 - The version is one number in the header, in the definition and in the Rust wrappers; every export of crate cabinet but that of the version has a
-  revision, and the header's macros and the wrappers' link names are these symbols. Their arguments and structs are those that tests/data/revisions.txt
-  has for the revision, so that a change needs the next one, and the structs are the same in the crate, in the header and in the wrappers.
+  revision, and the header's macros and the wrappers' link names are these symbols. Their arguments and structs, and the numbers of a row of the
+  writer's list, are those that tests/data/revisions.txt has for the revision, so that a change needs the next one, and the structs are the same in
+  the crate, in the header and in the wrappers.
 
     python3 tests/documents.py
 """
@@ -349,12 +350,20 @@ def hold_structs(header, source, wrappers):
     return ours
 
 
-def hold_stored_revisions(source, structs, stored):
-    """A revision stands for its arguments and its struct: whoever changes them adds a line with the next one."""
+def row_form(lists):
+    """The numbers of a row of the writer's list in the order in which the definition judges them, with the end of their values where it is a number."""
+    judged = re.search(r'(?m)^listedRow .*=\n((?:    .*\n)+)', read(lists)).group(1)
+    found = re.findall(r'andThen \((.*) s \w+\) \(λ (\w+) \w+\.', judged)
+    return ', '.join(name + ''.join(' < ' + end for end in re.findall(r'^numberIn 0 (\d+)$', values)) for values, name in found)
+
+
+def hold_stored_revisions(source, structs, lists, stored):
+    """A revision stands for its arguments, its struct and the form of its list: whoever changes them adds a line with the next one."""
     known = read(stored).split('\n')
     for name, arguments, answer in re.findall(r'pub extern "C" fn (hemtaluq_\w+_v\d+)\((.*?)\) -> (\w+)', read(source), re.S):
         fields = ', '.join('%s: %s' % field for field in structs.get(answer.lower(), []))
         line = '%s(%s) -> %s' % (name, ' '.join(arguments.split()).rstrip(','), fields)
+        line += '; a row of numbers: ' + row_form(lists) if 'numbers:' in arguments else ''
         if line not in known or sum(k.startswith(name + '(') for k in known) != 1:
             faults.append('%s has not, or not alone for this revision: %s' % (stored, line))
 
@@ -465,12 +474,12 @@ def main():
     hold_figures()
     hold_examples()
     hold_header('include/hemtaluq.h')
-    hold_kinds('include/hemtaluq.h', 'crates/cabinet/proofs/StructsDiffer.antt')
+    hold_kinds('include/hemtaluq.h', 'crates/answer_structs/proofs/StructsDiffer.antt')
     hold_lengths('include/hemtaluq.h', 'examples/cabinet/hemtaluq.rs')
     hold_versions('include/hemtaluq.h', 'crates/cabinet/specs/Versions.antt', 'examples/cabinet/hemtaluq.rs')
     hold_revisions('include/hemtaluq.h', 'crates/cabinet/src/lib.rt', 'examples/cabinet/hemtaluq.rs')
-    structs = hold_structs('include/hemtaluq.h', 'crates/cabinet/src/lib.rt', 'examples/cabinet/hemtaluq.rs')
-    hold_stored_revisions('crates/cabinet/src/lib.rt', structs, 'tests/data/revisions.txt')
+    structs = hold_structs('include/hemtaluq.h', 'crates/answer_structs/src/lib.rt', 'examples/cabinet/hemtaluq.rs')
+    hold_stored_revisions('crates/cabinet/src/lib.rt', structs, 'crates/plant_lists/specs/Lists.antt', 'tests/data/revisions.txt')
     hold_excerpts('docs/ceiling.md', 'ceiling')
     hold_map('docs/map.md')
     for path in ('README.md', 'docs/DECISIONS.md', 'docs/ceiling.md', 'docs/map.md'):

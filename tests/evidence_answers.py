@@ -34,10 +34,10 @@ PLANTS = 20500
 # The planted errors, and the calls that must show them.
 ERRORS = [
     (calls.FILE_CALLS, evidence_independent.READING_ERRORS),
-    (('weigh',), evidence_independent.WEIGHING_ERRORS),
+    (('weigh',), evidence_independent.WEIGHING_ERRORS + evidence_independent.BOTH_ERRORS),
     (('quote',), evidence_independent.QUOTING_ERRORS),
     (('list',), evidence_independent.LISTING_ERRORS),
-    (('confirm',), evidence_independent.CONFIRMING_ERRORS),
+    (('confirm',), evidence_independent.CONFIRMING_ERRORS + evidence_independent.BOTH_ERRORS),
     (('write',), evidence_independent.WRITING_ERRORS),
 ]
 TWIN_ERRORS = [(calls.FILE_CALLS, evidence_independent.TWIN_ERRORS), (('write',), evidence_independent.LISTED_TWIN_ERRORS)]
@@ -155,7 +155,7 @@ def edges():
     """Files, sets and figures at the limits, most of them from the older tests."""
     for data in itertools.chain(reading.edges(), reading.shapes()):
         yield calls.request(data, calls=('read', 'weigh', 'quote', 'confirm'))
-    for data, numbers in itertools.islice(cycle_sets.cases(random.Random(0)), 11):
+    for data, numbers in itertools.islice(cycle_sets.cases(random.Random(0)), 13):
         yield calls.request(data, set=numbers, calls=('confirm',))
     for data, weights, contents, g in itertools.islice(quoting.cases(random.Random(0)), 19):
         yield calls.request(data, weights, contents=contents, g=g, calls=('weigh', 'quote'))
@@ -178,10 +178,11 @@ def damaged_files(long):
     yield plants.PLANT_B, [2, 1]
     yield bytes([1, 0, 1, 1, 0]), []
     yield bytes([1, 64, 3, 3, 3, 0, 1, 2, 2, 8, 63]), [1] * 64
+    yield bytes([1, 2, 2, 3, 15, 0, 1, 0, 1, 15, 1, 0, 0, 0, 28, 1, 1]), [1, 2]
     for maker, count in ((plants.small, 3), (plants.passing, 4), (plants.rings, 2), (plants.first_not_largest, 2), (plants.many_machines, 1)):
         while count:
             data = plants.plant_file(rng, *maker(rng))
-            if 15 <= len(data) <= (150 if long else 60):
+            if 15 <= len(data) <= (150 if long else 50):
                 count -= 1
                 yield data, [t + 1 for t in range(data[1])]
 
@@ -231,8 +232,8 @@ def twins(rng):
 
 
 def longest_truncations():
-    """Every truncation of a longest file: 16 machines, 64 states each, 1,024 rows, 4,130 bytes."""
-    data = bytes([16, 64] + [x for m in range(16) for x in [64, 64] + [x for k in range(64) for x in (11, k, (k + 1) % 64, (k + m) % 64)]])
+    """Every truncation of a longest file: 16 machines, 64 states each, 1,024 rows with all their fields."""
+    data = bytes([16, 64] + [x for m in range(16) for x in [64, 64] + [x for k in range(64) for x in (15, k, (k + 1) % 64, 5 * k % 64, (k + m) % 64)]])
     for i in range(len(data) + 1):
         yield calls.request(data[:i], [1] * 64, contents=[1] * 64, set=[0, 1, 64] + list(range(64)))
 

@@ -15,6 +15,12 @@ import weighing
 Row = namedtuple('Row', 'machine left entered sent taken progress')
 Plant = namedtuple('Plant', 'types states rows')
 STEPS = 4000
+ROW_NUMBERS = 6    # of a row in a list
+
+
+def takes_and_sends(plant):
+    """Whether a row of the plant does both."""
+    return any(r.sent is not None and r.taken is not None for r in plant.rows)
 
 
 class Refused(Exception):
@@ -34,7 +40,15 @@ class Independent:
     # ---- reading
 
     def map_fits(self, b):
-        return b < 32 and not (b & 4 and b & 8)
+        return b < 32
+
+    def type_bits(self):
+        """The bits of the type sent and of the type taken, in the order of their fields."""
+        return 4, 8
+
+    def moved(self, sent, taken):
+        """What a row with these fields sends and takes."""
+        return sent, taken
 
     def state_fits(self, b, states):
         return b < states
@@ -101,9 +115,8 @@ class Independent:
         if bits & 1:
             left = byte(5, lambda b: self.state_fits(b, states))
         entered = byte(5, lambda b: self.state_fits(b, states)) if bits & 2 else left
-        sent = byte(6, lambda b: b < types) if bits & 4 else None
-        taken = byte(6, lambda b: b < types) if bits & 8 else None
-        return Row(machine, left, entered, sent, taken, bits & 16 != 0)
+        fields = {bit: byte(6, lambda b: b < types) for bit in self.type_bits() if bits & bit}
+        return Row(machine, left, entered, *self.moved(fields.get(4), fields.get(8)), bits & 16 != 0)
 
     def read(self, plant):
         return 'counts %d %d %d' % (len(plant.states), plant.types, len(plant.rows))
@@ -321,8 +334,8 @@ class Independent:
             mine = [r for r in plant.rows if r.machine == m]
             numbers += [states, len(mine)]
             for r in mine:
-                kind = 1 if r.sent is not None else 2 if r.taken is not None else 0
-                numbers += [r.left, r.entered, kind, (0, r.sent, r.taken)[kind], int(r.progress)]
+                kind = (r.sent is not None) + 2 * (r.taken is not None)
+                numbers += [r.left, r.entered, kind, (0, r.sent, r.taken, r.taken)[kind], int(r.progress), r.sent if kind == 3 else 0]
         return numbers
 
     def most_of_rows(self, before):
@@ -330,8 +343,8 @@ class Independent:
         return min(255, 1024 - before)
 
     def most_in_row(self, states, types, kind):
-        """The greatest values of a row's five numbers."""
-        return states - 1, states - 1, 2, types - 1 if kind else 0, 1
+        """The greatest values of a row's six numbers."""
+        return states - 1, states - 1, 3, types - 1 if kind else 0, 1, types - 1 if kind == 3 else 0
 
     def limits(self, numbers):
         """The least and the greatest value of each number of a list, as far as the numbers say how many there are, and for each machine where its
@@ -346,7 +359,7 @@ class Independent:
             limits += [(1, 64), (0, self.most_of_rows(rows))]
             if count > limits[-1][1]:
                 break
-            begin.append(range(first, first + 5 * count, 5))
+            begin.append(range(first, first + ROW_NUMBERS * count, ROW_NUMBERS))
             for k in begin[-1]:
                 limits += [(0, most) for most in self.most_in_row(states, number(1), number(k + 2))]
             rows += count
@@ -359,9 +372,9 @@ class Independent:
         """The index of the missing or the first extra number."""
         return min(count, needed)
 
-    def compared_numbers(self, five):
+    def compared_numbers(self, row):
         """What of a row's numbers is compared with the earlier rows of its machine."""
-        return five
+        return row
 
     def listed_twin_place(self, first, begins):
         """The place of a row that equals an earlier one; where the two begin."""
@@ -369,15 +382,19 @@ class Independent:
 
     def judged_before(self, begins, wrong):
         """Whether the row that begins there is compared before the number at the wrong place is judged."""
-        return begins + 5 <= wrong
+        return begins + ROW_NUMBERS <= wrong
 
     def hold_different(self, numbers, begin, wrong):
         """No row that is compared before the wrong place has the numbers of an earlier one of its machine: they are looked for among all of them."""
         for machine in begin:
-            fives = [self.compared_numbers(numbers[k:k + 5]) for k in machine if self.judged_before(k, wrong)]
-            for i, five in enumerate(fives):
-                if fives.index(five) < i:
-                    raise Refused(26, self.listed_twin_place(machine[fives.index(five)], machine[i]))
+            rows = [self.compared_numbers(numbers[k:k + ROW_NUMBERS]) for k in machine if self.judged_before(k, wrong)]
+            for i, row in enumerate(rows):
+                if rows.index(row) < i:
+                    raise Refused(26, self.listed_twin_place(machine[rows.index(row)], machine[i]))
+
+    def types_said(self, kind, fourth, sixth):
+        """The types that a row of this kind sends and takes."""
+        return (None, fourth, None, sixth)[kind], (None, None, fourth, fourth)[kind]
 
     def listed(self, numbers):
         """The plant that a list says."""
@@ -391,9 +408,9 @@ class Independent:
         states, rows, at = [], [], 2
         for m in range(numbers[0]):
             states.append(numbers[at])
-            end = at + 2 + 5 * numbers[at + 1]
-            for left, entered, kind, number, progress in (numbers[k:k + 5] for k in range(at + 2, end, 5)):
-                rows.append(Row(m, left, entered, number if kind == 1 else None, number if kind == 2 else None, progress == 1))
+            end = at + 2 + ROW_NUMBERS * numbers[at + 1]
+            for left, entered, kind, fourth, progress, sixth in (numbers[k:k + ROW_NUMBERS] for k in range(at + 2, end, ROW_NUMBERS)):
+                rows.append(Row(m, left, entered, *self.types_said(kind, fourth, sixth), progress == 1))
             at = end
         return Plant(numbers[1], states, rows)
 
@@ -460,10 +477,34 @@ def without_parallel_rows(self, plant, numbers):
     return sorted(ends.values())
 
 
+def only_taken(sent, taken):
+    """What is sent and taken where a row that takes does not send."""
+    return None if taken is not None else sent, taken
+
+
+def effect_with(moved):
+    """The effect of a cycle, with other types that its rows send and take."""
+    def effect(self, plant, cycle):
+        changed = {k: plant.rows[k]._replace(**dict(zip(('sent', 'taken'), moved(plant.rows[k].sent, plant.rows[k].taken)))) for k in cycle}
+        return Independent.effect(self, plant._replace(rows=changed), cycle)
+    return effect
+
+
+def with_most(index, most):
+    """The greatest values of a row's numbers, with another for one of them; the kind and the count of types say which."""
+    def most_in_row(self, states, types, kind):
+        values = list(Independent.most_in_row(self, states, types, kind))
+        values[index] = most(kind, types)
+        return values
+    return most_in_row
+
+
 READING_ERRORS = [
     planted('a row without bit 0 leaves the state entered before', next_left=lambda self, row: row.entered),
-    planted('bit 5 of a map byte is let by', map_fits=lambda self, b: b < 64 and not (b & 4 and b & 8)),
-    planted('bits 2 and 3 may stand together', map_fits=lambda self, b: b < 32),
+    planted('bit 5 of a map byte is let by', map_fits=lambda self, b: b < 64),
+    planted('bit 7 of a map byte is let by', map_fits=lambda self, b: b & 96 == 0),
+    planted('bits 2 and 3 may not stand together', map_fits=lambda self, b: b < 32 and not (b & 4 and b & 8)),
+    planted('bits 5 to 7 are let by beside bits 2 and 3', map_fits=lambda self, b: b < 32 or b & 12 == 12),
     planted('a state may be the count of states', state_fits=lambda self, b, states: b <= states),
     planted('only 1,023 rows', most_rows=1023),
 ]
@@ -476,10 +517,20 @@ TWIN_ERRORS = [
     *(planted('the %s is not compared' % name, compared=lambda self, row, field=field: row._replace(machine=0, **{field: None}))
       for field, name in (('left', 'state left'), ('entered', 'state entered'), ('sent', 'type sent'), ('taken', 'type taken'), ('progress', 'progress'))),
     planted('a type that is sent equals the same type taken', compared=lambda self, row: (row[1:3], frozenset((row.sent, row.taken)), row.progress)),
+    planted('a row that takes and sends one type equals one that does neither', compared=lambda self, row: row[1:] if row.sent != row.taken
+            else (row[1:3], None, None, row.progress)),
     planted('type 0 equals no type', compared=lambda self, row: (row[1:3], row.sent or None, row.taken or None, row.progress)),
     planted('the place is behind the row', twin_place=lambda self, first, begins, ends: ends),
     planted('the place is that of the row\'s last byte', twin_place=lambda self, first, begins, ends: ends - 1),
     planted('the place is that of the earlier row', twin_place=lambda self, first, begins, ends: first),
+]
+# Of what rows that take and send do.
+BOTH_ERRORS = [
+    planted('the type taken comes before the type sent', type_bits=lambda self: (8, 4)),
+    planted('a row that takes does not send', moved=lambda self, sent, taken: only_taken(sent, taken)),
+    planted('a row that sends does not take', moved=lambda self, sent, taken: only_taken(taken, sent)[::-1]),
+    planted('a row that takes and sends one type takes it away', effect=effect_with(lambda sent, taken: (None if sent == taken else sent, taken))),
+    planted('a row that takes and sends one type adds one', effect=effect_with(lambda sent, taken: (sent, None if sent == taken else taken))),
 ]
 WEIGHING_ERRORS = [
     planted('weight zero is good', good=lambda self, weight: weight <= 0),
@@ -514,27 +565,41 @@ WRITING_ERRORS = [
             if k > 0 and rows[k - 1].machine == rows[k].machine else 0),
     planted('the state that the last row of another machine leaves is taken over', left_before=lambda self, rows, k: rows[k - 1].left if k > 0 else 0),
     planted('the state entered is always written', unwritten=lambda self, left_before, row: (left_before, None, None, None)),
-    planted('kind 3 is let by', most_in_row=lambda self, states, types, kind: (states - 1, states - 1, 3, types - 1 if kind else 0, 1)),
-    planted('a row that neither sends nor takes may have any type', most_in_row=lambda self, states, types, kind: (
-        states - 1, states - 1, 2, max(0, types - 1), 1)),
-    planted('progress may be 2', most_in_row=lambda self, states, types, kind: Independent.most_in_row(self, states, types, kind)[:4] + (2,)),
+    planted('kind 3 is refused', most_in_row=with_most(2, lambda kind, types: 2)),
+    planted('kind 4 is let by', most_in_row=with_most(2, lambda kind, types: 4), types_said=lambda self, kind, fourth, sixth: Independent.types_said(
+        self, kind % 4, fourth, sixth)),
+    planted('a row that neither sends nor takes may have any type', most_in_row=with_most(3, lambda kind, types: max(0, types - 1))),
+    planted('the type taken of kind 3 may be any byte', most_in_row=with_most(3, lambda kind, types: 255 if kind == 3 else types - 1 if kind else 0)),
+    planted('progress may be 2', most_in_row=with_most(4, lambda kind, types: 2)),
+    planted('the type sent of kind 3 may be any byte', most_in_row=with_most(5, lambda kind, types: 255 if kind == 3 else 0)),
+    planted('the sixth number of other kinds is not judged', most_in_row=with_most(5, lambda kind, types: types - 1 if kind == 3 else 65535)),
+    planted('the sixth number may be a type for kind 1', most_in_row=with_most(5, lambda kind, types: types - 1 if kind in (1, 3) else 0)),
+    planted('the sixth number of kind 3 must be 0', most_in_row=with_most(5, lambda kind, types: 0)),
+    planted('the types of kind 3 are exchanged', types_said=lambda self, kind, fourth, sixth: Independent.types_said(
+        self, kind, *((sixth, fourth) if kind == 3 else (fourth, sixth)))),
+    planted('kind 3 only takes', types_said=lambda self, kind, fourth, sixth: only_taken(*Independent.types_said(self, kind, fourth, sixth))),
+    planted('the type sent is not written beside one that is taken', unwritten=lambda self, left_before, row: (
+        left_before, row.left, row.sent if row.taken is not None else None, None)),
     planted('1,025 rows', most_of_rows=lambda self, before: min(255, 1025 - before)),
     planted('a list that goes on is let by', length_fits=lambda self, count, needed: count >= needed),
     planted('a missing number has place 0', length_place=lambda self, count, needed: 0 if count < needed else needed),
 ]
 # The same in a list of numbers.
 LISTED_TWIN_ERRORS = [
-    planted('rows that equal an earlier one are let by', compared_numbers=lambda self, five: object()),
-    *(planted('the %s is not compared' % name, compared_numbers=lambda self, five, field=field: five[:field] + five[field + 1:])
-      for field, name in enumerate(('state left', 'state entered', 'kind', 'type', 'progress'))),
-    planted('a type that is sent equals the same type taken', compared_numbers=lambda self, five: five[:2] + [five[2] > 0] + five[3:]),
+    planted('rows that equal an earlier one are let by', compared_numbers=lambda self, row: object()),
+    *(planted('the %s is not compared' % name, compared_numbers=lambda self, row, field=field: row[:field] + row[field + 1:])
+      for field, name in enumerate(('state left', 'state entered', 'kind', 'type', 'progress', 'sixth number'))),
+    planted('a type that is sent equals the same type taken', compared_numbers=lambda self, row: row[:2] + [row[2] > 0] + row[3:]),
+    planted('a row that takes and sends equals one with these types exchanged', compared_numbers=lambda self, row: row[:3] + [sorted(row[3::2])] + row[4:5]),
+    planted('a row that takes and sends one type equals one that does neither', compared_numbers=lambda self, row: row if row[2] < 3 or row[3] != row[5]
+            else row[:2] + [0, 0, row[4], 0]),
     planted('rows of earlier machines are compared as well', hold_different=lambda self, numbers, begin, wrong: Independent.hold_different(
         self, numbers, [[k for machine in begin for k in machine]], wrong)),
-    planted('the place is that of the row\'s last number', listed_twin_place=lambda self, first, begins: begins + 4),
+    planted('the place is that of the row\'s last number', listed_twin_place=lambda self, first, begins: begins + ROW_NUMBERS - 1),
     planted('the place is that of the earlier row', listed_twin_place=lambda self, first, begins: first),
-    planted('a row is compared before its last number is judged', judged_before=lambda self, begins, wrong: begins + 4 <= wrong,
-            compared_numbers=lambda self, five: five[:4] + [x % 2 for x in five[4:]]),
-    planted('a row is compared after the next number is judged', judged_before=lambda self, begins, wrong: begins + 5 < wrong),
+    planted('a row is compared before its last number is judged', judged_before=lambda self, begins, wrong: begins + ROW_NUMBERS - 1 <= wrong,
+            compared_numbers=lambda self, row: row[:5] + [x % 2 for x in row[5:]]),
+    planted('a row is compared after the next number is judged', judged_before=lambda self, begins, wrong: begins + ROW_NUMBERS < wrong),
 ]
 PROGRAM_ERRORS = [
     planted('rows that equal an earlier one are let by', compared=lambda self, row: object()),

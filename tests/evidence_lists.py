@@ -8,9 +8,11 @@ import evidence_calls as calls
 import evidence_plants as plants
 import writing
 from evidence_independent import Refused
+from reading import LONGEST_FILE
+from writing import LONGEST_LIST
 
 SHORT = 40
-VALUES = (0, 1, 2, 3, 16, 17, 63, 64, 65, 255, 256, 65535)
+VALUES = (0, 1, 2, 3, 4, 16, 17, 63, 64, 65, 255, 256, 65535)
 
 
 def request(numbers, room):
@@ -20,9 +22,9 @@ def request(numbers, room):
 def limits(independent):
     """The limits of the older tests, and each that is written with a buffer one byte too short, and with a number more."""
     for numbers in writing.edges():
-        yield request(numbers, 4130)
-        yield request(numbers, 4131)
-        yield request(numbers + [0], 4130)
+        yield request(numbers, LONGEST_FILE)
+        yield request(numbers, LONGEST_FILE + 1)
+        yield request(numbers + [0], LONGEST_FILE)
         yield request(numbers + [0], 0)
         try:
             yield request(numbers, len(independent.file(independent.listed(numbers))) - 1)
@@ -31,11 +33,13 @@ def limits(independent):
 
 
 def variants(numbers, places):
-    """At these places of a list: the list cut off, cut off behind a number that is changed, the number taken out, changed, and numbers put in."""
+    """At these places of a list: the list cut off, cut off behind a number that is changed, the number taken out, changed, also together with the
+    next one, and numbers put in."""
     for i in places:
         yield numbers[:i]
         yield numbers[:i] + numbers[i + 1:]
         yield numbers[:i] + [65535]
+        yield numbers[:i] + [65535, 65535] + numbers[i + 2:]
         for x in sorted({*VALUES, numbers[i] + 1, numbers[i] + 256} - {numbers[i]}):
             yield numbers[:i] + [x] + numbers[i + 1:]
         for x in (0, 1, 64):
@@ -52,8 +56,8 @@ def damaged(files, independent):
         for i, variant in enumerate(variants(numbers, range(len(numbers)))):
             yield request(variant, room + i % 5 - 2)
     longest = writing.longest_list()
-    for variant in variants(longest, [*range(0, 14), *range(300, 5140, 400), *range(5146, 5154)]):
-        yield request(variant, 4130)
+    for variant in variants(longest, [*range(0, 14), *range(300, LONGEST_LIST - 8, 400), *range(LONGEST_LIST - 8, LONGEST_LIST)]):
+        yield request(variant, LONGEST_FILE)
 
 
 def lengths(rng, independent, count):

@@ -50,9 +50,13 @@ def different(count, draw):
 
 
 def message(rng, types):
-    """What a row sends and takes."""
-    kind, t = rng.choice(['sends', 'takes', 'takes', 'neither']), rng.randrange(types) if types else None
-    return (t if kind == 'sends' else None, t if kind == 'takes' else None)
+    """What a row sends and takes; where it does both, often one type."""
+    if not types:
+        return None, None
+    kind, sent, taken = rng.choice(['sends', 'takes', 'takes', 'neither', 'both']), rng.randrange(types), rng.randrange(types)
+    if kind == 'both':
+        return sent, rng.choice([sent, taken, taken])
+    return (sent if kind == 'sends' else None, taken if kind == 'takes' else None)
 
 
 def between_any(rng, states, types, progress):
@@ -72,14 +76,17 @@ def ring(rng, states, count, types):
 
 
 def falling(rng, states, count, types):
-    """Rows onward send a light type or nothing, rows back take a heavier one: weights 1, 2, 3, ... pass, or just fail."""
+    """Rows onward send a light type, or one for another that is as heavy or a little lighter, or nothing; rows back take a heavier one, and may send
+    one that is much lighter: weights 1, 2, 3, ... pass, or just fail."""
     def draw(i):
-        left, entered = rng.randrange(states), rng.randrange(states)
+        left, entered, t = rng.randrange(states), rng.randrange(states), rng.randrange(types)
         entered = min(entered, left + rng.choice([1, 1, 2])) if entered > left else max(entered, left - types)
         if entered > left:
-            return left, entered, 0 if rng.random() < 0.5 else None, None, rng.random() < 0.1
+            return (left, entered) + rng.choice([(0, None), (None, None), (min(types - 1, t + rng.randrange(2)), t)]) + (rng.random() < 0.1,)
         heavy = min(types - 1, left - entered + (0 if rng.random() < 0.03 else 1))
-        return left, entered, None, rng.randint(heavy, types - 1), rng.random() < 0.1
+        taken = rng.randint(heavy, types - 1)
+        lighter = taken - heavy - 1
+        return left, entered, rng.randint(0, lighter) if lighter >= 0 and rng.random() < 0.5 else None, taken, rng.random() < 0.1
 
     return different(count, draw)
 
@@ -158,6 +165,9 @@ def detours():
     yield [quiet_ring(5), quiet_ring(5, 0), quiet_ring(5)]
     yield [passing, quiet_ring(4), passing, quiet_ring(3), passing]
     yield [passing, quiet_ring(64), passing]
+    # Rows that take and send: one type, which weighs nothing, and two types there and back.
+    yield [quiet_ring(2), passing, (1, [(0, 0, 1, 1, False)])]
+    yield [quiet_ring(3), (2, [(0, 1, 0, 1, False), (1, 0, 1, 0, False)])]
     yield [quiet_ring(64)] * 16
     # From state 0 the cycle found has three rows and weighs 0; one of two rows, which weighs 2, goes from state 1.
     yield [(3, [(0, 1, None, None, False), (1, 2, None, None, False), (2, 0, None, None, False), (2, 1, 1, None, False)])]

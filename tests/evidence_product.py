@@ -20,6 +20,14 @@ Shim = namedtuple('Shim', 'name calls statement')
 
 TABLE = ('weigh', 'list', 'confirm')
 
+
+
+def kept_types(sent, taken):
+    """How bench/peer.c keeps the types of a row."""
+    return 't->sent[rows] = (uint8_t)%s;\n                t->taken[rows] = (uint8_t)%s;' % (sent, taken)
+
+
+KEPT_TYPES = kept_types('sent', 'taken')
 READING = [
     Edit('a plant without machines is read', ('read',), 'f[0] < 1 || ', ''),
     Edit('64 types are too many', ('read',), 'f[1] > 64', 'f[1] > 63'),
@@ -27,13 +35,21 @@ READING = [
     Edit('65 states are let by', ('read',), 'states > 64) FAULT(3', 'states > 65) FAULT(3'),
     Edit('1,024 rows are too many', calls.FILE_CALLS, 'end > 1024', 'end > 1023'),
     Edit('bit 5 of a map byte is let by', ('read', 'weigh'), 'map >= 32', 'map >= 64'),
-    Edit('bits 2 and 3 may stand together', ('read', 'weigh'), ' || (map & 12) == 12', ''),
+    Edit('bits 2 and 3 may not stand together', calls.FILE_CALLS, 'map >= 32', 'map >= 32 || (map & 12) == 12'),
+    Edit('bits 5 to 7 are let by beside bits 2 and 3', ('read',), 'map >= 32', 'map >= 32 && (map & 12) < 12'),
     Edit('the state entered may be the count of states', ('read',), 'entered >= states', 'entered > states'),
     Edit('a row without bit 0 leaves the state entered before', TABLE, 't->progress[rows] = map >> 4;', 't->progress[rows] = map >> 4; left = entered;'),
     Edit('a row without bit 1 enters state 0', TABLE, 'entered = left;', 'entered = 0;'),
-    Edit('the place of a wrong type is one too far', calls.FILE_CALLS, 'FAULT(6, at)', 'FAULT(6, at + 1)'),
+    Edit('the place of a wrong type sent is one too far', calls.FILE_CALLS, 'if (sent >= types) FAULT(6, at)', 'if (sent >= types) FAULT(6, at + 1)'),
+    Edit('the place of a wrong type taken is one too far', calls.FILE_CALLS, 'if (taken >= types) FAULT(6, at)', 'if (taken >= types) FAULT(6, at + 1)'),
+    Edit('the type sent is not judged where one is taken', ('read',), 'if (sent >= types)', 'if (sent >= types && !(map & 8))'),
+    Edit('the type taken is not judged where one is sent', ('read',), 'if (taken >= types)', 'if (taken >= types && !(map & 4))'),
     Edit('the place of bytes that remain is the file\'s end', calls.FILE_CALLS, 'FAULT(8, at)', 'FAULT(8, length)'),
-    Edit('a type that is sent is taken', ('weigh', 'confirm'), 'sent = map & 4 ?', 'sent = map & 8 ?'),
+    Edit('a type that is sent is taken', ('weigh', 'confirm'), KEPT_TYPES, kept_types('taken', 'sent')),
+    Edit('the type taken comes before the type sent', ('weigh', 'confirm'), KEPT_TYPES,
+         kept_types('((map & 12) == 12 ? taken : sent)', '((map & 12) == 12 ? sent : taken)')),
+    Edit('a row that takes does not send', ('weigh', 'confirm'), KEPT_TYPES, kept_types('(map & 8 ? NO_TYPE : sent)', 'taken')),
+    Edit('a row that sends does not take', ('weigh', 'confirm'), KEPT_TYPES, kept_types('sent', '(map & 4 ? NO_TYPE : taken)')),
 ]
 WEIGHING = [
     Edit('a weight may be 1,001', ('weigh', 'quote'), 'weights[i] > 1000', 'weights[i] > 1001'),
@@ -43,6 +59,10 @@ WEIGHING = [
     Edit('weight zero is good', ('weigh', 'quote'), '1 + n * e[i].weight', 'n * e[i].weight'),
     Edit('progress rows are taken as quiet', ('weigh', 'quote'), 'count += !t->progress[k]', 'count += 1'),
     Edit('a type taken weighs nothing', ('weigh', 'quote'), 'weights[t->sent[k]] - weights[t->taken[k]]', 'weights[t->sent[k]]'),
+    Edit('a row that takes and sends one type weighs as what it sends', ('weigh', 'quote'), 'weights[t->sent[k]] - weights[t->taken[k]]',
+         'weights[t->sent[k]] - (t->sent[k] == t->taken[k] ? 0 : weights[t->taken[k]])'),
+    Edit('a row that takes and sends one type weighs as what it takes', ('weigh', 'quote'), 'weights[t->sent[k]] - weights[t->taken[k]]',
+         '(t->sent[k] == t->taken[k] ? 0 : weights[t->sent[k]]) - weights[t->taken[k]]'),
     Edit('the first machine alone is judged', ('weigh', 'quote'), 'm < t->machines; m++) {\n        unsigned count', 'm < 1; m++) {\n        unsigned count'),
     Edit('n is taken from the first machine', ('weigh',), 'if (t->states[m] > n)', 'if (m == 0)'),
     Edit('w is the sum of the weights', ('weigh', 'quote'), 'if ((uint64_t)laid[i] > w) w = ', 'w += '),
@@ -107,6 +127,8 @@ CONFIRMING = [
     Edit('a state may be left twice', ('confirm',), ' || (seen >> state & 1)', ''),
     Edit('a walk that does not come back is a cycle', ('confirm',), 'wrong || state != start', 'wrong'),
     Edit('types taken are counted once', ('confirm',), '-= repeats', '-= 1'),
+    Edit('what a row takes is not counted where it sends', ('confirm',), 'if (t->taken[k] != NO_TYPE)', 'if (t->sent[k] == NO_TYPE && t->taken[k] != NO_TYPE)'),
+    Edit('what a row sends is not counted where it takes', ('confirm',), 'if (t->sent[k] != NO_TYPE)', 'if (t->taken[k] == NO_TYPE && t->sent[k] != NO_TYPE)'),
     Edit('the sum is that of type 0', ('confirm',), 'a.sum = sums[i]', 'a.sum = sums[0]'),
     Edit('a sum of zero is negative', ('confirm',), 'sums[i] < 0', 'sums[i] <= 0'),
     Shim('the type is counted from 1', ('confirm',), 'if (a.kind == HEMTALUQ_NEGATIVE) a.message_type++;'),
@@ -120,10 +142,24 @@ WRITING = [
     Edit('1,025 rows are let by', ('write',), 'rows > 1024) FAULT(24', 'rows > 1025) FAULT(24'),
     Edit('the place of too many rows is that of the states', ('write',), 'FAULT(24, at - 1)', 'FAULT(24, at - 2)'),
     Edit('the state entered may be the count of states', ('write',), 'states <= entered', 'states < entered'),
-    Edit('kind 3 is let by', ('write',), 'kind >= 3', 'kind >= 4'),
+    Edit('kind 3 is refused', ('write',), 'kind >= 4', 'kind >= 3'),
+    Edit('kind 4 is let by', ('write',), 'kind >= 4', 'kind >= 5'),
     Edit('a row that neither sends nor takes may have any type', ('write',), 'kind ? types : 1u', 'kind || types ? types : 1u'),
     Edit('a row that neither sends nor takes needs a type', ('write',), 'kind ? types : 1u', 'types'),
+    Edit('the fourth number of kind 3 is not judged', ('write',), 'kind ? types : 1u', 'kind == 3 ? 65536 : kind ? types : 1u'),
+    Edit('kind 3 needs no types', ('write',), 'kind ? types : 1u', 'kind == 3 && !types ? 1u : kind ? types : 1u'),
     Edit('progress may be 2', ('write',), 'progress >= 2', 'progress >= 3'),
+    Edit('the sixth number is not judged', ('write',), 'kind == 3 ? types : 1u', '65536'),
+    Edit('the sixth number of kind 3 may be the count of types', ('write',), 'kind == 3 ? types : 1u', 'kind == 3 ? types + 1 : 1u'),
+    Edit('the sixth number may be a type for kind 1', ('write',), 'kind == 3 ? types : 1u', 'kind & 1 ? types : 1u'),
+    Edit('the sixth number may be a type for kind 2', ('write',), 'kind == 3 ? types : 1u', 'kind & 2 ? types : 1u'),
+    Edit('the sixth number of kind 3 must be 0', ('write',), 'kind == 3 ? types : 1u', '1u'),
+    Edit('the sixth number is judged before the fifth', ('write',), 'JUDGED(0, 2);',
+         'if (at + 1 < count && numbers[at + 1] >= sent_end(numbers[at - 2], types)) FAULT(24, at + 1);\n    JUDGED(0, 2);'),
+    Edit('the fifth number is judged before the fourth', ('write',), 'JUDGED(0, type_end(numbers[at - 1], types));',
+         'if (at + 1 < count && numbers[at + 1] >= 2) FAULT(24, at + 1);\n    JUDGED(0, type_end(numbers[at - 1], types));'),
+    Edit('a missing sixth number gets 24', ('write',), 'at < count ? 24 : 23', '24'),
+    Edit('a wrong sixth number gets 23', ('write',), 'at < count ? 24 : 23', '23'),
     Edit('the state left is judged by its low byte', ('write',), 'unsigned left = numbers[at], entered', 'unsigned left = (uint8_t)numbers[at], entered'),
     Edit('a missing number has place 0', ('write',), 'if (at >= count) FAULT(23, at);', 'if (at >= count) FAULT(23, 0);'),
     Edit('a list that goes on is let by', ('write',), 'if (at < count) FAULT(23, at);', ''),
@@ -138,7 +174,14 @@ WRITING = [
          '            put += left != implied;\n            *put = (uint8_t)entered;\n            put += entered != left;',
          '2 | kind << 2 | progress << 4);\n            *put = (uint8_t)left;\n            put += left != implied;\n'
          '            *put = (uint8_t)entered;\n            put++;'),
-    Edit('a type that is sent is taken', ('write',), 'kind << 2 | progress', '(kind ? 3 - kind : 0) << 2 | progress'),
+    Edit('a type that is sent is taken', ('write',), 'kind << 2 | progress', '(kind % 3 ? 3 - kind : kind) << 2 | progress'),
+    Edit('the types of kind 3 are exchanged', ('write',), '(kind == 3 ? sent : type);\n            put += kind & 1;\n            *put = (uint8_t)type;',
+         'type;\n            put += kind & 1;\n            *put = (uint8_t)(kind == 3 ? sent : type);'),
+    Edit('kind 3 writes the type taken twice', ('write',), 'kind == 3 ? sent : type', 'type'),
+    Edit('the map byte of kind 3 lacks bit 2', ('write',), 'kind << 2 | progress', '(kind == 3 ? 2 : kind) << 2 | progress'),
+    Edit('kind 3 is written as kind 1', ('write',), 'at += 6;', 'at += 6;\n            if (kind == 3) kind = 1, type = sent;'),
+    Edit('kind 3 is written as kind 2', ('write',), 'at += 6;', 'at += 6;\n            if (kind == 3) kind = 2;'),
+    Edit('kind 3 with one type is written as kind 0', ('write',), 'at += 6;', 'at += 6;\n            if (kind == 3 && type == sent) kind = 0;'),
     Edit('progress is not written', ('write',), ' | progress << 4', ''),
     Edit('a buffer that is one byte too short is let by', ('write',), 'length > out_length', 'length > out_length + 1'),
     Edit('a buffer that is just long enough is refused', ('write',), '!fault.number && length > out_length', '!fault.number && length >= out_length'),
@@ -161,7 +204,7 @@ SHARED = [
     Shim('the count of rows stands in the answer that refuses', ('read',), 'if (a.kind == HEMTALUQ_REFUSED) a.rows = 1;'),
 ]
 # How bench/peer.c compares a row with the earlier ones of its machine, in a file and in a list.
-FILE_KEY, LIST_KEY = 'key_of(left, entered, sent, taken, map >> 4)', 'key_of(left, entered, kind, type, progress)'
+FILE_KEY, LIST_KEY = 'key_of(left, entered, sent, taken, map >> 4)', 'key_of(left, entered, type, sent, progress | kind << 1)'
 FILE_TWIN, LIST_TWIN = 'is_twin(keys, rows - first, &states_left, left, %s)' % FILE_KEY, 'is_twin(keys, i, &states_left, left, %s)' % LIST_KEY
 
 
@@ -187,16 +230,27 @@ TWINS = [
     Edit('the 255th row of a machine is not compared', calls.CALLS, 'if (*states >> left & 1 &&', 'if (n < 254 && *states >> left & 1 &&'),
     Edit('rows that leave states from 32 on are let by', calls.CALLS, '*states >> left & 1', '(*states & 0xffffffff) >> left & 1'),
     Edit('only the state that the row before leaves is marked', calls.CALLS, '*states |= (uint64_t)1 << left;', '*states = (uint64_t)1 << left;'),
-    Edit('a row is not compared with progress rows', calls.CALLS, 'keys[n] = key;', 'keys[n] = key >> 26 ? UINT32_MAX : key;'),
-    *keyed('the state left is not compared', '0, entered, sent, taken, map >> 4', '0, entered, kind, type, progress'),
-    *keyed('the state entered is not compared', 'left, 0, sent, taken, map >> 4', 'left, 0, kind, type, progress'),
-    *keyed('progress is not compared', 'left, entered, sent, taken, 0', 'left, entered, kind, type, 0'),
-    *keyed('a type that is sent equals the same type taken', 'left, entered, sent < taken ? sent : taken, 0, map >> 4', 'left, entered, kind > 0, type, progress'),
-    *keyed('type 0 equals no type', 'left, entered, sent % 64, taken % 64, map >> 4', 'left, entered, type ? kind : 0, type, progress'),
+    Edit('a row is not compared with progress rows', calls.CALLS, 'keys[n] = key;', 'keys[n] = key >> 26 & 1 ? UINT32_MAX : key;'),
+    *keyed('the state left is not compared', '0, entered, sent, taken, map >> 4', '0, entered, type, sent, progress | kind << 1'),
+    *keyed('the state entered is not compared', 'left, 0, sent, taken, map >> 4', 'left, 0, type, sent, progress | kind << 1'),
+    *keyed('progress is not compared', 'left, entered, sent, taken, 0', 'left, entered, type, sent, kind << 1'),
+    *keyed('a type that is sent equals the same type taken', 'left, entered, sent < taken ? sent : taken, 0, map >> 4',
+           'left, entered, type, sent, progress | (kind > 0) << 1'),
+    *keyed('type 0 equals no type', 'left, entered, sent % 64, taken % 64, map >> 4', 'left, entered, type, sent, progress | (type ? kind : 0) << 1'),
+    *keyed('a row that takes and sends equals one with these types exchanged',
+           'left, entered, (map & 12) == 12 && taken < sent ? taken : sent, (map & 12) == 12 && taken < sent ? sent : taken, map >> 4',
+           'left, entered, type < sent ? type : sent, type < sent ? sent : type, progress | kind << 1'),
+    *keyed('a row that takes and sends one type equals one that does neither',
+           'left, entered, sent == taken ? 0 : sent, sent == taken ? 0 : taken, map >> 4 | (sent == taken) << 1',
+           'left, entered, kind == 3 && type == sent ? 0 : type, kind == 3 && type == sent ? 0 : sent, '
+           'progress | (kind == 3 && type == sent ? 0 : kind) << 1'),
+    *keyed('a row that takes and sends type 0 equals one that only takes', 'left, entered, map & 8 && !sent ? NO_TYPE : sent, taken, map >> 4',
+           'left, entered, type, sent, progress | (kind == 3 && !sent ? 2 : kind) << 1'),
     Edit('the type sent is not compared', calls.FILE_CALLS, FILE_KEY, 'key_of(left, entered, 0, taken, map >> 4)'),
     Edit('the type taken is not compared', calls.FILE_CALLS, FILE_KEY, 'key_of(left, entered, sent, 0, map >> 4)'),
     Edit('types 32 and more equal those from 0 on', calls.FILE_CALLS, FILE_KEY, 'key_of(left, entered, sent & 95, taken & 95, map >> 4)'),
-    Edit('the type is not compared, in a list', ('write',), LIST_KEY, 'key_of(left, entered, kind, 0, progress)'),
+    Edit('the type is not compared, in a list', ('write',), LIST_KEY, 'key_of(left, entered, 0, sent, progress | kind << 1)'),
+    Edit('the sixth number is not compared', ('write',), LIST_KEY, 'key_of(left, entered, type, 0, progress | kind << 1)'),
     Edit('only rows with the same map byte are compared', calls.FILE_CALLS, FILE_KEY, 'key_of(left, entered, sent, taken, map)'),
     in_file('rows that equal an earlier one are let by where the file is only read', 'if (keep && IS_TWIN) FAULT(26, start);', ('read',)),
     in_file('they are let by where the rows are kept', 'if (!keep && IS_TWIN) FAULT(26, start);', calls.FILE_CALLS[1:]),
@@ -216,26 +270,32 @@ TWINS = [
     Edit('a row is compared before its state entered is judged', calls.FILE_CALLS, 'if (entered >= states) FAULT(5, at);',
          'if (!(map & 12) && is_in(keys, rows - first, key_of(left, entered % 64, NO_TYPE, NO_TYPE, map >> 4))) FAULT(26, start);\n'
          '                if (entered >= states) FAULT(5, at);'),
-    Edit('a row is compared before its type is judged', calls.FILE_CALLS, 'if (type >= types) FAULT(6, at);',
-         'if (is_in(keys, rows - first, key_of(left, entered, map & 4 ? type % 64 : NO_TYPE, map & 4 ? NO_TYPE : type % 64, map >> 4))) FAULT(26, start);\n'
-         '                if (type >= types) FAULT(6, at);'),
-    Edit('a row is compared before its type is there', calls.FILE_CALLS, 'NEED(at);\n                unsigned type',
-         'if (at >= length && is_in(keys, rows - first, key_of(left, entered, NO_TYPE, NO_TYPE, map >> 4))) FAULT(26, start);\n'
-         '                NEED(at);\n                unsigned type'),
+    Edit('a row is compared before the type sent is judged', calls.FILE_CALLS, 'if (sent >= types) FAULT(6, at);',
+         'if (!(map & 8) && is_in(keys, rows - first, key_of(left, entered, sent % 64, NO_TYPE, map >> 4))) FAULT(26, start);\n'
+         '                if (sent >= types) FAULT(6, at);'),
+    Edit('a row is compared before the type taken is judged', calls.FILE_CALLS, 'if (taken >= types) FAULT(6, at);',
+         'if (is_in(keys, rows - first, key_of(left, entered, sent, taken % 64, map >> 4))) FAULT(26, start);\n'
+         '                if (taken >= types) FAULT(6, at);'),
+    Edit('a row is compared before the type taken is there', calls.FILE_CALLS, 'NEED(at);\n                taken',
+         'if (at >= length && is_in(keys, rows - first, key_of(left, entered, sent, NO_TYPE, map >> 4))) FAULT(26, start);\n'
+         '                NEED(at);\n                taken'),
     in_list('rows that equal an earlier one are written', 'if (0 && IS_TWIN) FAULT(26, at);'),
     in_list('rows of earlier machines are compared as well, in a list', 'static uint32_t all[1024];\n            static uint64_t any;\n'
             '            any = rows - own + i ? any : 0;\n            if (is_twin(all, rows - own + i, &any, left, %s)) FAULT(26, at);' % LIST_KEY),
-    in_list('the place is that of the row\'s last number', 'if (IS_TWIN) FAULT(26, at + 4);'),
-    in_list('the place is that of the number behind the row', 'if (IS_TWIN) FAULT(26, at + 5);'),
+    in_list('the place is that of the row\'s last number', 'if (IS_TWIN) FAULT(26, at + 5);'),
+    in_list('the place is that of the number behind the row', 'if (IS_TWIN) FAULT(26, at + 6);'),
     in_list('the place is that of the earlier row, in a list', 'if (IS_TWIN) {\n                unsigned k = 0;\n                while (keys[k] != %s) k++;\n'
-            '                FAULT(26, at - 5 * (i - k));\n            }' % LIST_KEY),
-    in_list('a number that is missing behind the row comes first', 'if (IS_TWIN) {\n                if (at + 5 == count && i + 1 < own) FAULT(23, count);\n'
+            '                FAULT(26, at - 6 * (i - k));\n            }' % LIST_KEY),
+    in_list('a number that is missing behind the row comes first', 'if (IS_TWIN) {\n                if (at + 6 == count && i + 1 < own) FAULT(23, count);\n'
             '                FAULT(26, at);\n            }'),
-    in_list('a list that goes on comes first', 'if (IS_TWIN) {\n                if (at + 5 < count && i + 1 == own && m + 1 == machines) FAULT(23, at + 5);\n'
+    in_list('a list that goes on comes first', 'if (IS_TWIN) {\n                if (at + 6 < count && i + 1 == own && m + 1 == machines) FAULT(23, at + 6);\n'
             '                FAULT(26, at);\n            }'),
-    Edit('a row is compared before its progress is judged', ('write',), 'if (left >= states || states <= entered',
-         'if (left < states && entered < states && kind < 3 && type < type_end(kind, types)\n'
-         '                && is_in(keys, i, key_of(left, entered, kind, type, progress & 1))) FAULT(26, at);\n            if (left >= states || states <= entered'),
+    *(Edit('a row is compared before its %s is judged' % what, ('write',), 'if (left >= states || states <= entered',
+           'if (left < states && entered < states && kind < 4 && type < type_end(kind, types) && %s) FAULT(26, at);\n'
+           '            if (left >= states || states <= entered' % early)
+      for what, early in (
+          ('progress', 'sent < sent_end(kind, types) && is_in(keys, i, key_of(left, entered, type, sent, (progress & 1) | kind << 1))'),
+          ('sixth number', 'progress < 2 && is_in(keys, i, key_of(left, entered, type, kind == 3 ? sent % 64 : 0, progress | kind << 1))'))),
     Edit('an empty buffer comes first', ('write',), 'if (!fault.number && length > out_length)',
          'if (fault.number == 26 ? !out_length : !fault.number && length > out_length)'),
     Shim('a short list comes first', ('weigh',), 'if (a.number == 26 && cycle_length < 64) a.number = 11, a.place = 0;'),

@@ -2,7 +2,7 @@
 
 - A simulator in C draws event lists and judges the bound after every event: random ones, most of whose events cannot
   happen or name what the plant lacks; greedy ones, which put progress off; adversarial ones, which take the quiet row after
-  which most is left to come. The simulator is itself held against the one of definitions.py.
+  which most is left to come. The simulator is itself held against the one of definitions.py, event by event.
 - On small plants a search through all configurations finds the most quiet rows that a run can have. This never exceeds the
   ceiling of hemtaluq_quote, meets it at times, and exceeds each of six weaker formulas.
 - data/weaker.txt has for each weaker formula runs that exceed it, found by the search. They are run in every test.
@@ -39,19 +39,22 @@ SIMULATOR = r'''/* Runs of plants. Each job has a plant, weights, figures, and a
 static int types, machines, rows, states[16], machine[ROWS], left[ROWS], entered[ROWS], sent[ROWS], taken[ROWS], progress[ROWS];
 static int error, state[16];
 static long long weight[64], content[64 + LACKING], potential[16][64], f, n, per_progress, factor;
-static long long quiet, others, lost, offered, happened, opening;
+static long long quiet, others, lost, offered, happened, both, opening;
 static uint64_t seed;
 static unsigned draw(unsigned below) { seed = seed * 6364136223846793005u + 1442695040888963407u; return (unsigned)((seed >> 33) % below); }
+/* How many messages of the type that it takes must be there for a row: it takes first, then sends. */
+static int needed(int k) { return sent[k] == taken[k] && error == 5 ? 0 : sent[k] == taken[k] && error == 6 ? 2 : 1; }
 static int can(int k) {
     if (k < 0 || k >= rows) return 0;
-    return (state[machine[k]] == left[k] || error == 3) && (taken[k] < 0 || content[taken[k]] > 0);
+    return (state[machine[k]] == left[k] || error == 3) && (taken[k] < 0 || content[taken[k]] >= needed(k));
 }
 static void happen(int k) {
     state[machine[k]] = entered[k];
     if (taken[k] >= 0 && error != 1) content[taken[k]]--;
-    if (sent[k] >= 0) content[sent[k]] += error == 2 && draw(4) == 0 ? 2 : 1;
+    if (sent[k] >= 0 && (taken[k] < 0 || error != 7)) content[sent[k]] += error == 2 && draw(4) == 0 ? 2 : 1;
     if (progress[k] && error != 4) others++; else quiet++;
     happened++;
+    both += sent[k] >= 0 && taken[k] >= 0;
 }
 static int event_row(int k) { offered++; if (!can(k)) return 0; happen(k); return 1; }
 static int event_loss(int t) { offered++; if (t >= types || content[t] == 0) return 0; content[t]--; lost++; happened++; return 1; }
@@ -91,7 +94,7 @@ static void drawn(int mode, long long wanted) {
         for (int length = 0; length < 2000 && happened < wanted && step(mode); length++)
             if (quiet > bound()) { printf("exceeded %lld %lld %lld %lld\n", quiet, others, opening, bound()); return; }
     }
-    printf("held %lld %lld %lld\n", offered, happened, lost);
+    printf("held %lld %lld %lld %lld\n", offered, happened, lost, both);
 }
 static long long number(void) { long long x; if (scanf("%lld", &x) != 1) exit(1); return x; }
 /* Prints the run, the quiet rows and the others, and the states and contents after it. */
@@ -111,7 +114,7 @@ static void replay(void) {
 }
 int main(void) {
     for (long long jobs = number(); jobs > 0; jobs--) {
-        offered = happened = lost = 0;
+        offered = happened = lost = both = 0;
         types = (int)number(); machines = (int)number(); rows = (int)number();
         for (int m = 0; m < machines; m++) states[m] = (int)number();
         for (int k = 0; k < rows; k++) {
@@ -167,9 +170,10 @@ def simulated(simulator, jobs):
 # ---- plants with weights that pass
 
 def tight(rng):
-    """A ring that takes one message in each round; others that send in all their rows and are reset by a progress row."""
-    n = rng.choice([1, 2, 3, 4])
-    ring = [(s, (s + 1) % n, None, 0 if s == 0 else None, False) for s in range(n)]
+    """A ring that takes one message in each round, and may need one that it leaves there; others that send in all their rows and are reset by a
+    progress row."""
+    n, needs = rng.choice([1, 2, 3, 4]), rng.choice([(None, None), (None, None), (0, 0)])
+    ring = [(s, (s + 1) % n, *(needs if s else (None, 0)), False) for s in range(n)]
     machines = [(n, ring)]
     for _ in range(rng.randint(1, 15)):
         states = rng.choice([1, n, n])
@@ -211,7 +215,9 @@ def weaker(plant, weights):
 
 
 FORMULAS = list(weaker(evidence_independent.Plant(0, [1], []), []))
-SIMULATOR_ERRORS = {1: 'a row takes no message away', 2: 'the bus doubles messages', 3: 'a row happens in any state', 4: 'progress rows count as quiet'}
+# Wrong simulators whose runs exceed the bound, and those of which only the run itself tells.
+BOUND_ERRORS = {1: 'a row takes no message away', 2: 'the bus doubles messages', 3: 'a row happens in any state', 4: 'progress rows count as quiet'}
+RUN_ERRORS = {5: 'a row sends first, then takes', 6: 'a row that takes and sends one type needs two messages', 7: 'a row that takes does not send'}
 
 
 def job(case, bound, mode, seed, events, error=0):
@@ -222,24 +228,24 @@ def job(case, bound, mode, seed, events, error=0):
 
 
 def hold_runs(simulator, cases, events):
-    """Every case in every mode; how many events were offered, were losses that happened, and happened in each mode."""
+    """Every case in every mode; how many events were offered, were losses that happened, were rows that take and send, and happened in each mode."""
     each = events // (2 * len(cases)) + 1
     jobs = [job(c, c[2], mode, i, each) for i, c in enumerate(cases) for mode in range(3)]
-    offered, lost, happened = 0, 0, [0, 0, 0]
+    offered, lost, both, happened = 0, 0, 0, [0, 0, 0]
     for i, words in enumerate(simulated(simulator, jobs)):
         if words[0] != 'held':
             data, weights, figures = cases[i // 3]
             sys.exit('evidence: runs: plant %s, weights %s, figures %s, %s: quiet rows, others, W, bound: %s'
                      % (data.hex(), weights, figures, MODES[i % 3], words[1:]))
-        offered, lost = offered + int(words[1]), lost + int(words[3])
+        offered, lost, both = offered + int(words[1]), lost + int(words[3]), both + int(words[4])
         happened[i % 3] += int(words[2])
-    return offered, lost, happened
+    return offered, lost, both, happened
 
 
-def hold_simulator(simulator, rng, cases):
-    """The simulator has the same run as the one of definitions.py, event by event, with the same states and contents after it, on
-    random lists of events; there are messages of two types that the plant lacks."""
-    jobs, owed = [], []
+def replays(rng, cases):
+    """Cases with random lists of events, as the simulator reads them, and with the run that the simulator of definitions.py has, the states and the
+    contents after it; there are messages of two types that the plant lacks."""
+    found = []
     for case in rng.choices(cases, k=REPLAYS):
         plant = INDEPENDENT.plant(case[0])
         states = [rng.randrange(s) for s in plant.states]
@@ -247,24 +253,34 @@ def hold_simulator(simulator, rng, cases):
         events = definitions.random_events(rng, plant, 200)
         happened, end, left = definitions.simulate(plant, states, contents, events)
         counted = definitions.rows_counted(plant, happened)
-        owed.append(['ran'] + ['%s%d' % e for e in happened] + ['counted'] + [str(x) for x in counted] + ['left'] + [str(x) for x in end + left])
-        listed = [x for kind, k in events for x in (int(kind == 'loss'), k)]
-        jobs.append(job(case, (0, 0, 0), 3, 0, 0)[:-1] + states + contents + [len(events)] + listed)
-    for words, numbers in zip(simulated(simulator, jobs), owed):
-        if words != numbers:
-            sys.exit('evidence: runs: the two simulators differ: %s and %s' % (words, numbers))
+        owed = ['ran'] + ['%s%d' % e for e in happened] + ['counted'] + [str(x) for x in counted] + ['left'] + [str(x) for x in end + left]
+        listed = states + contents + [len(events)] + [x for kind, k in events for x in (int(kind == 'loss'), k)]
+        found.append((case, listed, owed))
+    return found
 
 
-def catches(simulator, cases):
-    """Wrong simulators and weaker bounds: each must be exceeded."""
-    for error, name in SIMULATOR_ERRORS.items():
+def difference(simulator, replayed, error=0):
+    """The first run of which the two simulators tell otherwise, or None."""
+    jobs = [job(case, (0, 0, 0), 3, 0, 0, error)[:-1] + listed for case, listed, _ in replayed]
+    for words, (_, _, owed) in zip(simulated(simulator, jobs), replayed):
+        if words != owed:
+            return '%s and %s' % (words, owed)
+    return None
+
+
+def catches(simulator, cases, replayed):
+    """Wrong simulators and weaker bounds: each bound must be exceeded, and the runs that do not exceed it must differ."""
+    for error, name in RUN_ERRORS.items():
+        if difference(simulator, replayed, error) is None:
+            sys.exit('evidence: runs: the planted error "%s" is not found' % name)
+    for error, name in BOUND_ERRORS.items():
         if all(w[0] == 'held' for w in simulated(simulator, [job(c, c[2], 1, i, 3000, error) for i, c in enumerate(cases)])):
             sys.exit('evidence: runs: the planted error "%s" is not found' % name)
     for name in FORMULAS:
         jobs = [job(c, weaker(INDEPENDENT.plant(c[0]), c[1])[name], mode, i, 1000) for i, c in enumerate(cases) for mode in (1, 2)]
         if all(w[0] == 'held' for w in simulated(simulator, jobs)):
             sys.exit('evidence: runs: no run exceeds the bound %s' % name)
-    return len(SIMULATOR_ERRORS) + len(FORMULAS)
+    return len(RUN_ERRORS) + len(BOUND_ERRORS) + len(FORMULAS)
 
 
 # ---- exact maxima
@@ -431,21 +447,28 @@ def main(program, folder, seed, long):
     simulator = calls.compiled(folder, 'runs', SIMULATOR, library=False)
     makers = [plants.small, plants.passing, plants.exchange, plants.first_not_largest, plants.many_machines, plants.rings, tight, tight, tiny]
     cases = [c for c in with_passing_weights(program, rng, makers, 1200, 1000) if INDEPENDENT.plant(c[0]).rows]
-    hold_simulator(simulator, rng, cases)
-    offered, lost, happened = hold_runs(simulator, cases, EVENTS * (20 if long else 1))
-    if sum(happened) < 2000000 or min(happened) < 500000:
-        sys.exit('evidence: runs: only %s events happened' % happened)
+    replayed = replays(rng, cases)
+    if difference(simulator, replayed):
+        sys.exit('evidence: runs: the two simulators differ: %s' % difference(simulator, replayed))
+    offered, lost, both, happened = hold_runs(simulator, cases, EVENTS * (20 if long else 1))
+    if sum(happened) < 2000000 or min(happened) < 500000 or both < 100000:
+        sys.exit('evidence: runs: only %s events happened, and %d rows that take and send' % (happened, both))
     tried = maxima(program, rng, SMALL * (5 if long else 1))
     found = [m for m in tried if m[5] is not None]
     met, share, broken = hold_maxima(program, found)
+    searched = {m[0] for m in found}
+    with_both = sum(evidence_independent.takes_and_sends(INDEPENDENT.plant(data)) for data in searched)
+    if with_both < 100:
+        sys.exit('evidence: runs: only %d plants with maxima have rows that take and send' % with_both)
     lines = stored()
     hold_stored(program, lines)
-    caught = catches(simulator, cases[:300])
+    caught = catches(simulator, cases[:300], replayed)
     exceeding = ', '.join('%s %d' % pair for pair in broken.items())
-    print('evidence: runs: %d events that happened (random %d, greedy %d, adversarial %d; %d losses) of %d offered, on %d plants, stay within the bound; '
-          '%d exact maxima on %d plants stay within it (%d left out as too long), %d meet it (with n above 1 and w above 0 they come to %d %%), '
-          'and weaker formulas are exceeded: %s; %d stored runs; %d planted errors found'
-          % (sum(happened), *happened, lost, offered, len(cases), len(found), len({m[0] for m in found}), len(tried) - len(found), met, 100 * share,
+    print('evidence: runs: %d events that happened (random %d, greedy %d, adversarial %d; %d losses, %d rows that take and send) of %d offered, '
+          'on %d plants, stay within the bound; '
+          '%d exact maxima on %d plants, %d of them with rows that take and send, stay within it (%d left out as too long), %d meet it (with n above 1 '
+          'and w above 0 they come to %d %%), and weaker formulas are exceeded: %s; %d stored runs; %d planted errors found'
+          % (sum(happened), *happened, lost, both, offered, len(cases), len(found), len(searched), with_both, len(tried) - len(found), met, 100 * share,
              exceeding, len(lines), caught))
     written = write_anew('runs', program, [data for data, *_ in cases] + [data for data, *_ in tried])
     return dict(events=sum(happened), maxima=len(found), share_of_the_bound=int(100 * share), stored_runs=len(lines), planted_in_runs=caught, **written), []

@@ -6,10 +6,10 @@ x >= 0 (4). The weights' side has a weight w >= 0 for each type and, for every q
 effect is <= -1. Exactly one of them has a solution.
 Made whole, the solver's weights must pass hemtaluq_weigh, and its set must be confirmed by hemtaluq_confirm.
 
-data/certificates.txt has solutions of the solver, one to a line: the side, the plant, the numbers. They are judged in
-every run. Where glpsol is installed, plants are solved anew.
+data/certificates.txt has solutions of the solver, one to a line: the side, the plant, the numbers. Every fourth is of a plant with a row that takes
+and sends. They are judged in every run. Where glpsol is installed, plants are solved anew.
 
-    python3 tests/evidence_solver.py        # makes those of data/certificates.txt anew whose plants are refused, and those that are missing
+    python3 tests/evidence_solver.py        # makes those of data/certificates.txt anew whose plants do not fit their places, and those that are missing
 """
 import math
 import os
@@ -25,7 +25,7 @@ import evidence_calls as calls
 import evidence_independent
 import evidence_plants as plants
 from evidence_answers import write_anew
-from evidence_independent import Refused, TooMany
+from evidence_independent import Refused, TooMany, takes_and_sends
 
 ANEW = 2200
 STORED = 600
@@ -222,19 +222,20 @@ def stored():
     return [(bytes.fromhex(words[1]), words[0], [int(x) for x in words[2:]]) for words in found]
 
 
-def is_read(data):
+def fits(place, data):
+    """Whether a plant may have its certificate in this place: it is read, and in every fourth place it has a row that takes and sends."""
     try:
-        evidence_independent.Independent().plant(data)
-        return True
+        plant = evidence_independent.Independent().plant(data)
     except Refused:
         return False
+    return place % 4 != 3 or takes_and_sends(plant)
 
 
 def store():
-    """Each certificate whose plant is read stays where it is; the others are made anew, in their places."""
-    kept = {i: c for i, c in enumerate(stored() if os.path.exists(CERTIFICATES) else []) if is_read(c[0])}
+    """Each certificate whose plant fits its place stays there; the others are made anew."""
+    kept = {i: c for i, c in enumerate(stored() if os.path.exists(CERTIFICATES) else []) if fits(i, c[0])}
     known = {data for data, _, _ in kept.values()}
-    files = [data for data in some_plants(random.Random(4), STORED + len(known)) if data not in known]
+    files = [data for data in some_plants(random.Random(4), 2 * STORED + len(known)) if data not in known and fits(3, data)]
     anew = iter(solve_all(Test(), files[:STORED])[0])
     certificates = [kept.get(i) or next(anew) for i in range(STORED)]
     with open(CERTIFICATES, 'w', encoding='ascii') as out:
@@ -253,6 +254,8 @@ def main(program, seed, long):
         judge(program, anew)
     except Wrong as wrong:
         sys.exit('evidence: solver: %s' % wrong)
+    if not all(fits(i, c[0]) for i, c in enumerate(kept)):
+        sys.exit('evidence: solver: not every fourth stored certificate is of a plant with a row that takes and sends')
     for side in ('weights', 'set'):
         if sum(c[1] == side for c in kept) < 100 or present and sum(c[1] == side for c in anew) < 100:
             sys.exit('evidence: solver: too few plants with %s' % side)

@@ -8,6 +8,8 @@ list of numbers has the same. Rows that differ in one field, or are in another m
 import evidence_plants as plants
 import reading
 import writing
+from reading import LONGEST_FILE
+from writing import ROW_NUMBERS
 
 BASES = 32
 MAKERS = [plants.small, plants.passing, plants.exchange, plants.many_machines, plants.one_state, plants.many_types, plants.short_cuts, plants.first_not_largest]
@@ -24,19 +26,19 @@ def with_row(machines, machine, place, row):
 
 
 def one_state_rows(count):
-    """Rows of a machine of one state and 64 types: any two of them are parallel, and there are no more than 258."""
-    messages = [(None, None)] + [pair for t in range(64) for pair in ((t, None), (None, t))]
+    """Rows of a machine of one state and 64 types: any two of them are parallel, and there are more than 255."""
+    messages = [(None, None)] + [pair for t in range(64) for pair in ((t, None), (None, t))] + [pair for t in range(0, 64, 4) for pair in ((t, t), (t, t ^ 32))]
     return [(0, 0) + message + (progress,) for progress in (False, True) for message in messages][:count]
 
 
 def most_rows():
-    """Plants with 255 rows in a machine, the last of 16, and with 1,024 rows of four bytes."""
+    """Plants with 255 rows in a machine, the last of 16, and with 1,024 rows of five bytes."""
     between = [(k // 64, k % 64, None, None, k % 3 == 0) for k in range(255)]
     yield 64, [(1, one_state_rows(255))]
     yield 0, [(64, between)]
     yield 0, [(2, [(1, 0, None, None, False)])] * 15 + [(64, between)]
     yield 64, [(64, between)] * 4 + [(1, one_state_rows(4))]
-    yield 64, [(64, [(63 - k, k, None, (k + m) % 64, False) for k in range(64)]) for m in range(16)]
+    yield 64, [(64, [(63 - k, k, 5 * k % 64, (k + m) % 64, False) for k in range(64)]) for m in range(16)]
 
 
 def drawn(rng):
@@ -69,6 +71,14 @@ def with_twins(rng, types, machines):
             yield types, with_row(with_row(machines, m, 1, rows[0]), m, len(rows) + 1, rows[0]), m, 1
 
 
+def near_messages(types, sent, taken):
+    """What nearly is sent and taken: one of the two is another type, or none, or both are one type, or they are exchanged; the two themselves as well."""
+    numbers = {t ^ by for t in (sent, taken) if t is not None for by in (0, 1)}
+    yield taken, sent
+    for t in [None] + sorted({0, types - 1, *numbers} & set(range(types))):
+        yield from ((t, taken), (sent, t), (t, None), (None, t), (t, t))
+
+
 def near(states, types, row):
     """Rows that differ from a row in the state left, in the state entered, in what is sent or taken, or in progress; the row itself as well."""
     left, entered, sent, taken, progress = row
@@ -76,8 +86,7 @@ def near(states, types, row):
         yield other, entered, sent, taken, progress
     for other in sorted({(entered + 1) % states, entered ^ 32, left} & set(range(states))):
         yield left, other, sent, taken, progress
-    number = sent or taken or 0
-    for message in [(None, None)] + [pair for t in sorted({0, types - 1, number, number ^ 1} & set(range(types))) for pair in ((t, None), (None, t))]:
+    for message in near_messages(types, sent, taken):
         yield (left, entered) + message + (progress,)
     yield left, entered, sent, taken, not progress
 
@@ -138,25 +147,24 @@ def files(rng):
 
 def list_of(types, machines):
     """The list of a plant, and for each machine where its rows begin."""
-    said = [(states, [(left, entered, 1 if sent is not None else 2 if taken is not None else 0, sent or taken or 0, int(progress))
-                      for left, entered, sent, taken, progress in rows]) for states, rows in machines]
+    said = [(states, [writing.row_numbers(*row) for row in rows]) for states, rows in machines]
     counts = [len(rows) for _, rows in machines]
-    return writing.list_of(types, said), [4 + 2 * m + 5 * sum(counts[:m]) for m in range(len(machines))]
+    return writing.list_of(types, said), [4 + 2 * m + ROW_NUMBERS * sum(counts[:m]) for m in range(len(machines))]
 
 
 def twin_lists(types, machines, machine, place):
     """The lists of a plant with a row twice, with the lengths of buffers: whole, gone on, cut off, and wrong in the later row and behind it."""
     numbers, begin = list_of(types, machines)
-    first = begin[machine] + 5 * place
-    for room in (0, 1, 4130):
+    first = begin[machine] + ROW_NUMBERS * place
+    for room in (0, 1, LONGEST_FILE):
         yield numbers, room
     for more in ([0], [65535], numbers):
-        yield numbers + more, 4130
-    for i in range(first, min(first + 8, len(numbers))):
-        yield numbers[:i], 4130
+        yield numbers + more, LONGEST_FILE
+    for i in range(first, min(first + ROW_NUMBERS + 3, len(numbers))):
+        yield numbers[:i], LONGEST_FILE
         for wrong in {2, 3, 64, 65535, numbers[i] + 1, numbers[i] + 256} - {numbers[i]}:
-            yield numbers[:i] + [wrong] + numbers[i + 1:], 4130
-            yield numbers[:i] + [wrong], 4130
+            yield numbers[:i] + [wrong] + numbers[i + 1:], LONGEST_FILE
+            yield numbers[:i] + [wrong], LONGEST_FILE
 
 
 def lists(rng):
@@ -164,4 +172,4 @@ def lists(rng):
         for twin in with_twins(rng, types, machines):
             yield from twin_lists(*twin)
         for plant in without_twins(rng, types, machines):
-            yield list_of(*plant)[0], 4130
+            yield list_of(*plant)[0], LONGEST_FILE

@@ -4,6 +4,9 @@
 #include "hemtaluq.h"
 
 #define LENGTH(list) (sizeof(list) / sizeof((list)[0]))
+/* The linker's name of a call. */
+#define TEXT(symbol) #symbol
+#define SYMBOL(call) TEXT(call)
 
 static int checks, failed;
 
@@ -27,7 +30,7 @@ static const uint8_t one_state[] = {1, 0, 1, 0};
 static const uint16_t weights_2_1[] = {2, 1};
 
 /* The list that says plant A. */
-#define LIST_A 2, 2, 2, 2, 0, 1, 1, 0, 0, 1, 0, 2, 1, 1, 2, 2, 0, 1, 2, 0, 0, 1, 0, 1, 1, 0
+#define LIST_A 2, 2, 2, 2, 0, 1, 1, 0, 0, 0, 1, 0, 2, 1, 1, 0, 2, 2, 0, 1, 2, 0, 0, 0, 1, 0, 1, 1, 0, 0
 static const uint16_t list_a[] = {LIST_A};
 
 /* Plant A with the probe's first row written once more, behind its other row. */
@@ -62,16 +65,16 @@ static size_t list_of_rows(uint16_t *list, int rows) {
         list[at++] = 64;
         list[at++] = (uint16_t)own;
         for (int k = 0; k < own; k++) {
-            uint16_t row[5] = {0, (uint16_t)(k % 64), (uint16_t)(k / 128), 0, (uint16_t)(k / 64 % 2)};
+            uint16_t row[6] = {0, (uint16_t)(k % 64), (uint16_t)(k / 128), 0, (uint16_t)(k / 64 % 2), 0};
             memcpy(list + at, row, sizeof row);
-            at += 5;
+            at += 6;
         }
     }
     return at;
 }
 
-/* The largest plant: 16 machines of 64 states, 64 types, 1,024 rows of four bytes. No state of a row can be left out: the first row of a
- * machine leaves state 1, and each row leaves another state than the one before it. */
+/* The largest plant: 16 machines of 64 states, 64 types, 1,024 rows of five bytes. No state of a row can be left out: the first row of a
+ * machine leaves state 1, and each row leaves another state than the one before it. A row takes one of the types 0 to 31 and sends one of the others. */
 static uint8_t largest[HEMTALUQ_LONGEST_FILE + 1];
 static uint16_t longest_list[HEMTALUQ_LONGEST_LIST + 1];
 
@@ -83,13 +86,14 @@ static void make_largest(void) {
         largest[at++] = 64;
         largest[at++] = 64;
         for (int k = 0; k < 64; k++) {
-            largest[at++] = 0x0B;
+            largest[at++] = 0x0F;
             largest[at++] = (uint8_t)((k + 1) % 64);
             largest[at++] = (uint8_t)((k + 2) % 64);
-            largest[at++] = (uint8_t)((k + m) % 64);
+            largest[at++] = (uint8_t)(32 + k % 32);
+            largest[at++] = (uint8_t)((k + m) % 32);
         }
     }
-    check("the longest file has 4,130 bytes", at == HEMTALUQ_LONGEST_FILE);
+    check("the longest file has 5,154 bytes", at == HEMTALUQ_LONGEST_FILE && at == 5154);
 }
 
 static void make_longest_list(void) {
@@ -100,12 +104,12 @@ static void make_longest_list(void) {
         longest_list[at++] = 64;
         longest_list[at++] = 64;
         for (int k = 0; k < 64; k++) {
-            uint16_t row[5] = {(uint16_t)((k + 1) % 64), (uint16_t)((k + 2) % 64), 2, (uint16_t)((k + m) % 64), 0};
+            uint16_t row[6] = {(uint16_t)((k + 1) % 64), (uint16_t)((k + 2) % 64), 3, (uint16_t)((k + m) % 32), 0, (uint16_t)(32 + k % 32)};
             memcpy(longest_list + at, row, sizeof row);
-            at += 5;
+            at += 6;
         }
     }
-    check("the longest list has 5,154 numbers", at == HEMTALUQ_LONGEST_LIST);
+    check("the longest list has 6,178 numbers", at == HEMTALUQ_LONGEST_LIST && at == 6178);
 }
 
 static void read_is(const char *what, const uint8_t *file, size_t length, hemtaluq_read_answer e) {
@@ -120,7 +124,7 @@ static void read_refused(const char *what, const uint8_t *file, size_t length, u
 
 static void reading(void) {
     hemtaluq_read_answer a = {HEMTALUQ_COUNTS, 0, 2, 0, 2, 4}, most = {HEMTALUQ_COUNTS, 0, 64, 0, 16, 1024};
-    const uint8_t machines_17[] = {17, 0}, states_65[] = {1, 0, 65, 0}, map[] = {1, 0, 1, 1, 0x20}, both[] = {1, 1, 1, 1, 0x0C, 0, 0};
+    const uint8_t machines_17[] = {17, 0}, states_65[] = {1, 0, 65, 0}, map[] = {1, 0, 1, 1, 0x20};
     const uint8_t state[] = {1, 0, 2, 1, 0x01, 2}, type[] = {1, 1, 1, 1, 0x04, 1}, more[] = {1, 0, 1, 0, 0};
     static uint8_t rows[2 + 5 * 2 + 1025 * 3];
     /* A fifth machine without rows ends with its count. */
@@ -132,7 +136,6 @@ static void reading(void) {
     read_refused("17 machines", machines_17, sizeof machines_17, HEMTALUQ_COUNT_LIMITS, 0);
     read_refused("65 states", states_65, sizeof states_65, HEMTALUQ_STATE_LIMITS, 2);
     read_refused("bit 5", map, sizeof map, HEMTALUQ_MAP_BYTE, 4);
-    read_refused("bits 2 and 3", both, sizeof both, HEMTALUQ_MAP_BYTE, 4);
     read_refused("state 2 of 2", state, sizeof state, HEMTALUQ_NOT_A_STATE, 5);
     read_refused("type 1 of 1", type, sizeof type, HEMTALUQ_NOT_A_TYPE, 5);
     read_refused("1,025 rows", rows, file_of_rows(rows, 1025), HEMTALUQ_TOTAL_ROWS, last_count);
@@ -140,15 +143,38 @@ static void reading(void) {
     read_refused("a byte after the largest plant", largest, sizeof largest, HEMTALUQ_BYTES_REMAIN, HEMTALUQ_LONGEST_FILE);
 }
 
+/* Bits 2 and 3 together: the type sent, then the type taken. Of the bits 5 to 7 none stands beside them. */
+static void reading_both(void) {
+    hemtaluq_read_answer one = {HEMTALUQ_COUNTS, 0, 2, 0, 1, 1};
+    const uint8_t both[] = {1, 2, 1, 1, 0x0C, 0, 1}, same[] = {1, 2, 1, 1, 0x1C, 1, 1}, whole[] = {1, 2, 3, 1, 0x1F, 2, 1, 1, 0};
+    const uint8_t sent[] = {1, 2, 1, 1, 0x0C, 2, 2}, taken[] = {1, 2, 1, 1, 0x0C, 0, 2}, no_types[] = {1, 0, 1, 1, 0x0C, 0, 0};
+    const uint8_t bit_5[] = {1, 2, 1, 1, 0x2C, 0, 1}, bit_6[] = {1, 2, 1, 1, 0x4C, 0, 1}, bit_7[] = {1, 2, 1, 1, 0x8C, 0, 1}, more[] = {1, 2, 1, 1, 0x0C, 0, 1, 0};
+    read_is("bits 2 and 3", both, sizeof both, one);
+    read_is("bits 2, 3 and 4 with one type", same, sizeof same, one);
+    read_is("bits 0 to 4", whole, sizeof whole, one);
+    read_refused("bits 2, 3 and 5", bit_5, sizeof bit_5, HEMTALUQ_MAP_BYTE, 4);
+    read_refused("bits 2, 3 and 6", bit_6, sizeof bit_6, HEMTALUQ_MAP_BYTE, 4);
+    read_refused("bits 2, 3 and 7", bit_7, sizeof bit_7, HEMTALUQ_MAP_BYTE, 4);
+    read_refused("both types wrong, at the type sent", sent, sizeof sent, HEMTALUQ_NOT_A_TYPE, 5);
+    read_refused("type 2 of 2 taken", taken, sizeof taken, HEMTALUQ_NOT_A_TYPE, 6);
+    read_refused("both, and no types", no_types, sizeof no_types, HEMTALUQ_NOT_A_TYPE, 5);
+    read_refused("both, the type sent missing", both, 5, HEMTALUQ_FILE_ENDS, 5);
+    read_refused("both, the type taken missing", both, 6, HEMTALUQ_FILE_ENDS, 6);
+    read_refused("both, and a byte too many", more, sizeof more, HEMTALUQ_BYTES_REMAIN, 7);
+}
+
 /* Behind a row that leaves state 1, each row differs from the one that sends type 0 and stays in state 0 in one thing: the state left, the state
- * entered, the type, taking it, sending nothing, progress. The file and its list. */
-static const uint8_t differing[] = {1, 2, 2, 8, 0x01, 1, 0x05, 0, 0, 0x07, 1, 0, 0, 0x07, 0, 1, 0, 0x04, 1, 0x08, 0, 0x00, 0x14, 0};
-static const uint16_t differing_list[] = {1, 2, 2, 8, 1, 1, 0, 0, 0, 0, 0, 1, 0, 0, 1, 0, 1, 0, 0, 0, 1, 1, 0, 0,
-                                          0, 0, 1, 1, 0, 0, 0, 2, 0, 0, 0, 0, 0, 0, 0, 0, 0, 1, 0, 1};
+ * entered, the type, taking it, sending nothing, progress, and taking type 0 or 1 as well. The last takes type 0 and sends type 1. The file and its list. */
+static const uint8_t differing[] = {1, 2, 2, 11, 0x01, 1, 0x05, 0, 0, 0x07, 1, 0, 0, 0x07, 0, 1, 0, 0x04, 1, 0x08, 0, 0x00, 0x14, 0,
+                                    0x0C, 0, 0, 0x0C, 0, 1, 0x0C, 1, 0};
+static const uint16_t differing_list[] = {1, 2, 2, 11, 1, 1, 0, 0, 0, 0, 0, 0, 1, 0, 0, 0, 1, 0, 1, 0, 0, 0, 0, 1, 1, 0, 0, 0,
+                                          0, 0, 1, 1, 0, 0, 0, 0, 2, 0, 0, 0, 0, 0, 0, 0, 0, 0, 0, 0, 1, 0, 1, 0,
+                                          0, 0, 3, 0, 0, 0, 0, 0, 3, 1, 0, 0, 0, 0, 3, 0, 0, 1};
 
 /* A row that equals an earlier row of its machine, as read, is refused at its map byte; the same row in another machine is not. */
 static void reading_twins(void) {
-    hemtaluq_read_answer two = {HEMTALUQ_COUNTS, 0, 0, 0, 2, 2}, eight = {HEMTALUQ_COUNTS, 0, 2, 0, 1, 8}, most = {HEMTALUQ_COUNTS, 0, 1, 0, 5, 1024};
+    hemtaluq_read_answer two = {HEMTALUQ_COUNTS, 0, 0, 0, 2, 2}, eleven = {HEMTALUQ_COUNTS, 0, 2, 0, 1, 11}, most = {HEMTALUQ_COUNTS, 0, 1, 0, 5, 1024};
+    const uint8_t both[] = {1, 2, 1, 2, 0x0C, 0, 1, 0x0D, 0, 0, 1}, taken[] = {1, 2, 1, 2, 0x0C, 0, 1, 0x0C, 0, 2};
     const uint8_t implied[] = {1, 0, 1, 2, 0x10, 0x11, 0}, machines[] = {2, 0, 1, 1, 0x10, 1, 1, 0x10};
     const uint8_t state[] = {1, 0, 1, 2, 0x00, 0x01, 1}, type[] = {1, 1, 1, 2, 0x04, 0, 0x04, 1}, map[] = {1, 0, 1, 2, 0x00, 0x20}, ends[] = {1, 0, 1, 2, 0x00, 0x01};
     const uint8_t missing[] = {1, 0, 1, 3, 0x00, 0x00}, wrong[] = {1, 0, 1, 3, 0x00, 0x00, 0x20}, more[] = {1, 0, 1, 2, 0x00, 0x00, 0}, states[] = {2, 0, 1, 2, 0x00, 0x00, 0};
@@ -158,7 +184,9 @@ static void reading_twins(void) {
     read_refused("a twin row behind another row", twin_row, sizeof twin_row, HEMTALUQ_TWIN_ROW, 20);
     read_refused("a twin row that leaves out another field", implied, sizeof implied, HEMTALUQ_TWIN_ROW, 5);
     read_is("the same row in two machines", machines, sizeof machines, two);
-    read_is("rows that differ in one thing", differing, sizeof differing, eight);
+    read_is("rows that differ in one thing", differing, sizeof differing, eleven);
+    read_refused("a twin row that takes and sends", both, sizeof both, HEMTALUQ_TWIN_ROW, 7);
+    read_refused("a wrong type taken of a row that sends first", taken, sizeof taken, HEMTALUQ_NOT_A_TYPE, 9);
     read_refused("a wrong state of a twin row first", state, sizeof state, HEMTALUQ_NOT_A_STATE, 6);
     read_refused("a wrong type first", type, sizeof type, HEMTALUQ_NOT_A_TYPE, 7);
     read_refused("a wrong map byte first", map, sizeof map, HEMTALUQ_MAP_BYTE, 5);
@@ -190,8 +218,8 @@ static void weighing(void) {
     hemtaluq_weigh_answer p21 = {HEMTALUQ_PASSED, 0, 0, 10, 2, 9, 0}, p10 = {HEMTALUQ_PASSED, 0, 0, 6, 2, 5, 0};
     hemtaluq_weigh_answer shown = {HEMTALUQ_CYCLE, 0, 0, 0, 0, 0, 2}, none = {HEMTALUQ_PASSED, 0, 0, 0, 1, 0, 0};
     hemtaluq_weigh_answer r9 = {HEMTALUQ_REFUSED, 9, 0, 0, 0, 0, 0}, r10 = {HEMTALUQ_REFUSED, 10, 1, 0, 0, 0, 0}, r11 = {HEMTALUQ_REFUSED, 11, 0, 0, 0, 0, 0};
-    uint16_t cycle[64], ones[64];
-    for (size_t t = 0; t < 64; t++) ones[t] = 1;
+    uint16_t cycle[64], lower[64];
+    for (size_t t = 0; t < 64; t++) lower[t] = t < 32;
     weigh_is("A, weights 2, 1", plant_a, sizeof plant_a, weights_2_1, 2, 64, p21, 0);
     weigh_is("A, weights 1, 0", plant_a, sizeof plant_a, w10, 2, 70, p10, 0);
     weigh_is("A, weights 1, 1", plant_a, sizeof plant_a, w11, 2, 64, shown, 2);
@@ -206,8 +234,8 @@ static void weighing(void) {
     weigh_is("three rings, later entries", rings, sizeof rings, no_weights, 0, 64, shown, 2);
     a = hemtaluq_weigh(rings, sizeof rings, no_weights, 0, cycle, 64);
     check("the shortest ring is shown", a.rows == 2 && ((cycle[0] == 3 && cycle[1] == 4) || (cycle[0] == 4 && cycle[1] == 3)));
-    a = hemtaluq_weigh(largest, HEMTALUQ_LONGEST_FILE, ones, 64, cycle, 64);
-    /* S is 16 * 63, n 64 and w 1. */
+    /* Every row takes a type that weighs 1 and sends one that weighs 0. S is 16 * 63, n 64 and w 1. */
+    a = hemtaluq_weigh(largest, HEMTALUQ_LONGEST_FILE, lower, 64, cycle, 64);
     check("the largest plant passes", a.kind == HEMTALUQ_PASSED && a.base == 1008 + 64 * 1008 && a.most_states == 64 && a.per_progress == 63 + 64 * 64);
 }
 
@@ -325,12 +353,12 @@ static void changed_refused(const char *what, size_t at, uint16_t number) {
 
 static void writing(void) {
     /* Rows that stay, that leave the state of the row before, and the first row of a second machine, which leaves state 0. */
-    const uint16_t left_out[] = {2, 0, 3, 4, 0, 0, 0, 0, 0, 0, 2, 0, 0, 1, 2, 2, 0, 0, 0, 2, 1, 0, 0, 0, 2, 1, 0, 1, 0, 0, 1};
+    const uint16_t left_out[] = {2, 0, 3, 4, 0, 0, 0, 0, 0, 0, 0, 2, 0, 0, 1, 0, 2, 2, 0, 0, 0, 0, 2, 1, 0, 0, 0, 0, 2, 1, 0, 1, 0, 0, 1, 0};
     const uint8_t shortest[] = {2, 0, 3, 4, 0x00, 0x12, 2, 0x01, 2, 0x02, 1, 2, 1, 0x12, 1};
-    const uint16_t one[] = {1, 0, 1, 0}, more[] = {LIST_A, 0}, no_types[] = {1, 0, 1, 1, 0, 0, 1, 0, 0}, kind_0[] = {1, 2, 1, 1, 0, 0, 0, 1, 0};
+    const uint16_t one[] = {1, 0, 1, 0}, more[] = {LIST_A, 0}, no_types[] = {1, 0, 1, 1, 0, 0, 1, 0, 0, 0}, kind_0[] = {1, 2, 1, 1, 0, 0, 0, 1, 0, 0};
     const uint16_t machines_17[] = {17}, rows_256[] = {1, 0, 1, 256}, most[] = {65535, 65535};
-    const size_t last_count = 2 + 4 * (2 + 5 * 255) + 1;
-    static uint16_t rows[2 + 5 * 2 + 5 * 1025];
+    const size_t last_count = 2 + 4 * (2 + 6 * 255) + 1;
+    static uint16_t rows[2 + 5 * 2 + 6 * 1025];
     static uint8_t file[2 + 5 * 2 + 1024 * 3];
     size_t length = file_of_rows(file, 1024);
     write_is("A's list, lent 20", list_a, LENGTH(list_a), sizeof plant_a, plant_a, sizeof plant_a);
@@ -340,9 +368,9 @@ static void writing(void) {
     write_is("1,024 rows, 255 of a machine leaving one state, written", rows, list_of_rows(rows, 1024), length, file, length);
     write_is("the longest list", longest_list, HEMTALUQ_LONGEST_LIST, HEMTALUQ_LONGEST_FILE, largest, HEMTALUQ_LONGEST_FILE);
     write_refused("an empty list", no_weights, 0, 20, HEMTALUQ_LIST_LENGTH, 0);
-    write_refused("A's list cut", list_a, LENGTH(list_a) - 1, 20, HEMTALUQ_LIST_LENGTH, 25);
-    write_refused("a number too many", more, LENGTH(more), 30, HEMTALUQ_LIST_LENGTH, 26);
-    write_refused("a number too many, before the room", more, LENGTH(more), 0, HEMTALUQ_LIST_LENGTH, 26);
+    write_refused("A's list cut", list_a, LENGTH(list_a) - 1, 20, HEMTALUQ_LIST_LENGTH, 29);
+    write_refused("a number too many", more, LENGTH(more), 30, HEMTALUQ_LIST_LENGTH, 30);
+    write_refused("a number too many, before the room", more, LENGTH(more), 0, HEMTALUQ_LIST_LENGTH, 30);
     write_refused("the longest list cut", longest_list, HEMTALUQ_LONGEST_LIST - 1, HEMTALUQ_LONGEST_FILE, HEMTALUQ_LIST_LENGTH, HEMTALUQ_LONGEST_LIST - 1);
     write_refused("a number after the longest list", longest_list, LENGTH(longest_list), HEMTALUQ_LONGEST_FILE, HEMTALUQ_LIST_LENGTH, HEMTALUQ_LONGEST_LIST);
     changed_refused("no machines", 0, 0);
@@ -351,10 +379,12 @@ static void writing(void) {
     changed_refused("a list of 65 states", 2, 65);
     changed_refused("a row of A leaves state 2", 4, 2);
     changed_refused("a row of A enters state 2", 5, 2);
-    changed_refused("kind 3", 6, 3);
+    changed_refused("kind 4", 6, 4);
     changed_refused("a row of A sends type 2", 7, 2);
-    changed_refused("progress 2", 13, 2);
-    changed_refused("the last number, 65,535", 25, 65535);
+    changed_refused("progress 2", 14, 2);
+    changed_refused("a sixth number for kind 1", 9, 1);
+    changed_refused("a sixth number for kind 2", 15, 1);
+    changed_refused("the last number, 65,535", 29, 65535);
     write_refused("a wrong number before a missing one", machines_17, LENGTH(machines_17), 20, HEMTALUQ_LIST_NUMBER, 0);
     write_refused("a wrong number before the room", most, LENGTH(most), 0, HEMTALUQ_LIST_NUMBER, 0);
     write_refused("256 rows, before they are missing", rows_256, LENGTH(rows_256), 20, HEMTALUQ_LIST_NUMBER, 3);
@@ -363,30 +393,54 @@ static void writing(void) {
     write_refused("kind 0 with type 1", kind_0, LENGTH(kind_0), 20, HEMTALUQ_LIST_NUMBER, 7);
     write_refused("A's list, lent 19", list_a, LENGTH(list_a), 19, HEMTALUQ_OUTPUT_ROOM, 0);
     write_refused("A's list, lent 0", list_a, LENGTH(list_a), 0, HEMTALUQ_OUTPUT_ROOM, 0);
-    write_refused("the longest list, lent 4,129", longest_list, HEMTALUQ_LONGEST_LIST, HEMTALUQ_LONGEST_FILE - 1, HEMTALUQ_OUTPUT_ROOM, 0);
+    write_refused("the longest list, lent 5,153", longest_list, HEMTALUQ_LONGEST_LIST, HEMTALUQ_LONGEST_FILE - 1, HEMTALUQ_OUTPUT_ROOM, 0);
+}
+
+/* Kind 3: the fourth number is the type taken, the sixth the type sent. Fourth, fifth and sixth number are judged in this order. */
+static void writing_both(void) {
+    const uint16_t both[] = {1, 2, 1, 1, 0, 0, 3, 1, 0, 0}, same[] = {1, 2, 1, 1, 0, 0, 3, 1, 1, 1}, all[] = {1, 2, 3, 1, 2, 1, 3, 0, 1, 1};
+    const uint8_t both_file[] = {1, 2, 1, 1, 0x0C, 0, 1}, same_file[] = {1, 2, 1, 1, 0x1C, 1, 1}, all_file[] = {1, 2, 3, 1, 0x1F, 2, 1, 1, 0};
+    const uint16_t taken[] = {1, 2, 1, 1, 0, 0, 3, 2, 2, 2}, progress[] = {1, 2, 1, 1, 0, 0, 3, 1, 2, 2}, sent[] = {1, 2, 1, 1, 0, 0, 3, 1, 1, 2};
+    const uint16_t none[] = {1, 0, 1, 1, 0, 0, 3, 0, 0, 0}, kind_0[] = {1, 2, 1, 1, 0, 0, 0, 0, 0, 1}, more[] = {1, 2, 1, 1, 0, 0, 3, 1, 0, 0, 0};
+    const uint16_t five[] = {2, 2, 2, 2, 0, 1, 1, 0, 0, 1, 0, 2, 1, 1, 2, 2, 0, 1, 2, 0, 0, 1, 0, 1, 1, 0};
+    write_is("kind 3", both, LENGTH(both), sizeof both_file, both_file, sizeof both_file);
+    write_is("kind 3 with one type", same, LENGTH(same), sizeof same_file, same_file, sizeof same_file);
+    write_is("kind 3 with all fields", all, LENGTH(all), sizeof all_file, all_file, sizeof all_file);
+    write_refused("kind 3, a wrong fourth number first", taken, LENGTH(taken), 20, HEMTALUQ_LIST_NUMBER, 7);
+    write_refused("kind 3, a wrong fifth number before the sixth", progress, LENGTH(progress), 20, HEMTALUQ_LIST_NUMBER, 8);
+    write_refused("kind 3, a wrong sixth number", sent, LENGTH(sent), 20, HEMTALUQ_LIST_NUMBER, 9);
+    write_refused("kind 3, the sixth number missing", sent, LENGTH(sent) - 1, 20, HEMTALUQ_LIST_LENGTH, 9);
+    write_refused("kind 3, and no types", none, LENGTH(none), 20, HEMTALUQ_LIST_NUMBER, 7);
+    write_refused("kind 0 with a sixth number", kind_0, LENGTH(kind_0), 20, HEMTALUQ_LIST_NUMBER, 9);
+    write_refused("kind 3, and a number too many", more, LENGTH(more), 20, HEMTALUQ_LIST_LENGTH, 10);
+    write_refused("kind 3, lent 6", both, LENGTH(both), sizeof both_file - 1, HEMTALUQ_OUTPUT_ROOM, 0);
+    write_refused("A's list of before, with five numbers a row", five, LENGTH(five), 20, HEMTALUQ_LIST_NUMBER, 9);
 }
 
 /* A row that equals an earlier row of its machine is refused at its first number; the same row in another machine is not. */
 static void writing_twins(void) {
-    const uint16_t behind[] = {2, 2, 2, 2, 0, 1, 1, 0, 0, 1, 0, 2, 1, 1, 2, 3, 0, 1, 2, 0, 0, 1, 0, 1, 1, 0, 0, 1, 2, 0, 0};
-    const uint16_t machines[] = {2, 0, 1, 1, 0, 0, 0, 0, 1, 1, 1, 0, 0, 0, 0, 1}, more[] = {1, 0, 1, 2, 0, 0, 0, 0, 0, 0, 0, 0, 0, 0, 7};
-    const uint16_t state[] = {1, 0, 1, 2, 0, 0, 0, 0, 0, 0, 1, 0, 0, 0}, progress[] = {1, 0, 1, 2, 0, 0, 0, 0, 0, 0, 0, 0, 0, 2};
-    const uint16_t next[] = {1, 0, 1, 3, 0, 0, 0, 0, 0, 0, 0, 0, 0, 0, 7}, states[] = {2, 0, 1, 2, 0, 0, 0, 0, 0, 0, 0, 0, 0, 0, 65};
+    const uint16_t behind[] = {2, 2, 2, 2, 0, 1, 1, 0, 0, 0, 1, 0, 2, 1, 1, 0, 2, 3, 0, 1, 2, 0, 0, 0, 1, 0, 1, 1, 0, 0, 0, 1, 2, 0, 0, 0};
+    const uint16_t machines[] = {2, 0, 1, 1, 0, 0, 0, 0, 1, 0, 1, 1, 0, 0, 0, 0, 1, 0}, more[] = {1, 0, 1, 2, 0, 0, 0, 0, 0, 0, 0, 0, 0, 0, 0, 0, 7};
+    const uint16_t state[] = {1, 0, 1, 2, 0, 0, 0, 0, 0, 0, 0, 1, 0, 0, 0, 0}, progress[] = {1, 0, 1, 2, 0, 0, 0, 0, 0, 0, 0, 0, 0, 0, 2, 0};
+    const uint16_t sixth[] = {1, 0, 1, 2, 0, 0, 0, 0, 0, 0, 0, 0, 0, 0, 0, 1}, both[] = {1, 2, 1, 2, 0, 0, 3, 1, 0, 0, 0, 0, 3, 1, 0, 0};
+    const uint16_t next[] = {1, 0, 1, 3, 0, 0, 0, 0, 0, 0, 0, 0, 0, 0, 0, 0, 7}, states[] = {2, 0, 1, 2, 0, 0, 0, 0, 0, 0, 0, 0, 0, 0, 0, 0, 65};
     const uint8_t two[] = {2, 0, 1, 1, 0x10, 1, 1, 0x10};
-    static uint16_t rows[2 + 5 * 2 + 5 * 1024];
-    size_t count = list_of_rows(rows, 1024), last = 2 + 4 * (2 + 5 * 255) - 5;
-    write_refused("a list with a twin row behind another row", behind, LENGTH(behind), 30, HEMTALUQ_TWIN_ROW, 26);
+    static uint16_t rows[2 + 5 * 2 + 6 * 1024];
+    size_t count = list_of_rows(rows, 1024), last = 2 + 4 * (2 + 6 * 255) - 6;
+    write_refused("a list with a twin row behind another row", behind, LENGTH(behind), 30, HEMTALUQ_TWIN_ROW, 30);
+    write_refused("a list with a twin row of kind 3", both, LENGTH(both), 30, HEMTALUQ_TWIN_ROW, 10);
     write_is("a list with the same row in two machines", machines, LENGTH(machines), sizeof two, two, sizeof two);
     write_is("a list of rows that differ in one thing", differing_list, LENGTH(differing_list), sizeof differing, differing, sizeof differing);
-    write_refused("a wrong state of a row first", state, LENGTH(state), 20, HEMTALUQ_LIST_NUMBER, 10);
-    write_refused("a wrong fifth number first", progress, LENGTH(progress), 20, HEMTALUQ_LIST_NUMBER, 13);
-    write_refused("a missing fifth number first", progress, LENGTH(progress) - 1, 20, HEMTALUQ_LIST_LENGTH, 13);
-    write_refused("a twin row before a missing number", next, LENGTH(next) - 1, 20, HEMTALUQ_TWIN_ROW, 9);
-    write_refused("a twin row before a wrong number", next, LENGTH(next), 20, HEMTALUQ_TWIN_ROW, 9);
-    write_refused("a twin row before the next machine", states, LENGTH(states), 20, HEMTALUQ_TWIN_ROW, 9);
-    write_refused("a twin row before a number too many", more, LENGTH(more), 20, HEMTALUQ_TWIN_ROW, 9);
-    write_refused("a twin row before the room", behind, LENGTH(behind), 0, HEMTALUQ_TWIN_ROW, 26);
-    memset(rows + last, 0, 5 * sizeof *rows);
+    write_refused("a wrong state of a row first", state, LENGTH(state), 20, HEMTALUQ_LIST_NUMBER, 11);
+    write_refused("a wrong fifth number first", progress, LENGTH(progress), 20, HEMTALUQ_LIST_NUMBER, 14);
+    write_refused("a wrong sixth number first", sixth, LENGTH(sixth), 20, HEMTALUQ_LIST_NUMBER, 15);
+    write_refused("a missing sixth number first", sixth, LENGTH(sixth) - 1, 20, HEMTALUQ_LIST_LENGTH, 15);
+    write_refused("a twin row before a missing number", next, LENGTH(next) - 1, 20, HEMTALUQ_TWIN_ROW, 10);
+    write_refused("a twin row before a wrong number", next, LENGTH(next), 20, HEMTALUQ_TWIN_ROW, 10);
+    write_refused("a twin row before the next machine", states, LENGTH(states), 20, HEMTALUQ_TWIN_ROW, 10);
+    write_refused("a twin row before a number too many", more, LENGTH(more), 20, HEMTALUQ_TWIN_ROW, 10);
+    write_refused("a twin row before the room", behind, LENGTH(behind), 0, HEMTALUQ_TWIN_ROW, 30);
+    memset(rows + last, 0, 6 * sizeof *rows);
     write_refused("the last of 255 rows equal to the first, in a list", rows, count, HEMTALUQ_LONGEST_FILE, HEMTALUQ_TWIN_ROW, last);
 }
 
@@ -401,6 +455,29 @@ static void refusing_twins(void) {
     quote_is("quote, a twin row", twin_row, sizeof twin_row, no_weights, 0, no_numbers, 0, 1000001, quoted);
     list_is("list, a twin row", twin_row, sizeof twin_row, 2, 0, listed, kept);
     confirm_is("confirm, a twin row", twin_row, sizeof twin_row, no_numbers, 0, confirmed);
+}
+
+/* A row that takes type 1 and sends type 0 without leaving its state, one that takes 0 and sends 1, and one that takes and sends one type: its effect is
+ * the message sent less the message taken, and zero where both are of one type. */
+static void taking_and_sending(void) {
+    const uint8_t down[] = {1, 2, 1, 1, 0x0C, 0, 1}, up[] = {1, 2, 1, 1, 0x0C, 1, 0}, same[] = {1, 2, 1, 1, 0x0C, 1, 1};
+    const uint16_t w03[] = {0, 3}, w33[] = {3, 3}, cycle[8] = {1, 0, 7, 7, 7, 7, 7, 7};
+    const uint32_t c52[] = {5, 2}, set[] = {0, 4, 1, 0};
+    /* S is 0, n 1 and w 3; the ceiling is 3 * 2 + 3 * 1. */
+    hemtaluq_weigh_answer passes = {HEMTALUQ_PASSED, 0, 0, 0, 1, 3, 0}, shown = {HEMTALUQ_CYCLE, 0, 0, 0, 0, 0, 1};
+    hemtaluq_quote_answer nine = {HEMTALUQ_CEILING, 0, 4, 0, 9}, r22 = {HEMTALUQ_REFUSED, 22, 0, 0, 0};
+    hemtaluq_list_answer listed = {HEMTALUQ_LISTED, 0, 0, 2};
+    hemtaluq_confirm_answer less_1 = {HEMTALUQ_NEGATIVE, 0, 0, 1, -4}, less_0 = {HEMTALUQ_NEGATIVE, 0, 0, 0, -4}, balanced = {HEMTALUQ_CONFIRMED, 0, 0, 0, 0};
+    weigh_is("takes a type of weight 3, sends one of 0", down, sizeof down, w03, 2, 64, passes, 0);
+    weigh_is("takes a type of weight 0, sends one of 3", up, sizeof up, w03, 2, 64, shown, 1);
+    weigh_is("takes and sends types of one weight", down, sizeof down, w33, 2, 64, shown, 1);
+    weigh_is("takes and sends one type", same, sizeof same, w03, 2, 64, shown, 1);
+    quote_is("takes a type of weight 3, contents 5, 2, g 1", down, sizeof down, w03, 2, c52, 2, 1, nine);
+    quote_is("takes and sends one type, no ceiling", same, sizeof same, w03, 2, c52, 2, 1, r22);
+    list_is("takes and sends, listed", down, sizeof down, 0, 8, listed, cycle);
+    confirm_is("takes type 1 four times", down, sizeof down, set, 4, less_1);
+    confirm_is("takes type 0 four times", up, sizeof up, set, 4, less_0);
+    confirm_is("takes and sends one type four times", same, sizeof same, set, 4, balanced);
 }
 
 /* The other calls read what was written: plant A, and then plant B, whose file is as long, into the same buffer. */
@@ -419,7 +496,7 @@ static void written_is_read(void) {
     weigh_is("A as written, weights 2, 1", file, length, weights_2_1, 2, 64, passes, 0);
     quote_is("A as written, contents 3, 4, g 1", file, length, weights_2_1, 2, c34, 2, 1, q39);
     list_is("A's machine 1 as written", file, length, 1, 8, three, probe);
-    list[13] = 0;
+    list[14] = 0;
     length = hemtaluq_write(list, LENGTH(list), file, sizeof file).length;
     confirm_is("B as written, both cycles once", file, length, both, 10, balanced);
 }
@@ -460,17 +537,22 @@ static void null_pointers(void) {
 }
 
 int main(void) {
+    check("the header has version 5", HEMTALUQ_VERSION == 5);
     check("the library has the header's version", hemtaluq_version() == HEMTALUQ_VERSION);
+    check("write has revision 2, and read revision 1", !strcmp(SYMBOL(hemtaluq_write), "hemtaluq_write_v2") && !strcmp(SYMBOL(hemtaluq_read), "hemtaluq_read_v1"));
     make_largest();
     make_longest_list();
     reading();
+    reading_both();
     reading_twins();
     weighing();
     quoting();
     listing();
     confirming();
     writing();
+    writing_both();
     writing_twins();
+    taking_and_sending();
     refusing_twins();
     written_is_read();
     null_pointers();

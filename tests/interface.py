@@ -32,6 +32,7 @@ RUNS = [
     ('plant_a', ['1', '3', '4'], 0, 'at most 39 steps without a fresh reading (price class 6)'),
     ('plant_b', ['1', '3', '4'], 1, 'no ceiling: these rows can go on for ever without a fresh reading: 0 1'),
     ('detour', ['1', '3', '4'], 1, 'no ceiling: these rows can go on for ever without a fresh reading: 9 13'),
+    ('feeder', ['1', '3', '4'], 0, 'at most 71 steps without a fresh reading (price class 7)'),
     ('twin_row', ['1', '3', '4'], 2, 'refused with 26 at 20: a row is equal to an earlier row of its machine'),
     ('plant_a', ['1', '3'], 2, 'refused with 20 at 0: there is not one content for each type'),
     ('plant_a', ['1', '0000000000000000000000000000000000000003', '04'], 0, 'at most 39 steps without a fresh reading (price class 6)'),
@@ -48,15 +49,18 @@ RUNS = [
     ('plant_a', ['1', word, '4'], 2, AMOUNT % 0) for word in NO_AMOUNTS] + [('plant_a', ['1', '3', word], 2, AMOUNT % 1) for word in NO_AMOUNTS]
 
 # The folders of examples/ with a list; their plant files are the shortest.
-LISTED = ['plant_a', 'plant_b', 'two_clients', 'two_clients_in_turn', 'detour']
-LIST_A = '2 2 2 2 0 1 1 0 0 1 0 2 1 1 2 2 0 1 2 0 0 1 0 1 1 0'.split()
+LISTED = ['plant_a', 'plant_b', 'two_clients', 'two_clients_in_turn', 'detour', 'feeder']
+ROW_NUMBERS = 6
+LIST_A = '2 2 2 2 0 1 1 0 0 0 1 0 2 1 1 0 2 2 0 1 2 0 0 0 1 0 1 1 0 0'.split()
+# The same as up to version 4, with five numbers a row: what stands in the place of the first row's sixth is the state that the second leaves.
+FIVES_A = '2 2 2 2 0 1 1 0 0 1 0 2 1 1 2 2 0 1 2 0 0 1 0 1 1 0'
 LINES_A = '\n'.join(LIST_A)
 LIST_LENGTH = 'refused with 23 at %d: the list of numbers ends early or goes on (%s)'
 LIST_NUMBER = 'refused with 24 at %d: a number of the list is outside its values or the limits (%s)'
 TWIN_ROW = 'refused with 26 at %d: a row is equal to an earlier row of its machine (line %d; the earlier row is in line %d)'
 # The longest list, and its file: no state can be left out.
-LONGEST_LIST = ' '.join(str(x) for x in [16, 64] + ([64, 64] + [x for k in range(64) for x in ((k + 1) % 64, (k + 2) % 64, 2, k, 0)]) * 16)
-LONGEST_FILE = bytes([16, 64] + ([64, 64] + [x for k in range(64) for x in (0x0B, (k + 1) % 64, (k + 2) % 64, k)]) * 16)
+LONGEST_LIST = ' '.join(str(x) for x in [16, 64] + ([64, 64] + [x for k in range(64) for x in ((k + 1) % 64, (k + 2) % 64, 3, k, 0, 63 - k)]) * 16)
+LONGEST_FILE = bytes([16, 64] + ([64, 64] + [x for k in range(64) for x in (0x0F, (k + 1) % 64, (k + 2) % 64, 63 - k, k)]) * 16)
 
 # Words of which none may be taken for a number that is right.
 NO_NUMBERS = ['-1', '-0', '+1', 'abc', '1x', 'x1', '0x1', '1e0', '1.0', '1,0', ':', '/', '1\v1', '1\0', '256', '65535', '65536', '65537', '4294967296',
@@ -70,7 +74,7 @@ def in_folder(folder, name):
 
 # What examples/README.md shows: a row of plant A that enters a third state, and one that stands there twice.
 SHOWN = [(in_folder('plant_a', 'plant.list.txt').replace(b'\n0 1 1 0 0 ', b'\n0 2 1 0 0 '), None, LIST_NUMBER % (5, 'line 8')),
-         (in_folder('twin_row', 'plant.list.txt'), None, TWIN_ROW % (26, 15, 13))]
+         (in_folder('twin_row', 'plant.list.txt'), None, TWIN_ROW % (30, 15, 13))]
 
 
 def changed(at, word):
@@ -79,42 +83,50 @@ def changed(at, word):
 
 
 def twin_lists():
-    """Lists with a twin row: on the line of the earlier row, next to it and far from it; rows over five lines; the row in another machine, too."""
-    yield '1 0 1 2 0 0 0 0 0 0 0 0 0 0', None, TWIN_ROW % (9, 1, 1)
-    yield '1 0 1 2\n0 0 0 0 0\n0 0 0 0 0 7', None, TWIN_ROW % (9, 3, 2)
-    yield '1 0 1 2 0 0 0 0 0 0 0 0 0 0'.replace(' ', '\n'), None, TWIN_ROW % (9, 10, 5)
-    yield '2 0\n1 1\n0 0 0 0 0\n1 3\n0 0 0 0 0\n0 0 0 0 1\n0 0 0 0 0', None, TWIN_ROW % (21, 7, 5)
+    """Lists with a twin row: on the line of the earlier row, next to it and far from it; rows over six lines; the row in another machine, too."""
+    yield '1 0 1 2 0 0 0 0 0 0 0 0 0 0 0 0', None, TWIN_ROW % (10, 1, 1)
+    yield '1 0 1 2\n0 0 0 0 0 0\n0 0 0 0 0 0 7', None, TWIN_ROW % (10, 3, 2)
+    yield '1 0 1 2 0 0 0 0 0 0 0 0 0 0 0 0'.replace(' ', '\n'), None, TWIN_ROW % (10, 11, 5)
+    yield '2 0\n1 1\n0 0 0 0 0 0\n1 3\n0 0 0 0 0 0\n0 0 0 0 1 0\n0 0 0 0 0 0', None, TWIN_ROW % (24, 7, 5)
+    # Behind rows that differ from it in the sixth number alone, and in the fourth.
+    yield '1 2 1 4\n0 0 3 1 0 0\n0 0 3 1 0 1\n0 0 3 0 0 0\n0 0 3 1 0 0', None, TWIN_ROW % (22, 5, 2)
     # The last of 64 rows is the first of its machine once more.
     words = LONGEST_LIST.split()
-    yield '\n'.join(words[:-5] + words[-320:-315]), None, TWIN_ROW % (5149, 5150, 5150 - 315)
+    last, first = len(words) - ROW_NUMBERS, len(words) - 64 * ROW_NUMBERS
+    yield '\n'.join(words[:last] + words[first:first + ROW_NUMBERS]), None, TWIN_ROW % (last, last + 1, first + 1)
 
 
 def lists():
     """The text of a list, or None where there is no such file, and what a designer program owes: the file, or none, and the line it prints."""
-    plant_a = in_folder('plant_a', 'plant.bin')
+    plant_a, longest = in_folder('plant_a', 'plant.bin'), len(LONGEST_LIST.split())
     for folder in LISTED:
         plant = in_folder(folder, 'plant.bin')
         yield in_folder(folder, 'plant.list.txt'), plant, 'wrote %d bytes' % len(plant)
     for text in (LINES_A, LINES_A + '\n', '\n \n' + LINES_A, LINES_A.replace('\n', '\r\n'), LINES_A.replace('\n', ' \t'), LINES_A.replace('\n', '#1 2\n'),
                  '#' + ' '.join(LIST_A) + '\n' + LINES_A + '#', changed(3, '0' * 40 + '2'), LINES_A + ' # \u0661 \udcff'):
         yield text, plant_a, 'wrote 20 bytes'
-    yield LONGEST_LIST, LONGEST_FILE, 'wrote 4130 bytes'
+    yield LONGEST_LIST, LONGEST_FILE, 'wrote 5154 bytes'
+    yield '1 2 1 1\n0 0 3 1 0 0', bytes([1, 2, 1, 1, 0x0C, 0, 1]), 'wrote 7 bytes'
+    yield '1 2 1 1\n0 0 3 1 0', None, LIST_LENGTH % (9, 'after line 2')
+    yield '1 2 1 1\n0 0 4 1 0 0', None, LIST_NUMBER % (6, 'line 2')
+    yield '1 2 1 1\n0 0 3 1 0 2', None, LIST_NUMBER % (9, 'line 2')
+    yield FIVES_A, None, LIST_NUMBER % (9, 'line 1')
     for text in (None, '', '\n\n', '# 1 0 1 0', '#'):
         yield text, None, LIST_LENGTH % (0, 'no number')
-    yield '\n'.join(LIST_A[:-1]) + '\n\n# 0\n', None, LIST_LENGTH % (25, 'after line 25')
-    yield LINES_A + '\n\n0\n0\n', None, LIST_LENGTH % (26, 'line 28')
-    yield LINES_A + '\nabc', None, LIST_LENGTH % (26, 'line 27')
-    yield LINES_A + 10000 * '\n0', None, LIST_LENGTH % (26, 'line 27')
-    yield LONGEST_LIST.rpartition(' ')[0], None, LIST_LENGTH % (5153, 'after line 1')
-    yield LONGEST_LIST + '\n0', None, LIST_LENGTH % (5154, 'line 2')
-    yield LONGEST_LIST + 1000 * '\nabc', None, LIST_LENGTH % (5154, 'line 2')
+    yield '\n'.join(LIST_A[:-1]) + '\n\n# 0\n', None, LIST_LENGTH % (29, 'after line 29')
+    yield LINES_A + '\n\n0\n0\n', None, LIST_LENGTH % (30, 'line 32')
+    yield LINES_A + '\nabc', None, LIST_LENGTH % (30, 'line 31')
+    yield LINES_A + 10000 * '\n0', None, LIST_LENGTH % (30, 'line 31')
+    yield LONGEST_LIST.rpartition(' ')[0], None, LIST_LENGTH % (longest - 1, 'after line 1')
+    yield LONGEST_LIST + '\n0', None, LIST_LENGTH % (longest, 'line 2')
+    yield LONGEST_LIST + 1000 * '\nabc', None, LIST_LENGTH % (longest, 'line 2')
     yield from SHOWN
     yield from twin_lists()
     yield '\n17', None, LIST_NUMBER % (0, 'line 2')
     yield changed(6, 'abc') + 10000 * '\n0', None, LIST_NUMBER % (6, 'line 7')
     # A word that is no number is wrong at every sort of place: counts, states, rows, and each number of a row.
     for word in NO_NUMBERS:
-        for at in (0, 1, 2, 3, 4, 5, 6, 7, 8, 25):
+        for at in (0, 1, 2, 3, 4, 5, 6, 7, 8, 9, len(LIST_A) - 1):
             yield changed(at, word), None, LIST_NUMBER % (at, 'line %d' % (at + 1))
 
 
@@ -260,16 +272,45 @@ def renamed(folder, name, other):
     return made
 
 
+def symbol(call, revision):
+    return 'hemtaluq_%s_v%d' % (call, revision)
+
+
+def header():
+    with open(os.path.join(ROOT, 'dist', 'hemtaluq.h'), encoding='utf-8') as source:
+        return source.read()
+
+
+def revisions():
+    """The revision of each call, as the header's macros have them."""
+    found = {call: int(number) for call, named, number in re.findall(r'(?m)^#define hemtaluq_(\w+) hemtaluq_(\w+)_v(\d+)$', header()) if call == named}
+    if sorted(found) != sorted(CALLS):
+        sys.exit('interface.py: the header has revisions of %s' % sorted(found))
+    return found
+
+
+def compiled_with(folder, call, earlier):
+    """interface.c, compiled with a header in which one call has an earlier revision."""
+    place, test = os.path.join(folder, symbol(call, earlier)), os.path.join(folder, 'earlier.o')
+    os.makedirs(place)
+    put(os.path.join(place, 'hemtaluq.h'), header().replace(symbol(call, revisions()[call]), symbol(call, earlier)).encode())
+    run(['gcc', '-std=c99', '-I' + place] + STRICT + ['-c', 'tests/interface.c', '-o', test])
+    return test
+
+
 def hold_revisions(folder):
-    """With the revision of one call raised, the library does not link with an object compiled with the header, or with the wrappers in Rust."""
+    """With the revision of one call raised, the library does not link with an object compiled with the header, or with the wrappers in Rust. An
+    object compiled with a header in which a call has an earlier revision does not link with the library."""
     test, program = os.path.join(folder, 'interface.o'), os.path.join(folder, 'program')
     run(['gcc', '-std=c99'] + STRICT + ['-c', 'tests/interface.c', '-o', test])
     run(['gcc', test, 'dist/libhemtaluq.a', '-o', program])
-    for call in CALLS:
-        raised = renamed(folder, 'hemtaluq_%s_v1' % call, 'hemtaluq_%s_v2' % call)
-        must_not_link(['gcc', test, os.path.join(raised, 'libhemtaluq.a'), '-o', program], 'hemtaluq_%s_v1' % call)
+    for call, revision in revisions().items():
+        raised = renamed(folder, symbol(call, revision), symbol(call, revision + 1))
+        must_not_link(['gcc', test, os.path.join(raised, 'libhemtaluq.a'), '-o', program], symbol(call, revision))
         if shutil.which('rustc'):
-            must_not_link(RUST + ['tests/interface.rs', '-L' + raised, '-o', program], 'hemtaluq_%s_v1' % call)
+            must_not_link(RUST + ['tests/interface.rs', '-L' + raised, '-o', program], symbol(call, revision))
+        for earlier in range(1, revision):
+            must_not_link(['gcc', compiled_with(folder, call, earlier), 'dist/libhemtaluq.a', '-o', program], symbol(call, earlier))
 
 
 def hold_other_version(folder):

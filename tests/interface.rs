@@ -9,7 +9,10 @@ const PLANT_B: [u8; 20] = [2, 2, 2, 2, 0x06, 1, 0, 0x0B, 1, 0, 1, 2, 2, 0x0A, 1,
 // A ring of three rows, and one of two.
 const RINGS: [u8; 19] = [2, 0, 3, 3, 2, 1, 3, 1, 2, 3, 2, 0, 2, 2, 2, 1, 3, 1, 0];
 // The list that says plant A.
-const LIST_A: [u16; 26] = [2, 2, 2, 2, 0, 1, 1, 0, 0, 1, 0, 2, 1, 1, 2, 2, 0, 1, 2, 0, 0, 1, 0, 1, 1, 0];
+const LIST_A: [u16; 30] = [2, 2, 2, 2, 0, 1, 1, 0, 0, 0, 1, 0, 2, 1, 1, 0, 2, 2, 0, 1, 2, 0, 0, 0, 1, 0, 1, 1, 0, 0];
+// A row that takes type 1 and sends type 0, and the list that says it.
+const BOTH: [u8; 7] = [1, 2, 1, 1, 0x0C, 0, 1];
+const LIST_BOTH: [u16; 10] = [1, 2, 1, 1, 0, 0, 3, 1, 0, 0];
 
 fn fault(number: u8, place: usize) -> Fault {
     Fault { number, place }
@@ -20,7 +23,7 @@ fn longest_list() -> Vec<u16> {
     let mut list = vec![16, 64];
     for _ in 0..16 {
         list.extend_from_slice(&[64, 64]);
-        (0..64).for_each(|k| list.extend_from_slice(&[(k + 1) % 64, (k + 2) % 64, 2, k, 0]));
+        (0..64).for_each(|k| list.extend_from_slice(&[(k + 1) % 64, (k + 2) % 64, 3, k, 0, 63 - k]));
     }
     list
 }
@@ -28,10 +31,14 @@ fn longest_list() -> Vec<u16> {
 fn writing() {
     assert_eq!(hemtaluq::write(&LIST_A), Ok(PLANT_A.to_vec()));
     assert_eq!(hemtaluq::write(&[]), Err(fault(23, 0)));
-    assert_eq!(hemtaluq::write(&LIST_A[..25]), Err(fault(23, 25)));
+    assert_eq!(hemtaluq::write(&LIST_A[..29]), Err(fault(23, 29)));
+    assert_eq!(hemtaluq::write(&LIST_BOTH), Ok(BOTH.to_vec()));
+    assert_eq!(hemtaluq::write(&LIST_BOTH[..9]), Err(fault(23, 9)));
     assert_eq!(hemtaluq::write(&[1, 0, 1, 0, 0]), Err(fault(23, 4)));
-    assert_eq!(hemtaluq::write(&[1, 0, 2, 1, 0, 2, 0, 0, 0]), Err(fault(24, 5)));
-    assert_eq!(hemtaluq::write(&[1, 0, 2, 3, 0, 1, 0, 0, 0, 1, 0, 0, 0, 0, 0, 1, 0, 0, 0]), Err(fault(26, 14)));
+    assert_eq!(hemtaluq::write(&[1, 0, 2, 1, 0, 2, 0, 0, 0, 0]), Err(fault(24, 5)));
+    assert_eq!(hemtaluq::write(&[1, 2, 1, 1, 0, 0, 4, 1, 0, 0]), Err(fault(24, 6)));
+    assert_eq!(hemtaluq::write(&[1, 2, 1, 1, 0, 0, 2, 1, 0, 1]), Err(fault(24, 9)));
+    assert_eq!(hemtaluq::write(&[1, 0, 2, 3, 0, 1, 0, 0, 0, 0, 1, 0, 0, 0, 0, 0, 0, 1, 0, 0, 0, 0]), Err(fault(26, 16)));
     let mut out = [7; 22];
     assert_eq!(hemtaluq::write_into(&LIST_A, &mut out[..19]), Err(fault(25, 0)));
     assert_eq!(out, [7; 22]);
@@ -45,12 +52,16 @@ fn writing() {
 }
 
 fn main() {
+    assert_eq!(hemtaluq::VERSION, 5);
     assert_eq!(hemtaluq::version(), hemtaluq::VERSION);
     assert_eq!(fault(22, 0).in_words(), "the weights do not pass");
     assert_eq!(fault(26, 0).in_words(), "a row is equal to an earlier row of its machine");
     assert_eq!(hemtaluq::read(&[1, 3, 1, 2, 0, 16]), Ok(Counts { machines: 1, types: 3, rows: 2 }));
     assert_eq!(hemtaluq::read(&[1, 3, 1, 3, 0, 16, 1, 0]), Err(fault(26, 6)));
     assert_eq!(hemtaluq::read(&PLANT_A[..7]), Err(fault(1, 7)));
+    assert_eq!(hemtaluq::read(&BOTH), Ok(Counts { machines: 1, types: 2, rows: 1 }));
+    assert_eq!(hemtaluq::confirm(&BOTH, &[0, 1, 1, 0]), Ok(Confirmed::Negative { message_type: 1, sum: -1 }));
+    assert_eq!(hemtaluq::weigh(&BOTH, &[0, 1]), Ok(Weighed::Passed { base: 0, most_states: 1, per_progress: 1 }));
     assert_eq!(hemtaluq::weigh(&PLANT_A, &[2, 1]), Ok(Weighed::Passed { base: 10, most_states: 2, per_progress: 9 }));
     let shown = hemtaluq::weigh(&PLANT_A, &[1, 1]);
     assert!(shown == Ok(Weighed::Cycle(vec![2, 3])) || shown == Ok(Weighed::Cycle(vec![3, 2])));

@@ -83,8 +83,8 @@ def tailed(rng):
     return ring_states + tail, [(names[a], names[b]) for a, b in rows]
 
 
-# What the rows between the same two states may be, of a plant with one type: the map byte, and the type if there is one.
-MARKS = [(3, ()), (19, ()), (7, (0,)), (11, (0,)), (23, (0,)), (27, (0,))]
+# What the rows between the same two states may be, of a plant with one type: the map byte, and the type sent and the type taken if there are any.
+MARKS = [(3, ()), (19, ()), (7, (0,)), (11, (0,)), (15, (0, 0)), (23, (0,)), (27, (0,)), (31, (0, 0))]
 
 
 def machine_bytes(rng, states, ends):
@@ -92,8 +92,8 @@ def machine_bytes(rng, states, ends):
     rows, free = [], {pair: rng.sample(MARKS, len(MARKS)) for pair in ends}
     for pair in ends:
         if free[pair]:
-            bits, field = free[pair].pop()
-            rows.append((bits, *pair, *field))
+            bits, fields = free[pair].pop()
+            rows.append((bits, *pair, *fields))
     return [states, len(rows)] + [b for row in rows for b in row]
 
 

@@ -117,7 +117,7 @@ def hold_run(rng, data, weights, contents, g, ceiling):
             break
         row = rng.choice([r for r in can if not r[5]] or can)
         state[row[0]] = row[2]
-        for t, by in ((row[3], 1), (row[4], -1)):
+        for t, by in ((row[4], -1), (row[3], 1)):
             if t is not None:
                 content[t] += by
         quiet, progress = quiet + (not row[5]), progress + row[5]

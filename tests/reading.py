@@ -1,6 +1,6 @@
 """Compare `read` and `decode` with a second reader, on whole, damaged and random files.
 
-The reader below was written from the scope document's section "The plant file" and its table of faults, in another
+The reader below was written from the scope document's section "The plant file", its table of faults and requests L4 and L5, in another
 style than the definitions: it reads a file with an iterator and raises the first fault; a row is compared with each earlier
 row of its machine. The C program reads files from its standard input and prints what the two functions answer.
 `tests/compiled.py` runs it.
@@ -13,6 +13,7 @@ import sys
 
 FILES = 30000
 TRIES = 12
+LONGEST_FILE = 2 + 2 * 16 + 5 * 1024
 
 
 # ---- the second reader
@@ -36,7 +37,7 @@ class Bytes:
 
 
 def read_row(source, states, types, previous):
-    bits = source.next(lambda b: b >> 5 == 0 and b & 12 != 12, 4)
+    bits = source.next(lambda b: b >> 5 == 0, 4)
     left = source.next(lambda b: b < states, 5) if bits & 1 else previous
     entered = source.next(lambda b: b < states, 5) if bits & 2 else left
     sent = source.next(lambda b: b < types, 6) if bits & 4 else None
@@ -88,12 +89,12 @@ def write_row(rng, states, types, previous):
     """A row and its bytes."""
     bits = rng.choice([0, 16]) | rng.choice([0, 0, 1, 2, 3, 3])
     if types:
-        bits |= rng.choice([0, 4, 8])
+        bits |= rng.choice([0, 4, 8, 12])
     left = rng.randrange(states) if bits & 1 else previous
     entered = rng.randrange(states) if bits & 2 else left
-    number = rng.randrange(types) if bits & 12 else None
-    row = left, entered, number if bits & 4 else None, number if bits & 8 else None, bits > 15
-    return row, [bits] + [field for bit, field in ((1, left), (2, entered), (12, number)) if bits & bit]
+    sent = rng.randrange(types) if bits & 4 else None
+    taken = rng.randrange(types) if bits & 8 else None
+    return (left, entered, sent, taken, bits > 15), [bits] + [field for bit, field in ((1, left), (2, entered), (4, sent), (8, taken)) if bits & bit]
 
 
 def write_rows(rng, states, types, count):
@@ -157,11 +158,12 @@ def file_of(rng, types, states, machines):
 
 
 def damaged(rng, data):
+    """The data with up to three bytes changed, put in or taken out, or cut off. 44, 76 and 140 are bits 2 and 3 with one of the bits 5 to 7."""
     data = bytearray(data)
     for _ in range(rng.randint(1, 3)):
         kind = rng.randrange(4)
         if kind == 0 and data:
-            data[rng.randrange(len(data))] = rng.choice([0, 1, 2, 12, 16, 17, 31, 32, 63, 64, 65, 255, rng.randrange(256)])
+            data[rng.randrange(len(data))] = rng.choice([0, 1, 2, 12, 16, 17, 31, 32, 44, 63, 64, 65, 76, 140, 255, rng.randrange(256)])
         elif kind == 1:
             data = data[:rng.randint(0, len(data))]
         elif kind == 2:
@@ -199,7 +201,7 @@ def twins_at_ends():
 def row_pairs():
     """All files of a machine with two rows, two states and one type, and those with one row more between the two, which leaves another state than
     the first."""
-    messages = [(None, None), (0, None), (None, 0)]
+    messages = [(None, None), (0, None), (None, 0), (0, 0)]
     rows = [(left, entered) + message + (progress,) for left in (0, 1) for entered in (0, 1) for message in messages for progress in (False, True)]
     for first, second in itertools.product(rows, repeat=2):
         for data in row_forms(first, 0):
@@ -209,12 +211,16 @@ def row_pairs():
                 yield bytes([1, 1, 2, 3] + data + [3, 1 - first[0], first[0]] + more)
 
 
+def longest_file():
+    """16 machines of 64 states, 64 types and 1,024 rows, each with all its fields."""
+    return bytes([16, 64] + [b for m in range(16) for b in [64, 64] + [b for k in range(64) for b in (31, 63 - k, 63, 63, (k + m) % 64)]])
+
+
 def edges():
-    longest = [16, 64] + [b for _ in range(16) for b in [64, 64] + [b for k in range(64) for b in (31 - 8, 63 - k, 63, 63)]]
     yield from (b'', b'\x00', b'\x01', b'\x11\x00', bytes([1, 65]), bytes([1, 0, 65, 0]), bytes([1, 0, 64, 0]), bytes([16, 64] + [64, 0] * 16))
-    yield bytes(longest)
-    yield bytes(longest) + b'\x00'
-    yield bytes(longest)[:-1]
+    yield longest_file()
+    yield longest_file() + b'\x00'
+    yield longest_file()[:-1]
     yield counted(255, 255, 255, 255, 4)
     yield counted(255, 255, 255, 255, 5)
     yield bytes([5, 0] + ([1, 255] + [0] * 255) * 4 + [1, 4] + [0] * 4)

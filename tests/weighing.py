@@ -177,10 +177,10 @@ def longest_run(rng, plant, weights, steps):
             break
         row = rng.choice([r for r in can if not r[5]] or can)
         state[row[0]] = row[2]
-        if row[3] is not None:
-            content[row[3]] += 1
         if row[4] is not None:
             content[row[4]] -= 1
+        if row[3] is not None:
+            content[row[3]] += 1
         quiet, progress = quiet + (not row[5]), progress + row[5]
         if quiet > bound + g * progress:
             sys.exit('weighing.py: %d quiet rows and %d others, but the bound is %d' % (quiet, progress, bound + g * progress))
@@ -190,8 +190,8 @@ def longest_run(rng, plant, weights, steps):
 # ---- cases
 
 def row_bytes(rng, states, types):
-    bits = 3 | (16 if rng.random() < 0.25 else 0) | (rng.choice([0, 4, 8, 8]) if types else 0)
-    return bits, rng.randrange(states), rng.randrange(states), *([rng.randrange(types)] if bits & 12 else [])
+    bits = 3 | (16 if rng.random() < 0.25 else 0) | (rng.choice([0, 4, 8, 8, 12]) if types else 0)
+    return bits, rng.randrange(states), rng.randrange(states), *(rng.randrange(types) for bit in (4, 8) if bits & bit)
 
 
 def plant_file(rng):

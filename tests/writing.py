@@ -1,6 +1,6 @@
 """Compare `write` with a second writer, on lists of numbers of many shapes, whole, cut off, damaged and gone on, and on buffers of many lengths.
 
-The writer below was written from request L2 of document 02, in another style than the definitions: a generator says which values the
+The writer below was written from requests L2 and L5 of document 02, in another style than the definitions: a generator says which values the
 next number may have, and is sent the number; rows are compared with those between the same two states; a row's bytes are searched, the
 fewest of all that read back as the row. The C program prints the answer and the buffer afterwards, with the bytes before and behind it.
 What was written is read again by the second reader of reading.py, row by row.
@@ -20,9 +20,11 @@ import figures
 import reading
 from reading import Fault
 
-LISTS = 6000
+LISTS = 5000
 DRAWN = 6000
 TWINS = 200
+ROW_NUMBERS = 6
+LONGEST_LIST = 2 + 2 * 16 + ROW_NUMBERS * 1024
 GUARD = 8
 WROTE = 8
 
@@ -40,14 +42,15 @@ def listed_plant():
         for _ in range((yield range(min(255, 1024 - len(rows)) + 1))):
             left = yield range(states[m])
             entered = yield range(states[m])
-            kind = yield range(3)
-            number = yield range(types if kind else 1)
+            kind = yield range(4)
+            first = yield range(types if kind else 1)
             progress = yield range(2)
+            second = yield range(types if kind == 3 else 1)
             parallel = between.setdefault((left, entered), [])
-            if (kind, number, progress) in parallel:
-                raise Fault(26, 2 + 2 * len(states) + 5 * len(rows))
-            parallel.append((kind, number, progress))
-            rows.append((m, left, entered, number if kind == 1 else None, number if kind == 2 else None, progress == 1))
+            if (kind, first, progress, second) in parallel:
+                raise Fault(26, 2 + 2 * len(states) + ROW_NUMBERS * len(rows))
+            parallel.append((kind, first, progress, second))
+            rows.append((m, left, entered, {1: first, 3: second}.get(kind), first if kind > 1 else None, progress == 1))
     return types, states, rows
 
 
@@ -107,11 +110,18 @@ def owed(numbers, before):
 # ---- lists
 
 def list_of(types, machines):
-    """The list of machines, each a count of states and rows of state left, state entered, kind, type and progress."""
+    """The list of machines, each a count of states and rows of state left, state entered, kind, type, progress and the type sent by kind 3."""
     numbers = [len(machines), types]
     for states, rows in machines:
         numbers += [states, len(rows)] + [x for row in rows for x in row]
     return numbers
+
+
+def row_numbers(left, entered, sent, taken, progress):
+    """The six numbers of a row."""
+    if sent is None or taken is None:
+        return left, entered, 1 if sent is not None else 2 if taken is not None else 0, sent or taken or 0, int(progress), 0
+    return left, entered, 3, taken, int(progress), sent
 
 
 def drawn_rows(rng, states, types, count):
@@ -121,8 +131,9 @@ def drawn_rows(rng, states, types, count):
     while len(rows) < count and again < reading.TRIES:
         left = rng.choice([left, left, entered, rng.randrange(states), rng.randrange(states)])
         entered = rng.choice([left, rng.randrange(states), rng.randrange(states)])
-        kind = rng.choice([0, 1, 2]) if types else 0
-        row = left, entered, kind, rng.randrange(types) if kind else 0, rng.randrange(2)
+        kind = rng.choice([0, 1, 2, 3]) if types else 0
+        number = rng.randrange(types) if kind else 0
+        row = left, entered, kind, number, rng.randrange(2), rng.choice([number, rng.randrange(types)]) if kind == 3 else 0
         again = again + 1 if row in rows else 0
         rows[row] = True
     return list(rows)
@@ -138,21 +149,20 @@ def drawn_list(rng, most_machines, most_rows):
 
 
 def longest_list():
-    """16 machines of 64 states, 64 types and 1,024 rows, no field of which can be left out: 5,154 numbers, 4,130 bytes."""
-    return list_of(64, [(64, [(63 - k, k, 1 + k % 2, (k + m) % 64, k % 3 // 2) for k in range(64)]) for m in range(16)])
+    """16 machines of 64 states, 64 types and 1,024 rows, no field of which can be left out: its file is a longest one."""
+    return list_of(64, [(64, [(63 - k, k, 3, (k + m) % 64, k % 3 // 2, 5 * k % 64) for k in range(64)]) for m in range(16)])
 
 
 def counted_list(*counts):
     """Machines with so many rows, all different."""
-    return list_of(0, [(64, [(k // 64 % 64, k % 64, 0, 0, k // 4096) for k in range(count)]) for count in counts])
+    return list_of(0, [(64, [(k // 64 % 64, k % 64, 0, 0, k // 4096, 0) for k in range(count)]) for count in counts])
 
 
 def twin_list(rng, numbers):
     """A list that says a plant, with a row twice in one of its machines."""
     types, states, rows = said(numbers)
-    machines = [[(left, entered, 1 if sent is not None else 2 if taken is not None else 0, sent or taken or 0, int(progress))
-                 for own, left, entered, sent, taken, progress in rows if own == m] for m in range(len(states))]
-    reading.put_twin(rng, machines, (0, 0, 0, 0, 0))
+    machines = [[row_numbers(*row[1:]) for row in rows if row[0] == m] for m in range(len(states))]
+    reading.put_twin(rng, machines, (0, 0, 0, 0, 0, 0))
     return list_of(types, list(zip(states, machines)))
 
 
@@ -166,7 +176,7 @@ def twin_lists(rng):
             first = fault.args[1]
         yield numbers
         yield numbers + [0]
-        for end in range(first, min(len(numbers), first + 7)):
+        for end in range(first, min(len(numbers), first + ROW_NUMBERS + 2)):
             yield numbers[:end]
             for other in {2, 3, 64, 65535, numbers[end] + 1} - {numbers[end]}:
                 yield numbers[:end] + [other] + numbers[end + 1:]
@@ -180,11 +190,12 @@ def edges():
         yield counted_list(*counts)
     for last in (4, 5, 255, 256, 65535):
         yield counted_list(255, 255, 255, 255, 0)[:-1] + [last]
-    for kind in range(4):
+    for kind in range(5):
         yield [1, 0, 1, 1, 0, 0, kind]
-        yield [1, 0, 1, 1, 0, 0, kind, 0, 0]
-        yield [1, 64, 1, 1, 0, 0, kind, 63, 1]
-        yield [1, 64, 1, 1, 0, 0, kind, 64, 1]
+        yield [1, 0, 1, 1, 0, 0, kind, 0, 0, 0]
+        for fourth, progress, sixth in itertools.product((0, 63, 64), (1, 2), (0, 63, 64)):
+            yield [1, 64, 1, 1, 0, 0, kind, fourth, progress, sixth]
+        yield [1, 64, 1, 1, 0, 0, kind, 0, 1]
     yield longest_list()
     yield [1, 0, 1, 0] + [0] * 65536
 
@@ -199,28 +210,30 @@ def values_at(numbers):
 
 
 def damaged(numbers):
-    """Every truncation, each number changed to values at and beyond its ends and others, also where the list ends behind it; numbers more."""
+    """Every truncation, each number changed to values at and beyond its ends and others, also where the list ends behind it or the next number is
+    wrong too; numbers more."""
     for i, (x, values) in enumerate(zip(numbers, values_at(numbers))):
         yield numbers[:i]
         yield numbers[:i] + numbers[i + 1:]
-        others = {0, 1, 2, 3, 16, 17, 63, 64, 65, 255, 256, 65535, x + 1, x + 256, values.start - 1, values.stop - 1, values.stop, values.stop + 1}
+        others = {0, 1, 2, 3, 4, 16, 17, 63, 64, 65, 255, 256, 65535, x + 1, x + 256, values.start - 1, values.stop - 1, values.stop, values.stop + 1}
         for other in sorted(others - {x, -1}):
             yield numbers[:i] + [other] + numbers[i + 1:]
         for other in (values.stop, 65535):
             yield numbers[:i] + [other]
-    for more in ([0], [1], [65535], [0] * 5, numbers):
+        yield numbers[:i] + [65535, 65535] + numbers[i + 2:]
+    for more in ([0], [1], [65535], [0] * 6, numbers):
         yield numbers + more
 
 
 def damaged_lists(rng):
     """Damage at every place of small lists, and at some places of the longest."""
-    for machines, rows, count in ((1, 3, 12), (2, 4, 8), (4, 6, 6), (16, 3, 2)):
+    for machines, rows, count in ((1, 3, 10), (2, 4, 7), (4, 6, 5), (16, 3, 2)):
         for _ in range(count):
             yield from damaged(drawn_list(rng, machines, rows))
     longest = longest_list()
-    for i in sorted(rng.sample(range(len(longest)), 60)) + list(range(5140, 5154)):
+    for i in sorted(rng.sample(range(len(longest)), 60)) + list(range(LONGEST_LIST - 14, LONGEST_LIST)):
         yield longest[:i]
-        for other in (2, 3, 64, 65535):
+        for other in (2, 3, 4, 64, 65535):
             yield longest[:i] + [other] + longest[i + 1:]
     for more in ([0], [65535], [0] * 1000):
         yield longest + more
@@ -249,7 +262,7 @@ def cases(rng):
     for numbers in damaged_lists(rng):
         yield numbers, lent(rng, needed(numbers) - rng.choice([0, 0, 0, 0, 1, 4]))
     for numbers in twin_lists(rng):
-        yield numbers, lent(rng, rng.choice([0, 6, 4130]))
+        yield numbers, lent(rng, rng.choice([0, 6, reading.LONGEST_FILE]))
     for i in range(LISTS):
         numbers = drawn_list(rng, *rng.choice([(1, 2), (2, 8), (16, 8), (16, 40), (6, 255)] if i % 10 == 0 else [(1, 2), (2, 8), (3, 12), (8, 4)]))
         length = needed(numbers)
@@ -260,8 +273,8 @@ def cases(rng):
 # ---- small plants and all their files
 
 def all_rows(states, types):
-    messages = [(0, 0)] + [(kind, number) for kind in (1, 2) for number in range(types)]
-    return [(left, entered) + message + (progress,) for left in range(states) for entered in range(states) for message in messages for progress in (0, 1)]
+    either, each = [None, *range(types)], range(states)
+    return [row_numbers(*row) for row in itertools.product(each, each, either, either, (False, True))]
 
 
 def with_counts(types, states, counts):

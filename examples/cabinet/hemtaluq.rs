@@ -1,13 +1,13 @@
 //! Safe wrappers around the C interface of Hemtaluq: slices in, enums out.
 
 /// The version of the interface that these wrappers are written for.
-pub const VERSION: u32 = 4;
+pub const VERSION: u32 = 5;
 
 /// Bytes of the longest plant file.
-pub const LONGEST_FILE: usize = 4130;
+pub const LONGEST_FILE: usize = 5154;
 
 /// Numbers of the longest list that says a plant.
-pub const LONGEST_LIST: usize = 5154;
+pub const LONGEST_LIST: usize = 6178;
 
 /// Why a call was refused: the number of the fault and where it was met.
 #[derive(Debug, Clone, Copy, PartialEq, Eq)]
@@ -138,7 +138,8 @@ const REFUSED: u8 = 0;
 const CYCLE: u8 = 3;
 const NEGATIVE: u8 = 7;
 
-// The symbols carry the revisions of the structs and arguments above: a library with others has other symbols, and is not linked.
+// The symbols carry the revisions of the structs and arguments above and of the form of the lists: a library with others has other symbols, and
+// is not linked.
 #[link(name = "hemtaluq", kind = "static")]
 extern "C" {
     fn hemtaluq_version() -> u32;
@@ -152,7 +153,7 @@ extern "C" {
     fn hemtaluq_list(file: *const u8, file_length: usize, machine: u32, out: *mut u16, out_length: usize) -> ListAnswer;
     #[link_name = "hemtaluq_confirm_v1"]
     fn hemtaluq_confirm(file: *const u8, file_length: usize, set: *const u32, set_length: usize) -> ConfirmAnswer;
-    #[link_name = "hemtaluq_write_v1"]
+    #[link_name = "hemtaluq_write_v2"]
     fn hemtaluq_write(numbers: *const u16, number_count: usize, out: *mut u8, out_length: usize) -> WriteAnswer;
 }
 
@@ -209,7 +210,10 @@ pub fn confirm(file: &[u8], set: &[u32]) -> Result<Confirmed, Fault> {
     }
 }
 
-/// The shortest file of the plant that a list of numbers says, in the front of `out`; how many bytes it has.
+/// The shortest file of the plant that a list of numbers says, in the front of `out`; how many bytes it has. The list is the count of machines and
+/// the count of types, then for each machine its states, its count of rows and six numbers for each row: state left, state entered, kind
+/// (0 neither, 1 sends, 2 takes, 3 takes and sends), type (the type sent for kind 1, the type taken for kinds 2 and 3, 0 for kind 0), progress
+/// (0 or 1) and, for kind 3, the type sent (0 for other kinds). A row of kind 3 takes first, then sends.
 pub fn write_into(numbers: &[u16], out: &mut [u8]) -> Result<usize, Fault> {
     let a = unsafe { hemtaluq_write(numbers.as_ptr(), numbers.len(), out.as_mut_ptr(), out.len()) };
     if a.kind == REFUSED {
@@ -218,7 +222,8 @@ pub fn write_into(numbers: &[u16], out: &mut [u8]) -> Result<usize, Fault> {
     Ok(a.length)
 }
 
-/// The shortest file of the plant that a list of numbers says. There is room for every file, so 25 does not come.
+/// The shortest file of the plant that a list of numbers says, which has the form that `write_into` takes. There is room for every file, so 25 does
+/// not come.
 pub fn write(numbers: &[u16]) -> Result<Vec<u8>, Fault> {
     let mut file = vec![0; LONGEST_FILE];
     let length = write_into(numbers, &mut file)?;

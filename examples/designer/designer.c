@@ -18,6 +18,9 @@
  * call refuses it as a wrong number, at the word's index and after the faults that come before. */
 #define NO_NUMBER UINT16_MAX
 
+/* How many numbers a row of a list has. */
+#define ROW_NUMBERS 6
+
 /* The numbers of a list, and the line that each stands on. */
 static uint16_t numbers[MOST_NUMBERS];
 static size_t lines[MOST_NUMBERS], count;
@@ -68,10 +71,10 @@ static const char *in_words(unsigned number) {
     return number == HEMTALUQ_LIST_NUMBER ? "a number of the list is outside its values or the limits" : "a row is equal to an earlier row of its machine";
 }
 
-/* The index of the row that a twin row is equal to. The call has found it among the rows of the machine, each of five numbers. */
+/* The index of the row that a twin row is equal to. The call has found it among the rows of the machine. */
 static size_t earlier_row(size_t place) {
-    size_t earlier = place - 5;
-    while (memcmp(numbers + earlier, numbers + place, 5 * sizeof *numbers) != 0) earlier -= 5;
+    size_t earlier = place - ROW_NUMBERS;
+    while (memcmp(numbers + earlier, numbers + place, ROW_NUMBERS * sizeof *numbers) != 0) earlier -= ROW_NUMBERS;
     return earlier;
 }
 

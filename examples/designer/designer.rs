@@ -11,6 +11,9 @@ use hemtaluq::Fault;
 use std::ffi::{OsStr, OsString};
 use std::process::ExitCode;
 
+/// How many numbers a row of a list has.
+const ROW_NUMBERS: usize = 6;
+
 /// A word of a list: digits alone. The largest number stands for a word that is no number from 0 to 65,535. It is right at no place of a
 /// list, where 255 is the largest number that can be: the call refuses it as a wrong number, at the word's index and after the faults that
 /// come before.
@@ -32,10 +35,10 @@ fn numbers_of(text: &[u8]) -> (Vec<u16>, Vec<usize>) {
     (numbers, lines)
 }
 
-/// The index of the row that a twin row is equal to. The call has found it among the rows of the machine, each of five numbers.
+/// The index of the row that a twin row is equal to. The call has found it among the rows of the machine.
 fn earlier_row(numbers: &[u16], place: usize) -> usize {
     let (before, behind) = numbers.split_at(place);
-    place - 5 * (1 + before.rchunks(5).take_while(|row| *row != &behind[..5]).count())
+    place - ROW_NUMBERS * (1 + before.rchunks(ROW_NUMBERS).take_while(|row| *row != &behind[..ROW_NUMBERS]).count())
 }
 
 /// An index is hard to find in a text, so the line is told as well.

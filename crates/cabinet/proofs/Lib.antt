@@ -1,4 +1,3 @@
 -- Laws of the C interface.
 pub mod StructLaws
-pub mod StructsDiffer
 pub mod StructBound

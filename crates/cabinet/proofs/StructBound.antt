@@ -12,8 +12,8 @@ use Rattle.weight_checks.specs.Checks.{judged}
 use Rattle.weighing.specs.Answers as Weighing
 use Rattle.weighing.specs.Weighing.{Owed}
 use Rattle.weighing.proofs.PassedLaws.{passed-bound}
-use Rattle.cabinet.specs.declared.WeighAnswer.{WeighAnswer}
-use Rattle.cabinet.specs.Structs.{weighStruct, WeighedAs}
+use Rattle.answer_structs.specs.declared.WeighAnswer.{WeighAnswer}
+use Rattle.answer_structs.specs.Structs.{weighStruct, WeighedAs}
 
 -- The figures in a struct.
 abbrev pub structFigures : WeighAnswer → Figures

@@ -21,9 +21,9 @@ use Rattle.set_sums.proofs.SizeLaws.{size-fits}
 use Rattle.cycle_sets.proofs.AnswerLaws.{negative-bounded}
 use Rattle.writing.specs.Answers as WritingAnswers
 use Rattle.writing.specs.Writing.{SaysShortest, WritesShortest}
-use Rattle.cabinet.specs.declared.ListAnswer.{ListAnswer}
-use Rattle.cabinet.specs.declared.WriteAnswer.{WriteAnswer}
-use Rattle.cabinet.specs.Structs.{listStruct, confirmStruct, writeStruct, Lists, Writes}
+use Rattle.answer_structs.specs.declared.ListAnswer.{ListAnswer}
+use Rattle.answer_structs.specs.declared.WriteAnswer.{WriteAnswer}
+use Rattle.answer_structs.specs.Structs.{listStruct, confirmStruct, writeStruct, Lists, Writes}
 
 -- Confirming.
 pub confirm-told : {r known : Confirmation} {a : ConfirmingAnswers.Answer} → ConfirmingAnswers.answerOf r ≡ a → r ≡ known

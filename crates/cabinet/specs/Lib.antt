@@ -1,3 +1,2 @@
--- The answers of the C interface, and its version.
-pub mod Structs
+-- The version of the C interface.
 pub mod Versions

@@ -20,3 +20,4 @@ pub mod Ceiling
 pub mod CycleSetLaws
 pub mod Exclusion
 pub mod PassingExamples
+pub mod TakeAndSend

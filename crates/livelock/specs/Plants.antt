@@ -6,7 +6,8 @@ use Prim.Native.Nat.{ℕ, _<_}
 use lib.ListN.{length, getD}
 use Rattle.livelock.specs.Lists.{All}
 
--- "Row: one step of one machine; it sends one message, takes one, or does neither." The fields are those of the map byte.
+-- "Row: one step of one machine; it sends one message, takes one, or does neither", or both ("takes an order and sends its receipt in one step":
+-- document 02, L5). The fields are those of the map byte.
 pub record Row : Type 0 where
   pub machine : ℕ
   pub left : ℕ

@@ -43,7 +43,8 @@ typePresent P c t =
     && present (c .content) (some t)
 
 -- "A row can happen when its machine is in the state left and, if it takes a type, at least one message of that type is present
--- anywhere"; a loss, when its type "is present"; and neither, when the plant lacks the row or type.
+-- anywhere", also if it sends one ("Such a row can happen when the type taken is present": document 02, L5); a loss, when its type "is
+-- present"; and neither, when the plant lacks the row or type.
 unfoldable pub canHappen : Plant → Configuration → Event → Bool
 canHappen P c (row k) =
     ltb k (rowCount P)
@@ -51,7 +52,8 @@ canHappen P c (row k) =
     && present (c .content) (rowAt P k .taken))
 canHappen P c (loss t) = typePresent P c t
 
--- "The row moves its machine and adds or removes its one message." "A loss removes one message of a type that is present."
+-- "The row moves its machine and adds or removes its one message"; of two, "it takes first, then sends" (document 02, L5). "A loss removes
+-- one message of a type that is present."
 unfoldable pub changed : Plant → Configuration → Event → Configuration
 changed P c (row k) =
     record {

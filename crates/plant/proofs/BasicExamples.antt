@@ -3,11 +3,12 @@ use mathlib.Core.Path.{_≡_, refl}
 use mathlib.Core.Bool.{true, false}
 use mathlib.Core.Option.{none, some}
 use mathlib.Core.List.{List, [], _∷_}
-use Prim.Native.Nat.{ℕ}
-use lib.ListN.{replicate}
+use Prim.Native.Nat.{ℕ, _+_}
+use lib.ListN.{length, replicate}
 use Rattle.livelock.specs.Plants.{Plant, rowWith}
 use Rattle.livelock.proofs.BasicExamples.{panelAndProbe, plantA, plantB}
 use Rattle.plant.specs.Found.{found, fault}
+use Rattle.plant.specs.Limits.{mostRowBytes}
 use Rattle.plant.specs.Reading.{byteAt, byteThat, byteIn, mapByte, stateField, typeField, readRow, readRows, rowsByte, readMachine, readMachines, readPlant}
 
 -- ---- plants A and B of document 01
@@ -84,15 +85,10 @@ many-states : readPlant (0x01 ∷ 0x00 ∷ 0x41 ∷ 0x00 ∷ []) ≡ fault 3 2
 unfolding byteAt byteThat byteIn mapByte stateField typeField readRow readRows rowsByte readMachine readMachines readPlant
 many-states = refl
 
--- Number 4: bit 5, and bits 2 and 3 together; before the fields, which are faulty too.
+-- Number 4: bit 5, before the fields, which are faulty too.
 high-bit : readPlant (0x01 ∷ 0x00 ∷ 0x01 ∷ 0x01 ∷ 0x21 ∷ 0x09 ∷ []) ≡ fault 4 4
 unfolding byteAt byteThat byteIn mapByte stateField typeField readRow readRows rowsByte readMachine readMachines readPlant
 high-bit = refl
-
--- Bits 2 and 3.
-sends-and-takes : readPlant (0x01 ∷ 0x01 ∷ 0x01 ∷ 0x01 ∷ 0x0D ∷ 0x09 ∷ 0x00 ∷ 0x00 ∷ []) ≡ fault 4 4
-unfolding byteAt byteThat byteIn mapByte stateField typeField readRow readRows rowsByte readMachine readMachines readPlant
-sends-and-takes = refl
 
 -- Number 5: state 2 of 2, before the missing byte behind it.
 bad-state : readPlant (0x01 ∷ 0x01 ∷ 0x02 ∷ 0x01 ∷ 0x07 ∷ 0x02 ∷ []) ≡ fault 5 5
@@ -188,6 +184,48 @@ one-field-differs : readPlant (0x01 ∷ 0x02 ∷ 0x02 ∷ 0x07 ∷ 0x06 ∷ 0x01
     24
 unfolding byteAt byteThat byteIn mapByte stateField typeField readRow readRows rowsByte readMachine readMachines readPlant
 one-field-differs = refl
+
+-- ---- rows that take and send (document 02, L5)
+
+-- Bits 2 and 3 together: the type sent stands first. All fields: five bytes.
+takes-and-sends : (readPlant (0x01 ∷ 0x02 ∷ 0x01 ∷ 0x01 ∷ 0x0C ∷ 0x01 ∷ 0x00 ∷ []) ≡ found (record { types = 2; states = 1 ∷ []; rows = rowWith 0 0 0 (some 1) (some 0) false ∷ [] }) 7)
+    × (readPlant (0x01 ∷ 0x03 ∷ 0x02 ∷ 0x01 ∷ 0x1F ∷ 0x01 ∷ 0x00 ∷ 0x02 ∷ 0x01 ∷ []) ≡ found (record { types = 3; states = 2 ∷ []; rows = rowWith 0 1 0 (some 2) (some 1) true ∷ [] }) 9)
+unfolding byteAt byteThat byteIn mapByte stateField typeField readRow readRows rowsByte readMachine readMachines readPlant
+takes-and-sends = (refl, refl)
+
+-- No row has more bytes: these are two counts, two bytes of the machine and the row.
+row-of-most-bytes : length {A = ℕ} (0x01 ∷ 0x03 ∷ 0x02 ∷ 0x01 ∷ 0x1F ∷ 0x01 ∷ 0x00 ∷ 0x02 ∷ 0x01 ∷ []) ≡ 2 + 2 + mostRowBytes
+row-of-most-bytes = refl
+
+-- The type sent is judged first, before the type taken is missed; then the type taken is missed, and judged.
+sent-first : (readPlant (0x01 ∷ 0x01 ∷ 0x01 ∷ 0x01 ∷ 0x0C ∷ 0x01 ∷ 0x01 ∷ []) ≡ fault 6 5) × (readPlant (0x01 ∷ 0x01 ∷ 0x01 ∷ 0x01 ∷ 0x0C ∷ 0x01 ∷ []) ≡ fault 6 5)
+    × (readPlant (0x01 ∷ 0x01 ∷ 0x01 ∷ 0x01 ∷ 0x0C ∷ 0x00 ∷ []) ≡ fault 1 6) × (readPlant (0x01 ∷ 0x01 ∷ 0x01 ∷ 0x01 ∷ 0x0C ∷ 0x00 ∷ 0x01 ∷ []) ≡ fault 6 6)
+unfolding byteAt byteThat byteIn mapByte stateField typeField readRow readRows rowsByte readMachine readMachines readPlant
+sent-first = (refl, refl, refl, refl)
+
+-- Both types count for a twin: the types the other way round, one of them alone, and one type twice or none are other rows.
+both-types-differ : readPlant (0x01 ∷ 0x02 ∷ 0x01 ∷ 0x06 ∷ 0x0C ∷ 0x00 ∷ 0x01 ∷ 0x0C ∷ 0x01 ∷ 0x00 ∷ 0x04 ∷ 0x00 ∷ 0x08 ∷ 0x01 ∷ 0x0C ∷ 0x00 ∷ 0x00 ∷ 0x00 ∷ [])
+    ≡ found
+    (record {
+      types = 2;
+      states = 1 ∷ [];
+      rows =
+          rowWith 0 0 0 (some 0) (some 1) false
+          ∷ rowWith 0 0 0 (some 1) (some 0) false
+          ∷ rowWith 0 0 0 (some 0) none false
+          ∷ rowWith 0 0 0 none (some 1) false
+          ∷ rowWith 0 0 0 (some 0) (some 0) false
+          ∷ rowWith 0 0 0 none none false
+          ∷ [];
+    })
+    18
+unfolding byteAt byteThat byteIn mapByte stateField typeField readRow readRows rowsByte readMachine readMachines readPlant
+both-types-differ = refl
+
+-- The same two types are a twin.
+both-types-same : readPlant (0x01 ∷ 0x02 ∷ 0x01 ∷ 0x02 ∷ 0x0C ∷ 0x00 ∷ 0x01 ∷ 0x0C ∷ 0x00 ∷ 0x01 ∷ []) ≡ fault 26 7
+unfolding byteAt byteThat byteIn mapByte stateField typeField readRow readRows rowsByte readMachine readMachines readPlant
+both-types-same = refl
 
 -- ---- limits and implied states
 

@@ -1,21 +1,20 @@
 -- What holds of every byte, field and row that is read, and of every fault: one law for each definition of `Reading`.
 use mathlib.Core.Path.{_≡_, refl, subst}
-use mathlib.Core.Logic.{_⊎_, inl, inr}
-use mathlib.Core.Bool.{Bool, true, false, _&&_, cond, true≢false}
+use mathlib.Core.Bool.{Bool, true, false, cond}
 use mathlib.Core.Option.{none, some}
 use mathlib.Core.List.{List}
 use Prim.Native.Nat.{ℕ, zero, suc, _+_, _≤_, _<_}
 use native.Mathlib.Omega.{arith}
 use lib.ListN.{length}
 use lib.Dec.{ltb}
-use borrow.Author.Tests.{ltb-true, not-true}
+use borrow.Author.Tests.{ltb-true}
 use Rattle.livelock.specs.Plants.{Row, Plant, TypeIn}
-use Rattle.livelock.proofs.Tests.{and-iff, both-iff, less-iff, at-most-iff}
+use Rattle.livelock.proofs.Tests.{both-iff, less-iff, at-most-iff}
 use Rattle.plant.specs.Found.{Found, found, fault, andThen}
 use Rattle.plant.specs.Reading.{byteAt, byteThat, inRange, byteIn, hasBit, isMap, mapByte, stateField, typeField, readRow}
 use Rattle.plant.specs.Reading.{withRow, readRows, rowsByte}
 use Rattle.plant.specs.Twins.{hasTwin, unlessTwin}
-use Rattle.plant.specs.Limits.{mostRowBytes, OneMessage, Placed, at-the-end, within, at-twin}
+use Rattle.plant.specs.Limits.{mostRowBytes, Placed, at-the-end, within, at-twin}
 
 -- P of a value and the offset after it, and of a fault that it is placed in a file of n bytes.
 pub data Each {A : Type 0} (P : A → ℕ → Type 0) (n : ℕ) : Found A → Type 0 where
@@ -78,10 +77,10 @@ module _ (s : List ℕ) (at : ℕ) where
       (λ b next h. (record { inside = omega (arith, h .0, h .1); near = omega (arith, h .1) }, both-iff _ _ (at-most-iff low b) (less-iff b end) .0 (h .2)))
       (byteThat-each (inRange low end) number l u)
 
-  -- A map byte lies in the file, takes at most one byte of it and has only bits that may stand.
-  pub mapByte-each : Each (λ map next. Next (length s) (at + 1) next × (isMap map ≡ true) × (at < length s)) (length s) (mapByte s at)
+  -- A map byte lies in the file and takes at most one byte of it.
+  pub mapByte-each : Each (λ map next. Next (length s) (at + 1) next × (at < length s)) (length s) (mapByte s at)
   unfolding mapByte
-  mapByte-each = each-weaken (λ b next h. (record { inside = omega (arith, h .0, h .1); near = omega (arith, h .1) }, h .2, h .0)) (byteThat-each isMap 4 (omega arith) (omega arith))
+  mapByte-each = each-weaken (λ b next h. (record { inside = omega (arith, h .0, h .1); near = omega (arith, h .1) }, h .0)) (byteThat-each isMap 4 (omega arith) (omega arith))
 
   -- A count of rows takes at most one byte of the file and is at most 255, and at most 1,024 with the rows before it.
   pub rowsByte-each : (used : ℕ) → Each (λ n next. Next (length s) (at + 1) next × ((n ≤ 255) × (used + n ≤ 1024))) (length s) (rowsByte used s at)
@@ -100,12 +99,12 @@ module _ (s : List ℕ) (at : ℕ) where
   stateField-each true absent states a l = each-weaken (λ b next h. (h .0, h .1 .1)) (byteIn-each 0 states 5 (omega arith) (omega arith))
   stateField-each false absent states a l = got (record { inside = l; near = omega arith }, a)
 
-  -- A type field takes at most one byte; it is a type of the plant or none. Without its bit it takes no byte and is none.
+  -- A type field takes at most one byte, and none without its bit; it is a type of the plant or none.
   pub typeField-each : (stands : Bool) (types : ℕ) → at ≤ length s
-      → Each (λ o next. Next (length s) (at + cond stands 1 0) next × TypeIn types o × (stands ≡ false → o ≡ none)) (length s) (typeField stands types s at)
+      → Each (λ o next. Next (length s) (at + cond stands 1 0) next × TypeIn types o) (length s) (typeField stands types s at)
   unfolding typeField
-  typeField-each true types l = each-then (byteIn-each 0 types 6 (omega arith) (omega arith)) (λ b next h. got {a = some b} (h .0, h .1 .1, λ e. absurd (true≢false e)))
-  typeField-each false types l = got {a = none} (record { inside = l; near = omega arith }, tt, λ e. refl)
+  typeField-each true types l = each-then (byteIn-each 0 types 6 (omega arith) (omega arith)) (λ b next h. got {a = some b} (h .0, h .1 .1))
+  typeField-each false types l = got {a = none} (record { inside = l; near = omega arith }, tt)
 
 -- ---- rows
 
@@ -116,32 +115,13 @@ pub record RowIn (m states types : ℕ) (r : Row) : Type 0 where
   pub entered : r .entered < states
   pub sent : TypeIn types (r .sent)
   pub taken : TypeIn types (r .taken)
-  pub one-message : OneMessage r
-
--- A row has at most four bytes: bits 2 and 3 never stand together.
-pub one-type : (map : ℕ) → isMap map ≡ true → cond (hasBit map 4) 1 0 + cond (hasBit map 8) 1 0 ≤ 1
-one-type map h = go (hasBit map 4) (hasBit map 8) (not-true _ (and-iff (ltb map 32) _ .0 h .1))
-  where
-    go : (a b : Bool) → (a && b) ≡ false → cond a 1 0 + cond b 1 0 ≤ 1
-    go true true e = absurd (true≢false e)
-    go true false e = omega arith
-    go false true e = omega arith
-    go false false e = omega arith
-
--- So where neither type stands without its bit, one of the two is none.
-one-stands : (map : ℕ) {A B : Type 0} → isMap map ≡ true → (hasBit map 4 ≡ false → A) → (hasBit map 8 ≡ false → B) → A ⊎ B
-one-stands map {A} {B} h f g = go (hasBit map 4) (hasBit map 8) (not-true _ (and-iff (ltb map 32) _ .0 h .1)) f g
-  where
-    go : (a b : Bool) → (a && b) ≡ false → (a ≡ false → A) → (b ≡ false → B) → A ⊎ B
-    go false b e f g = inl (f refl)
-    go true b e f g = inr (g e)
 
 -- A bit adds at most one.
 pub one-bit : (b : Bool) → cond b 1 0 ≤ 1
 one-bit true = omega arith
 one-bit false = omega arith
 
--- A row begins in the file, takes at most four bytes of it and is a row of the machine, with types of the plant.
+-- A row begins in the file, takes at most five bytes of it and is a row of the machine, with types of the plant.
 pub readRow-each : (s : List ℕ) (m states types implied at : ℕ) → implied < states → at ≤ length s
     → Each (λ r next. Next (length s) (at + mostRowBytes) next × RowIn m states types r × (at < length s)) (length s) (readRow m states types implied s at)
 unfolding readRow
@@ -154,10 +134,11 @@ readRow-each s m states types implied at hi l =
     got (
       record {
         inside = he .0 .inside;
-        near = omega (arith, ha .0 .near, hb .0 .near, hc .0 .near, hd .0 .near, he .0 .near, one-bit (hasBit map 1), one-bit (hasBit map 2), one-type map (ha .1));
+        near =
+            omega (arith, ha .0 .near, hb .0 .near, hc .0 .near, hd .0 .near, he .0 .near, one-bit (hasBit map 1), one-bit (hasBit map 2), one-bit (hasBit map 4), one-bit (hasBit map 8));
       },
-      record { machine = refl; left = hb .1; entered = hc .1; sent = hd .1; taken = he .1; one-message = one-stands map (ha .1) (hd .2) (he .2) },
-      ha .2,
+      record { machine = refl; left = hb .1; entered = hc .1; sent = hd .1; taken = he .1 },
+      ha .1,
     )
 
 -- What holds of every row that can be found, and that it is no twin; a twin is refused where it begins, which has to be in the file.

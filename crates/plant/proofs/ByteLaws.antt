@@ -3,8 +3,9 @@ use mathlib.Core.Path.{_≡_}
 use mathlib.Core.Bool.{Bool, true, false}
 use mathlib.Core.List.{List}
 use Prim.Native.Nat.{ℕ}
+use lib.Dec.{ltb, leb·zero}
 use Rattle.plant.specs.Found.{found, fault}
-use Rattle.plant.specs.Reading.{byteAt, byteThat}
+use Rattle.plant.specs.Reading.{byteAt, byteThat, inRange, byteIn}
 
 module _ (passes : ℕ → Bool) (number : ℕ) (s : List ℕ) (at : ℕ) where
   -- Where the byte is missing, the fault is handed on;
@@ -21,3 +22,11 @@ module _ (passes : ℕ → Bool) (number : ℕ) (s : List ℕ) (at : ℕ) where
     pub byte-fails : passes b ≡ false → fault number at ≡ byteThat passes number s at
     unfolding byteThat
     byte-fails t = rw (e, t)
+
+-- A byte of a range that begins at 0 is one below its end.
+pub byte-below : (end number : ℕ) (s : List ℕ) (at : ℕ) → byteIn 0 end number s at ≡ byteThat (λ b. ltb b end) number s at
+unfolding byteIn
+byte-below end number s at = λ i. byteThat (λ b. below b i) number s at
+  where
+    below : (b : ℕ) → inRange 0 end b ≡ ltb b end
+    below b = rw (leb·zero b)

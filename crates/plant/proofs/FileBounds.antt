@@ -15,13 +15,13 @@ use Rattle.livelock.proofs.SumLaws.{sum-append, sum-equal, sum-zero}
 use Rattle.plant.specs.Found.{Found, found, fault, movedBy}
 use Rattle.plant.specs.Reading.{withRow, withMachine, readMachine, readMachines, noMachines, readPlant}
 use Rattle.plant.specs.Twins.{hasTwin}
-use Rattle.plant.specs.Limits.{mostRowBytes, longestFile, Ascending, rowsOf, Numbered, OneMessage, WithinLimits, Placed, at-the-end, within, at-twin}
+use Rattle.plant.specs.Limits.{mostRowBytes, longestFile, Ascending, rowsOf, Numbered, WithinLimits, Placed, at-the-end, within, at-twin}
 use Rattle.plant.proofs.TwinLaws.{distinct-snoc}
 use Rattle.plant.proofs.Bounds.{Each, got, stopped, each-found, each-fault, each-then, each-cond, byteIn-each, rowsByte-each, one-bit, RowIn, readRows-each}
 
 -- ---- the plant while it is read
 
--- What holds of the plant so far when the next byte is at an offset: each machine has two bytes and each row at most four.
+-- What holds of the plant so far when the next byte is at an offset: each machine has two bytes and each row at most five.
 pub record Formed (at : ℕ) (p : Plant) : Type 0 where
   pub few-types : p .types ≤ 64
   pub states : All (λ n. (1 ≤ n) × (n ≤ 64)) (p .states)
@@ -29,7 +29,6 @@ pub record Formed (at : ℕ) (p : Plant) : Type 0 where
   pub rows-each : (m : ℕ) → rowsOf p m ≤ 255
   pub formed : WellFormed p
   pub ascending : Ascending (p .rows)
-  pub one-message : All OneMessage (p .rows)
   pub no-twins : Distinct (p .rows)
   pub bytes : at ≤ 2 + 2 * machineCount p + mostRowBytes * rowCount p
 
@@ -64,7 +63,6 @@ with-row m states k at next p r g l i fresh =
             rows-each = each;
             formed = all-append _ (p .rows) (r ∷ []) (g .so-far .formed) (fits, tt);
             ascending = ascending-snoc (p .rows) r (g .so-far .ascending) (all-weaken (RowFits (p .types) (p .states)) _ (λ q f. omega (arith, f .machine, i .machine, g .last)) (p .rows) (g .so-far .formed));
-            one-message = all-append _ (p .rows) (r ∷ []) (g .so-far .one-message) (i .one-message, tt);
             no-twins = distinct-snoc (p .rows) r (g .so-far .no-twins) fresh;
             bytes = omega (arith, more, g .so-far .bytes);
           };
@@ -126,7 +124,6 @@ with-machine states n at next p f l hs hn =
             rows-each = f .rows-each;
             formed = all-weaken (RowFits (p .types) (p .states)) _ (row-kept (p .types) (p .states) states) (p .rows) (f .formed);
             ascending = f .ascending;
-            one-message = f .one-message;
             no-twins = f .no-twins;
             bytes = omega (arith, more, f .bytes);
           };
@@ -195,7 +192,6 @@ formed-limits machines p at least most m =
       rows-each = m .so-far .rows-each;
       rows-in-all = m .so-far .rows-in-all;
       ascending = m .so-far .ascending;
-      one-message = m .so-far .one-message;
       no-twins = m .so-far .no-twins;
     }
 
@@ -238,7 +234,7 @@ module _ (s : List ℕ) where
   unfolding All Ascending Distinct sum
   no-machines at types l h =
       record {
-        so-far = record { few-types = h; states = tt; rows-in-all = zero-le; rows-each = λ m. zero-le; formed = tt; ascending = tt; one-message = tt; no-twins = tt; bytes = omega arith };
+        so-far = record { few-types = h; states = tt; rows-in-all = zero-le; rows-each = λ m. zero-le; formed = tt; ascending = tt; no-twins = tt; bytes = omega arith };
         number = refl;
       }
 
@@ -257,7 +253,7 @@ module _ (s : List ℕ) where
   pub within-limits : (p : Plant) (end : ℕ) → readPlant s ≡ found p end → WithinLimits p
   within-limits p end e = each-found p end readPlant-each e .0
 
-  -- A plant file has two bytes, two for each machine and at most four for each row,
+  -- A plant file has two bytes, two for each machine and at most five for each row,
   pub length-of-file : (p : Plant) (end : ℕ) → readPlant s ≡ found p end → length s ≤ 2 + 2 * machineCount p + mostRowBytes * rowCount p
   length-of-file p end e = let h = each-found p end readPlant-each e in omega (arith, h .1, h .2)
 

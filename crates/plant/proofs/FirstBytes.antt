@@ -14,7 +14,7 @@ use Rattle.plant.specs.Reading.{byteAt, byteThat, byteIn, hasBit, mapByt
 use Rattle.plant.specs.Reading.{noMachines, withRow, withMachine, readRows, rowsByte, readMachine, readMachines, readPlant}
 use Rattle.plant.specs.Limits.{mostRowBytes, longestFile}
 use Rattle.plant.proofs.Bounds.{Each, got, stopped, byteIn-each, mapByte-each, rowsByte-each, stateField-each, typeField-each}
-use Rattle.plant.proofs.Bounds.{one-type, one-bit, readRow-each, each-unless}
+use Rattle.plant.proofs.Bounds.{one-bit, readRow-each, each-unless}
 use Rattle.plant.proofs.FileBounds.{Formed, Machines, readMachine-each, readMachines-each, no-machines}
 
 -- What follows may be compared at the values that can be read.
@@ -79,7 +79,7 @@ module _ (s s′ : List ℕ) (N : ℕ) (g : Agree s s′ N) where
       omega (arith, ha .0 .near, hb .0 .near, hc .0 .near, one-bit (hasBit map 1), one-bit (hasBit map 2), one-bit (hasBit map 4)) in
       rw (← typeField-same (hasBit map 4) types c l3) (same-then (typeField-each s c (hasBit map 4) types (hc .0 .inside)) λ sent d hd.
       let l4 : d + cond (hasBit map 8) 1 0 ≤ N =
-      omega (arith, ha .0 .near, hb .0 .near, hc .0 .near, hd .0 .near, one-bit (hasBit map 1), one-bit (hasBit map 2), one-type map (ha .1)) in
+      omega (arith, ha .0 .near, hb .0 .near, hc .0 .near, hd .0 .near, one-bit (hasBit map 1), one-bit (hasBit map 2), one-bit (hasBit map 4), one-bit (hasBit map 8)) in
       rw (typeField-same (hasBit map 8) types d l4) refl))))
 
   readRows-same : (m states n implied at : ℕ) (p : Plant) → implied < states → at + mostRowBytes * n ≤ N → readRows n m states implied s at p ≡ readRows n m states implied s′ at p

@@ -1,18 +1,15 @@
 -- What holds of every plant that a file reads as (document 01, "The plant file").
-use mathlib.Core.Path.{_≡_}
-use mathlib.Core.Logic.{_⊎_}
 use mathlib.Core.Bool.{cond}
-use mathlib.Core.Option.{none}
 use mathlib.Core.List.{List, [], _∷_}
 use Prim.Native.Nat.{ℕ, _+_, _*_, _≤_, _<_}
 use lib.Dec.{eqb}
 use Rattle.livelock.specs.Lists.{All, Distinct, count}
 use Rattle.livelock.specs.Plants.{Row, Plant, rowCount, machineCount, WellFormed}
 
--- "A row is a map byte, then one byte for each field whose bit stands": the most bytes of a row. The type sent and the type taken never
--- stand together.
+-- "A row is a map byte, then one byte for each field whose bit stands": the most bytes of a row, with two states and two types ("Bits 2 and
+-- 3 may stand together": document 02, L5).
 abbrev pub mostRowBytes : ℕ
-mostRowBytes = 4
+mostRowBytes = 5
 
 -- Two counts, two bytes for each of 16 machines, and 1,024 rows: the most bytes of a file that reads.
 abbrev pub longestFile : ℕ
@@ -36,10 +33,6 @@ rowsOf p m = count (λ r. eqb (r .machine) m) (p .rows)
 abbrev pub Numbered : Plant → Type 0
 Numbered p = All (λ r. r .machine < machineCount p) (p .rows)
 
--- "it sends one message, takes one, or does neither": not both.
-abbrev pub OneMessage : Row → Type 0
-OneMessage r = (r .sent ≡ none) ⊎ (r .taken ≡ none)
-
 -- A well-formed plant that keeps to the limits of the plant file.
 pub record WithinLimits (p : Plant) : Type 0 where
   pub formed : WellFormed p
@@ -55,8 +48,6 @@ pub record WithinLimits (p : Plant) : Type 0 where
   -- "All machines together have at most 1,024 rows."
   pub rows-in-all : rowCount p ≤ 1024
   pub ascending : Ascending (p .rows)
-  -- "bits 2 and 3 never stand together"
-  pub one-message : All OneMessage (p .rows)
   -- "A row equal to an earlier row of its machine … is no longer accepted" (document 02, L4): no two rows are equal.
   pub no-twins : Distinct (p .rows)
 

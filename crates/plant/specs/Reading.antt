@@ -1,5 +1,5 @@
 -- The plant file, sentence by sentence (document 01, "The plant file", and numbers 1 to 8 of "Where each fault is found").
-use mathlib.Core.Bool.{Bool, _&&_, not, cond}
+use mathlib.Core.Bool.{Bool, _&&_, cond}
 use mathlib.Core.Option.{Option, none, some}
 use mathlib.Core.List.{List, [], _∷_, _++_}
 use Prim.Native.Nat.{ℕ, zero, suc, _+_, _/_, _%_}
@@ -37,11 +37,11 @@ countByte low high number s at = byteIn low (high + 1) number s at
 abbrev pub hasBit : ℕ → ℕ → Bool
 hasBit map value = eqb (map / value % 2) 1
 
--- "Bits 5 to 7 are clear, and bits 2 and 3 never stand together."
+-- "Bits 5 to 7 are clear"; "Bits 2 and 3 may stand together" (document 02, L5).
 abbrev pub isMap : ℕ → Bool
-isMap b = ltb b 32 && not (hasBit b 4 && hasBit b 8)
+isMap b = ltb b 32
 
--- "A row is a map byte, …": number 4, "bits 5 to 7, or bits 2 and 3 together".
+-- "A row is a map byte, …": "Number 4 remains for bits 5 to 7" (document 02, L5).
 unfoldable pub mapByte : List ℕ → ℕ → Found ℕ
 mapByte s at = byteThat isMap 4 s at
 
@@ -59,7 +59,7 @@ unfoldable pub typeField : Bool → ℕ → List ℕ → ℕ → Found (Option �
 typeField stands types s at = cond stands (andThen (byteIn 0 types 6 s at) (λ b next. found (some b) next)) (found none at)
 
 -- "A row is a map byte, then one byte for each field whose bit stands, lowest bit first": state left, state entered ("Without it:
--- the state left"), type sent, type taken; and "progress; it has no field".
+-- the state left"), type sent, type taken, also where both stand ("the fields come in bit order": document 02, L5); and "progress; it has no field".
 unfoldable pub readRow : ℕ → ℕ → ℕ → ℕ → List ℕ → ℕ → Found Row
 readRow m states types implied s at =
     andThen (mapByte s at) (λ map a.

@@ -3,9 +3,10 @@ use mathlib.Core.Path.{_≡_, refl}
 use mathlib.Core.Bool.{true, false}
 use mathlib.Core.Option.{none, some}
 use mathlib.Core.List.{[], _∷_}
+use lib.ListN.{length}
 use Rattle.livelock.specs.Plants.{Plant, rowWith}
 use Rattle.livelock.proofs.BasicExamples.{panelAndProbe, plantA, plantB}
-use Rattle.plant.specs.Limits.{rowsIn}
+use Rattle.plant.specs.Limits.{mostRowBytes, rowsIn}
 use Rattle.plant.proofs.BasicExamples.{panelAndProbeFile}
 use Rattle.plant_files.specs.Files.{rowBytes, rowsBytes, machinesAs, fileOf}
 
@@ -46,3 +47,9 @@ file-of-implied : fileOf implied
     ∷ []
 unfolding implied rowBytes rowsBytes rowsIn machinesAs
 file-of-implied = refl
+
+-- Rows that take and send: the type sent stands first; no row has more bytes than one with all fields.
+both-types : (rowBytes 1 (rowWith 0 1 1 (some 7) (some 3) false) ≡ 0x0C ∷ 0x07 ∷ 0x03 ∷ []) × (rowBytes 1 (rowWith 0 1 1 (some 3) (some 3) true) ≡ 0x1C ∷ 0x03 ∷ 0x03 ∷ [])
+    × (length (rowBytes 1 (rowWith 0 0 1 (some 7) (some 3) false)) ≡ mostRowBytes)
+unfolding rowBytes
+both-types = (refl, refl, refl)

@@ -121,6 +121,6 @@ pub only-shortest : (p : Plant) (file : List ℕ) → Shortest p file → file �
 only-shortest p file h =
     file-same file p (length file) (h .reads) (h .least (fileOf p) (length (fileOf p)) (file-reads p (within-limits file p (length file) (h .reads))))
 
--- and it has at most 4,130 bytes: a buffer of that length is never too short.
+-- and it has at most 5,154 bytes: a buffer of that length is never too short.
 pub file-longest : (p : Plant) → WithinLimits p → length (fileOf p) ≤ longestFile
 file-longest p w = longest-file (fileOf p) p (length (fileOf p)) (file-reads p w)

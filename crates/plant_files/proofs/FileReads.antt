@@ -1,5 +1,6 @@
 -- "What the writer wrote reads as the list's rows": the shortest file of a plant within the limits reads as that plant.
 use mathlib.Core.Path.{_≡_, refl, ap}
+use mathlib.Core.Logic.{_↔_}
 use mathlib.Core.Bool.{_&&_}
 use mathlib.Core.List.{List, [], _∷_, _++_}
 use Prim.Native.Nat.{ℕ, _+_, _≤_, zero-le}
@@ -13,6 +14,7 @@ use Rattle.plant.specs.Found.{found}
 use Rattle.plant.specs.Limits.{WithinLimits}
 use Rattle.plant.specs.Reading.{withMachine, readRow, readRows, rowsByte, readMachine, readMachines, readPlant}
 use Rattle.plant.proofs.Bounds.{RowIn}
+use Rattle.plant.proofs.FileBounds.{within-limits}
 use Rattle.plant_files.specs.Files.{rowBytes, rowsBytes, fileOf}
 use Rattle.plant_files.specs.Inner.Parts.{withRows}
 use Rattle.plant_files.proofs.Remainders.{Leaves, leaves, leaves-then, leaves-moved, leaves-nothing, byteThat-leaves, byteIn-leaves}
@@ -67,3 +69,7 @@ module _ (p : Plant) (w : WithinLimits p) where
   -- The shortest file of a plant reads as the plant, to its last byte.
   pub file-reads : readPlant (fileOf p) ≡ found p (length (fileOf p))
   file-reads = leaves-nothing (fileOf p) p (readPlant (fileOf p)) (file-leaves (fileOf p) refl)
+
+-- So a plant is within the limits exactly if some file reads as it.
+pub readable-iff : (p : Plant) → WithinLimits p ↔ ((file : List ℕ) × ((end : ℕ) × (readPlant file ≡ found p end)))
+readable-iff p = (λ w. (fileOf p, (length (fileOf p), file-reads p w)), λ x. within-limits (x .0) p (x .1 .0) (x .1 .1))

@@ -15,7 +15,7 @@ use borrow.Author.Tests.{lt-ltb, le-ltb, eqb-true, eq-eqb, ne-eqb}
 use Rattle.livelock.specs.Lists.{All, Distinct}
 use Rattle.livelock.specs.Plants.{Row, Plant, machineCount, stateCount, RowFits}
 use Rattle.livelock.proofs.ListLaws.{all-append, all-weaken, all-always}
-use Rattle.plant.specs.Limits.{Ascending, OneMessage, rowsIn, WithinLimits}
+use Rattle.plant.specs.Limits.{Ascending, rowsIn, WithinLimits}
 use Rattle.plant.specs.Reading.{withMachine, noMachines}
 use Rattle.plant.proofs.Bounds.{RowIn}
 use Rattle.plant.proofs.MachineRows.{rowsIn-append, rowsIn-own, rowsIn-other}
@@ -88,7 +88,7 @@ below-next k (r ∷ rs) h = go (decLt (r .machine) k) (ℕ-discrete (r .machine)
     go (no l) (no n) ih = rw (le-ltb (r .machine) (k + 1) (omega arith), le-ltb (r .machine) k (omega arith), ne-eqb (r .machine) k n) ih
 
 -- The rows of a machine lie in it.
-pub rows-in : (types : ℕ) (states : List ℕ) (k : ℕ) (rs : List Row) → All (λ r. RowFits types states r × OneMessage r) rs → All (RowIn k (getD states k 0) types) (rowsIn k rs)
+pub rows-in : (types : ℕ) (states : List ℕ) (k : ℕ) (rs : List Row) → All (RowFits types states) rs → All (RowIn k (getD states k 0) types) (rowsIn k rs)
 unfolding rowsIn All
 rows-in types states k [] h = tt
 rows-in types states k (r ∷ rs) h = go (eqb (r .machine) k) refl (rows-in types states k rs (h .1))
@@ -98,11 +98,10 @@ rows-in types states k (r ∷ rs) h = go (eqb (r .machine) k) refl (rows-in type
         let m : r .machine ≡ k = eqb-true (r .machine) k e in (
           record {
             machine = m;
-            left = subst (λ (x : ℕ). r .left < getD states x 0) m (h .0 .0 .left);
-            entered = subst (λ (x : ℕ). r .entered < getD states x 0) m (h .0 .0 .entered);
-            sent = h .0 .0 .sent;
-            taken = h .0 .0 .taken;
-            one-message = h .0 .1;
+            left = subst (λ (x : ℕ). r .left < getD states x 0) m (h .0 .left);
+            entered = subst (λ (x : ℕ). r .entered < getD states x 0) m (h .0 .entered);
+            sent = h .0 .sent;
+            taken = h .0 .taken;
           },
           ih,
         )

@@ -8,7 +8,7 @@ use lib.ListN.{length, drop, length-append}
 use lib.Seq.{append-snoc}
 use Rattle.livelock.specs.Lists.{All, Distinct}
 use Rattle.livelock.specs.Plants.{Row, Plant, rowCount, machineCount, stateCount}
-use Rattle.livelock.proofs.ListLaws.{all-at, all-both}
+use Rattle.livelock.proofs.ListLaws.{all-at}
 use Rattle.plant.specs.Found.{Found, found, andThen}
 use Rattle.plant.specs.Twins.{unlessTwin}
 use Rattle.plant.specs.Limits.{rowsIn, WithinLimits}
@@ -140,7 +140,7 @@ module _ (x : MachineReader) (p : Plant) (w : WithinLimits p)
       )
 
       own : All (RowIn (machineCount (upTo p k)) (stateCount p k) (p .types)) rs
-      own = rw (upTo-count p w k (omega (arith, c))) (rows-in (p .types) (p .states) k (p .rows) (all-both _ _ (p .rows) (w .formed) (w .one-message)))
+      own = rw (upTo-count p w k (omega (arith, c))) (rows-in (p .types) (p .states) k (p .rows) (w .formed))
 
       fresh : Distinct (rowsBelow k (p .rows) ++ rs)
       fresh = rw (← below-next k (p .rows) (w .ascending)) (distinct-below (k + 1) (p .rows) (w .no-twins))

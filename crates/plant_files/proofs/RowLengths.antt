@@ -14,7 +14,7 @@ use borrow.Author.Tests.{eq-eqb, ltb-true}
 use Rattle.livelock.specs.Lists.{below}
 use Rattle.livelock.specs.Plants.{Row, rowWith}
 use Rattle.livelock.specs.Tests.{every}
-use Rattle.livelock.proofs.Tests.{and-iff, equal-iff, every-below-iff}
+use Rattle.livelock.proofs.Tests.{equal-iff, every-below-iff}
 use Rattle.livelock.proofs.BitLaws.{bit-same}
 use Rattle.plant.specs.Found.{found, fault, andThen}
 use Rattle.plant.specs.Reading.{byteAt, byteThat, byteIn, hasBit, isMap, mapByte, stateField, typeField, readRow}
@@ -91,7 +91,7 @@ all-make = refl
 
 map-of-bits : (map : ℕ) → isMap map ≡ true → map ≡ mapWith (hasBit map 1) (hasBit map 2) (hasBit map 4) (hasBit map 8) (hasBit map 16)
 unfolding bitsMake
-map-of-bits map h = every-below-iff bitsMake _ (λ k. equal-iff k _) 32 .0 all-make map (ltb-true map 32 (and-iff (ltb map 32) _ .0 h .0))
+map-of-bits map h = every-below-iff bitsMake _ (λ k. equal-iff k _) 32 .0 all-make map (ltb-true map 32 h)
 
 -- ---- rows that were read
 

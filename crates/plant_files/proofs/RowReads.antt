@@ -1,6 +1,5 @@
 -- What was written of a row reads as that row, with every map byte that fits the row.
 use mathlib.Core.Path.{_≡_, refl, sym, _∙_, ap, subst}
-use mathlib.Core.Logic.{_⊎_, inl, inr}
 use mathlib.Core.Bool.{Bool, true, false, _&&_, not}
 use mathlib.Core.Option.{Option, none, some}
 use mathlib.Core.List.{List, _∷_, _++_, append-assoc}
@@ -13,7 +12,6 @@ use Rattle.livelock.specs.Plants.{Row, TypeIn, rowWith}
 use Rattle.livelock.proofs.Tests.{and-iff}
 use Rattle.plant.specs.Found.{found}
 use Rattle.plant.specs.Reading.{hasBit, isMap, mapByte, stateField, typeField, readRow}
-use Rattle.plant.specs.Limits.{OneMessage}
 use Rattle.plant.proofs.Bounds.{RowIn}
 use Rattle.plant_files.specs.Files.{byteIf, typeBytes, bytesWith, mapWith, differs, isSome, shortestMap, rowBytes}
 use Rattle.plant_files.proofs.Remainders.{Leaves, leaves, leaves-then, byteThat-leaves, byteIn-leaves}
@@ -38,19 +36,19 @@ unfolding same
 same-true true b h = sym h
 same-true false b h = sym (not-true b h)
 
--- The bits of a map byte are those that it was made of, and it is one that may stand unless the row sends and takes.
+-- The bits of a map byte are those that it was made of, and no higher bit stands.
 pub record Bits (map : ℕ) (a b c d e : Bool) : Type 0 where
   pub left : hasBit map 1 ≡ a
   pub entered : hasBit map 2 ≡ b
   pub sent : hasBit map 4 ≡ c
   pub taken : hasBit map 8 ≡ d
   pub progress : hasBit map 16 ≡ e
-  pub is-map : isMap map ≡ not (c && d)
+  pub is-map : isMap map ≡ true
 
 bitsAgree : (left entered sent taken progress : Bool) → Bool
 bitsAgree a b c d e =
     same (hasBit (mapWith a b c d e) 1) a && (same (hasBit (mapWith a b c d e) 2) b && (same (hasBit (mapWith a b c d e) 4) c
-    && (same (hasBit (mapWith a b c d e) 8) d && (same (hasBit (mapWith a b c d e) 16) e && same (isMap (mapWith a b c d e)) (not (c && d))))))
+    && (same (hasBit (mapWith a b c d e) 8) d && (same (hasBit (mapWith a b c d e) 16) e && isMap (mapWith a b c d e)))))
 
 -- All 32 map bytes, computed.
 all-agree : holdsOfBoth (λ a. holdsOfBoth (λ b. holdsOfBoth (λ c. holdsOfBoth (λ d. holdsOfBoth (λ e. bitsAgree a b c d e))))) ≡ true
@@ -75,7 +73,7 @@ bits a b c d e =
       sent = same-true _ _ (f3 .0);
       taken = same-true _ _ (f4 .0);
       progress = same-true _ _ (f5 .0);
-      is-map = same-true _ _ (f5 .1);
+      is-map = f5 .1;
     }
 
 -- The bits of the shortest map byte: a state's bit stands where the state differs from the one that stands for it.
@@ -93,23 +91,16 @@ pub record Fitting (map implied : ℕ) (r : Row) : Type 0 where
   pub taken : hasBit map 8 ≡ isSome (r .taken)
   pub progress : hasBit map 16 ≡ r .progress
 
--- A row that sends or takes, but not both, has not both bits.
-not-both : (a b : Option ℕ) → (a ≡ none) ⊎ (b ≡ none) → (isSome a && isSome b) ≡ false
-not-both none b h = refl
-not-both (some t) none h = refl
-not-both (some t) (some u) (inl e) = ap isSome e
-not-both (some t) (some u) (inr e) = ap isSome e
-
 -- A state that is not written is the one that stands for it.
 left-out : (state absent : ℕ) → differs state absent ≡ false → absent ≡ state
 left-out state absent h = sym (eqb-true state absent (not-false (eqb state absent) h))
 
 -- The shortest map byte fits.
-pub shortest-fits : (implied : ℕ) (r : Row) → OneMessage r → Fitting (shortestMap implied r) implied r
-shortest-fits implied r one =
+pub shortest-fits : (implied : ℕ) (r : Row) → Fitting (shortestMap implied r) implied r
+shortest-fits implied r =
     let b = shortest-bits implied r in
     record {
-      is-map = b .is-map ∙ ap not (not-both (r .sent) (r .taken) one);
+      is-map = b .is-map;
       left = λ h. left-out (r .left) implied (sym (b .left) ∙ h);
       entered = λ h. left-out (r .entered) (r .left) (sym (b .entered) ∙ h);
       sent = b .sent;
@@ -162,4 +153,4 @@ pub row-reads : (m states types implied : ℕ) (r : Row) → RowIn m states type
     → (s : List ℕ) (at : ℕ) (t : List ℕ) → drop at s ≡ rowBytes implied r ++ t → Leaves s r t (readRow m states types implied s at)
 unfolding rowBytes
 row-reads m states types implied r fits s at t e =
-    fitting-reads m states types implied (shortestMap implied r) r fits (shortest-fits implied r (fits .one-message)) s at t e
+    fitting-reads m states types implied (shortestMap implied r) r fits (shortest-fits implied r) s at t e

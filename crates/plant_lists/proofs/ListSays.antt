@@ -1,7 +1,6 @@
 -- The list of a plant within the limits says that plant.
 use mathlib.Core.Path.{_≡_, refl, ap, subst}
-use mathlib.Core.Logic.{_⊎_, inl, inr}
-use mathlib.Core.Bool.{Bool, true, false, _&&_, cond, true≢false}
+use mathlib.Core.Bool.{Bool, true, false, _&&_, cond}
 use mathlib.Core.Option.{Option, none, some}
 use mathlib.Core.List.{List, [], _∷_, _++_}
 use Prim.Native.Nat.{ℕ, _+_, _≤_, zero-le}
@@ -16,12 +15,11 @@ use Rattle.plant.specs.Found.{found}
 use Rattle.plant.specs.Limits.{WithinLimits}
 use Rattle.plant.specs.Reading.{inRange, withMachine}
 use Rattle.plant.proofs.Bounds.{RowIn}
-use Rattle.plant_files.specs.Files.{isSome}
 use Rattle.plant_files.specs.Inner.Parts.{withRows}
 use Rattle.plant_files.proofs.Remainders.{Leaves, leaves, leaves-then, leaves-nothing}
 use Rattle.plant_files.proofs.Readers.{RowReader, rows-read, MachineReader, machines-read}
-use Rattle.plant_lists.specs.Lists.{sentBy, takenBy, typesFor, listedRow, listedRows, listedMachine, listedMachines, listedPlant}
-use Rattle.plant_lists.specs.Lists.{messageKind, messageType, rowNumbers, rowsNumbers, listOf}
+use Rattle.plant_lists.specs.Lists.{sentBy, takenBy, typesFor, sentTypesFor, listedRow, listedRows, listedMachine, listedMachines, listedPlant}
+use Rattle.plant_lists.specs.Lists.{messageKind, messageType, sentNumber, rowNumbers, rowsNumbers, listOf}
 use Rattle.plant_lists.proofs.NumberLaws.{in-range, number-leaves}
 
 -- The reader of a machine's rows in a list,
@@ -44,19 +42,19 @@ unfoldable pub listMachines : MachineReader
 unfolding listedMachines
 listMachines = record { rows = rowsNumbers; one = listedMachine; many = listedMachines; many-none = λ s at p. refl; many-more = λ n s at p. refl }
 
--- A row's kind and type are within their values, and give its types back.
+-- A row's kind, fourth and sixth number are within their values, and give its types back.
 record KindSays (types : ℕ) (a b : Option ℕ) : Type 0 where
-  kind : inRange 0 3 (messageKind a b) ≡ true
+  kind : inRange 0 4 (messageKind a b) ≡ true
   type : inRange 0 (typesFor (messageKind a b) types) (messageType a b) ≡ true
-  sent : sentBy (messageKind a b) (messageType a b) ≡ a
+  sixth : inRange 0 (sentTypesFor (messageKind a b) types) (sentNumber a b) ≡ true
+  sent : sentBy (messageKind a b) (messageType a b) (sentNumber a b) ≡ a
   taken : takenBy (messageKind a b) (messageType a b) ≡ b
 
-kind-says : (types : ℕ) (a b : Option ℕ) → TypeIn types a → TypeIn types b → (a ≡ none) ⊎ (b ≡ none) → KindSays types a b
-kind-says types (some t) (some u) ha hb (inl e) = absurd (true≢false (ap isSome e))
-kind-says types (some t) (some u) ha hb (inr e) = absurd (true≢false (ap isSome e))
-kind-says types (some t) none ha hb o = record { kind = refl; type = in-range 0 types t zero-le ha; sent = refl; taken = refl }
-kind-says types none (some t) ha hb o = record { kind = refl; type = in-range 0 types t zero-le hb; sent = refl; taken = refl }
-kind-says types none none ha hb o = record { kind = refl; type = refl; sent = refl; taken = refl }
+kind-says : (types : ℕ) (a b : Option ℕ) → TypeIn types a → TypeIn types b → KindSays types a b
+kind-says types none none ha hb = record { kind = refl; type = refl; sixth = refl; sent = refl; taken = refl }
+kind-says types (some t) none ha hb = record { kind = refl; type = in-range 0 types t zero-le ha; sixth = refl; sent = refl; taken = refl }
+kind-says types none (some u) ha hb = record { kind = refl; type = in-range 0 types u zero-le hb; sixth = refl; sent = refl; taken = refl }
+kind-says types (some t) (some u) ha hb = record { kind = refl; type = in-range 0 types u zero-le hb; sixth = in-range 0 types t zero-le ha; sent = refl; taken = refl }
 
 progress-says : (b : Bool) → (inRange 0 2 (cond b 1 0) ≡ true) × (eqb (cond b 1 0) 1 ≡ b)
 progress-says true = (refl, refl)
@@ -68,14 +66,15 @@ unfolding listedRow rowNumbers
 row-says m states types r fits s at t e =
     leaves-then _ (number-leaves s at (r .left) _ e (inRange 0 states) (in-range 0 states (r .left) zero-le (fits .left))) λ n1 l1 e1.
     leaves-then _ (number-leaves s n1 (r .entered) _ e1 (inRange 0 states) (in-range 0 states (r .entered) zero-le (fits .entered))) λ n2 l2 e2.
-    leaves-then _ (number-leaves s n2 (messageKind (r .sent) (r .taken)) _ e2 (inRange 0 3) (k .kind)) λ n3 l3 e3.
+    leaves-then _ (number-leaves s n2 (messageKind (r .sent) (r .taken)) _ e2 (inRange 0 4) (k .kind)) λ n3 l3 e3.
     leaves-then _ (number-leaves s n3 (messageType (r .sent) (r .taken)) _ e3 (inRange 0 (typesFor (messageKind (r .sent) (r .taken)) types)) (k .type)) λ n4 l4 e4.
-    leaves-then _ (number-leaves s n4 (cond (r .progress) 1 0) t e4 (inRange 0 2) (progress-says (r .progress) .0)) λ n5 l5 e5.
+    leaves-then _ (number-leaves s n4 (cond (r .progress) 1 0) _ e4 (inRange 0 2) (progress-says (r .progress) .0)) λ n5 l5 e5.
+    leaves-then _ (number-leaves s n5 (sentNumber (r .sent) (r .taken)) t e5 (inRange 0 (sentTypesFor (messageKind (r .sent) (r .taken)) types)) (k .sixth)) λ n6 l6 e6.
     rw (k .sent, k .taken, progress-says (r .progress) .1)
-    (subst (λ (j : ℕ). Leaves s r t (found (rowWith j (r .left) (r .entered) (r .sent) (r .taken) (r .progress)) n5)) (fits .machine) (leaves n5 l5 e5))
+    (subst (λ (j : ℕ). Leaves s r t (found (rowWith j (r .left) (r .entered) (r .sent) (r .taken) (r .progress)) n6)) (fits .machine) (leaves n6 l6 e6))
   where
     k : KindSays types (r .sent) (r .taken)
-    k = kind-says types (r .sent) (r .taken) (fits .sent) (fits .taken) (fits .one-message)
+    k = kind-says types (r .sent) (r .taken) (fits .sent) (fits .taken)
 
 machine-says : (p : Plant) (states : ℕ) (rs : List Row) → (1 ≤ states) × (states ≤ 64) → (length rs ≤ 255) × (rowCount p + length rs ≤ 1024)
     → All (RowIn (machineCount p) states (p .types)) rs → Distinct (p .rows ++ rs)

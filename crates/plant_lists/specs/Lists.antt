@@ -1,4 +1,4 @@
--- The writer's list of numbers (document 02, L2 and L4): what it says, and numbers 23, 24 and 26.
+-- The writer's list of numbers (document 02, L2, L4 and L5): what it says, and numbers 23, 24 and 26.
 use mathlib.Core.Bool.{Bool, _&&_, cond}
 use mathlib.Core.Option.{Option, none, some}
 use mathlib.Core.List.{List, [], _∷_, _++_}
@@ -28,28 +28,34 @@ countNumber low high s at = numberIn low (high + 1) s at
 
 -- ---- rows
 
--- "kind (0 neither, 1 sends, 2 takes)": the type sent of a row of this kind,
-abbrev pub sentBy : ℕ → ℕ → Option ℕ
-sentBy kind type = cond (eqb kind 1) (some type) none
+-- "kind (0 neither, 1 sends, 2 takes)", and "kind 3 and a sixth number for the type sent" (document 02, L5): the type sent of a row with this kind,
+-- fourth number and sixth number,
+abbrev pub sentBy : ℕ → ℕ → ℕ → Option ℕ
+sentBy kind type sent = cond (eqb kind 1) (some type) (cond (eqb kind 3) (some sent) none)
 
--- and the type taken.
+-- and the type taken: "the fourth is then the type taken".
 abbrev pub takenBy : ℕ → ℕ → Option ℕ
-takenBy kind type = cond (eqb kind 2) (some type) none
+takenBy kind type = cond (eqb kind 2) (some type) (cond (eqb kind 3) (some type) none)
 
 -- "type (0 for kind 0)": below the count of types, and for kind 0 below 1.
 abbrev pub typesFor : ℕ → ℕ → ℕ
 typesFor kind types = cond (eqb kind 0) 1 types
 
--- "five numbers for each row. These are state left, state entered, kind (0 neither, 1 sends, 2 takes), type (0 for kind 0) and progress
--- (0 or 1)."
+-- "a sixth number for the type sent, 0 for other kinds": below the count of types, and for kinds other than 3 below 1.
+abbrev pub sentTypesFor : ℕ → ℕ → ℕ
+sentTypesFor kind types = cond (eqb kind 3) types 1
+
+-- "These are state left, state entered, kind (0 neither, 1 sends, 2 takes), type (0 for kind 0) and progress (0 or 1)." "The writer's row gets
+-- kind 3 and a sixth number".
 unfoldable pub listedRow : ℕ → ℕ → ℕ → List ℕ → ℕ → Found Row
 listedRow m states types s at =
     andThen (numberIn 0 states s at) (λ left a.
     andThen (numberIn 0 states s a) (λ entered b.
-    andThen (numberIn 0 3 s b) (λ kind c.
+    andThen (numberIn 0 4 s b) (λ kind c.
     andThen (numberIn 0 (typesFor kind types) s c) (λ type d.
     andThen (numberIn 0 2 s d) (λ progress e.
-    found (rowWith m left entered (sentBy kind type) (takenBy kind type) (eqb progress 1)) e)))))
+    andThen (numberIn 0 (sentTypesFor kind types) s e) (λ sent f.
+    found (rowWith m left entered (sentBy kind type sent) (takenBy kind type) (eqb progress 1)) f))))))
 
 -- n rows of machine m; each is no twin of an earlier one (document 02, L4).
 unfoldable pub listedRows : ℕ → ℕ → ℕ → List ℕ → ℕ → Plant → Found Plant
@@ -63,7 +69,7 @@ listedRows (suc n) m states s at p =
 abbrev pub rowsNumber : ℕ → List ℕ → ℕ → Found ℕ
 rowsNumber soFar s at = numberThat (λ n. leb n 255 && leb (soFar + n) 1024) s at
 
--- "for each machine states, row count and five numbers for each row": 1 to 64 states.
+-- "for each machine states, row count and five numbers for each row", six since L5: 1 to 64 states.
 unfoldable pub listedMachine : List ℕ → ℕ → Plant → Found Plant
 listedMachine s at p =
     andThen (countNumber 1 64 s at) (λ states a.
@@ -88,31 +94,41 @@ listedPlant s =
 
 -- ---- the list of a plant
 
--- "kind (0 neither, 1 sends, 2 takes)" of a row with these types sent and taken: no row has both.
+-- "kind (0 neither, 1 sends, 2 takes)", and "kind 3", of a row with these types sent and taken.
 abbrev pub messageKind : Option ℕ → Option ℕ → ℕ
-messageKind (some t) o = 1
-messageKind none (some t) = 2
 messageKind none none = 0
+messageKind (some t) none = 1
+messageKind none (some u) = 2
+messageKind (some t) (some u) = 3
 
--- "type (0 for kind 0)".
+-- Its fourth number: "type (0 for kind 0)"; "the fourth is then the type taken".
 abbrev pub messageType : Option ℕ → Option ℕ → ℕ
-messageType (some t) o = t
-messageType none (some t) = t
 messageType none none = 0
+messageType (some t) none = t
+messageType none (some u) = u
+messageType (some t) (some u) = u
 
--- "five numbers for each row".
+-- Its "sixth number for the type sent, 0 for other kinds".
+abbrev pub sentNumber : Option ℕ → Option ℕ → ℕ
+sentNumber none none = 0
+sentNumber (some t) none = 0
+sentNumber none (some u) = 0
+sentNumber (some t) (some u) = t
+
+-- The six numbers of a row.
 unfoldable pub rowNumbers : Row → List ℕ
-rowNumbers r = r .left ∷ (r .entered ∷ (messageKind (r .sent) (r .taken) ∷ (messageType (r .sent) (r .taken) ∷ (cond (r .progress) 1 0 ∷ []))))
+rowNumbers r =
+    r .left ∷ (r .entered ∷ (messageKind (r .sent) (r .taken) ∷ (messageType (r .sent) (r .taken) ∷ (cond (r .progress) 1 0 ∷ (sentNumber (r .sent) (r .taken) ∷ [])))))
 
 -- Rows in turn.
 unfoldable pub rowsNumbers : List Row → List ℕ
 rowsNumbers [] = []
 rowsNumbers (r ∷ rs) = rowNumbers r ++ rowsNumbers rs
 
--- "machines, types, then for each machine states, row count and five numbers for each row": the list that says a plant.
+-- "machines, types, then for each machine states, row count" and the numbers of its rows: the list that says a plant.
 abbrev pub listOf : Plant → List ℕ
 listOf = plantAs rowsNumbers
 
--- Two counts, two numbers for each of 16 machines and five for each of 1,024 rows: the most numbers of a list that says a plant.
+-- Two counts, two numbers for each of 16 machines and six for each of 1,024 rows: the most numbers of a list that says a plant.
 abbrev pub longestList : ℕ
-longestList = 2 + 2 * 16 + 5 * 1024
+longestList = 2 + 2 * 16 + 6 * 1024

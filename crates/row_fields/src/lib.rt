@@ -1,13 +1,11 @@
 // The fields of a row: its map byte, and a byte for each state and type whose bit stands. No entry point: `plant_rows` calls it.
 ghost use mathlib.Core.Path.{_≡_};
 ghost use Prim.Native.Nat.{_≤_, _<_};
-ghost use Rattle.plant.specs.Reading.{hasBit, isMap, mapByte, stateField, typeField};
+ghost use Rattle.plant.specs.Reading.{hasBit, mapByte, stateField, typeField};
 ghost use Rattle.plant.specs.Steps.{fieldFound};
 ghost use Rattle.row_fields.specs.Fields.{typeFound};
-use plant::Fault;
 use plant::Field;
 use plant::FieldStep;
-use plant::byte_at;
 use plant::byte_in;
 
 // Whether the bit of this value stands in a map byte.
@@ -18,34 +16,11 @@ pub fn has_bit(map: u8, value: u8) -> bool
     map / value % 2 == 1
 }
 
-fn is_map(map: u8) -> bool
-    ensures { λ r. ⌜ r ≡ isMap map ⌝ }
-{
-    if 32 <= map {
-        return false;
-    }
-    if !has_bit(map, 4) {
-        return true;
-    }
-    !has_bit(map, 8)
-}
-
 // A row's map byte.
 pub fn map_byte(s: &[u8], at: usize) -> FieldStep
     ensures { λ r. ⌜ fieldFound r ≡ mapByte (now (s .entry)) at ⌝ }
 {
-    let step = byte_at(s, at);
-    let byte = match step {
-        FieldStep::Value(field) => field,
-        FieldStep::Fault(fault) => return FieldStep::Fault(fault),
-    };
-    if is_map(byte.value) {
-        return FieldStep::Value(byte);
-    }
-    FieldStep::Fault(Fault {
-        number: 4,
-        place: at,
-    })
+    byte_in(s, at, 0, 32, 4)
 }
 
 // A state field, or the state that stands for it.

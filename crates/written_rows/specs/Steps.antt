@@ -25,9 +25,9 @@ pub record Room (s file : List ℕ) (at pos bytes : ℕ) : Type 0 where
   pub behind : pos ≤ at
   pub within : pos + bytes ≤ longestFile
 
--- There is room for the keys of a machine: it has at most 255 rows, and each has five numbers in the list.
+-- There is room for the keys of a machine: it has at most 255 rows, and each has six numbers in the list.
 abbrev pub ListKeyRoom : List ℕ → List ℕ → Type 0
-ListKeyRoom s keys = min (5 * 255) (length s) ≤ 5 * length keys
+ListKeyRoom s keys = min (6 * 255) (length s) ≤ 6 * length keys
 
 -- A step ends in the list, with no more bytes stored than numbers read, and at most at a limit.
 abbrev pub Near : List ℕ → ℕ → Step → Type 0

@@ -7,11 +7,11 @@ ghost use Rattle.livelock.specs.Plants.{Plant};
 ghost use Rattle.plant.specs.Limits.{mostRowBytes, rowsIn};
 ghost use Rattle.plant_lists.specs.Lists.{listedRows};
 ghost use Rattle.written_rows.specs.Steps.{Room, ListKeyRoom, Near, RowsStored};
-use list_numbers::listed_row;
-use list_numbers::row_fault;
-use list_numbers::row_passes;
 use plant::Fault;
 use row_bytes::put_row;
+use row_numbers::listed_row;
+use row_numbers::row_fault;
+use row_numbers::row_passes;
 
 // The index after the numbers that were read, and the offset after the bytes that were stored for them.
 pub struct Point {
@@ -57,7 +57,7 @@ pub fn write_rows(
         left = kept.states;
         pos = put_row(numbers, at, implied, file, pos);
         implied = numbers[at];
-        at += 5;
+        at += 6;
         i += 1;
     }
     Step::At(Point { at, pos })

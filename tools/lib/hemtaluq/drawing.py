@@ -6,10 +6,10 @@ from .outcomes import BadInput
 
 
 def label_of(plant, number, row):
-    """A row's number, !type for a type sent, ?type for a type taken, and a star for progress."""
+    """A row's number, ?type for a type taken, then !type for a type sent, as it takes first, and a star for progress."""
     words = [str(number)]
-    words += ['!' + plant.types[row.sent]] if row.sent is not None else []
     words += ['?' + plant.types[row.taken]] if row.taken is not None else []
+    words += ['!' + plant.types[row.sent]] if row.sent is not None else []
     return ' '.join(words + (['★'] if row.progress else []))
 
 

@@ -25,7 +25,7 @@ footer { margin-top: 6mm; font-size: 9pt; color: #333 } footer p { margin: 1mm 0
 @media print { body { margin: 0; padding: 0; max-width: none } }'''
 
 
-CAPTION = 'An arrow is a row, with its number. !type: the row sends it. ?type: it takes one. ★ and a double line: progress.'
+CAPTION = 'An arrow is a row, with its number. !type: the row sends it. ?type: it takes one, before it sends. ★ and a double line: progress.'
 
 
 def cell(value):

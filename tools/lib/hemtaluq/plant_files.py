@@ -97,9 +97,11 @@ def where_in_file(data):
 
 # ---- writing
 
-def kind_and_type(row):
-    """The writer's numbers for the message of a row: 0 neither, 1 sends, 2 takes."""
-    return (1, row.sent) if row.sent is not None else (2, row.taken) if row.taken is not None else (0, 0)
+def row_numbers(row):
+    """The writer's numbers for a row: the states, the kind (0 neither, 1 sends, 2 takes, 3 takes and sends), the type, which is the one taken
+    where the row takes one, progress, and the type sent where it does both."""
+    sends, takes = row.sent is not None, row.taken is not None
+    return row.left, row.entered, sends + 2 * takes, row.taken if takes else row.sent or 0, int(row.progress), row.sent if sends and takes else 0
 
 
 def said_by(plant, limits):
@@ -111,7 +113,7 @@ def said_by(plant, limits):
         yield Said(len(machine.rows), 'the count of rows of machine ' + machine.name,
                    'at most 255, and %s in all machines together' % grouped(limits['MOST_ROWS']), machine.line)
         for k, (row, line) in enumerate(zip(machine.rows, machine.row_lines or [0] * len(machine.rows)), plant.first_row(m)):
-            for number in (row.left, row.entered, *kind_and_type(row), int(row.progress)):
+            for number in row_numbers(row):
                 yield Said(number, 'a number of a row of machine ' + machine.name, 'a state, a kind, a type or progress', line, k)
 
 

@@ -7,6 +7,9 @@
       waiting -> asked  sends request
       asked -> waiting  takes answer  progress
 
+    machine probe
+      ready -> ready    takes request  sends answer
+
 States are numbered as they first appear, or as the `states` lines of their machine name them. What follows a # is a comment.
 """
 import re
@@ -17,7 +20,7 @@ from .texts import is_number, lines_of
 
 NAME = re.compile(r'\w[\w.-]*')
 WORDS = ('types', 'machine', 'states', 'sends', 'takes', 'progress')
-ROW_FORM = 'STATE -> STATE, then `sends TYPE` or `takes TYPE` and `progress`, where they apply'
+ROW_FORM = 'STATE -> STATE, then `takes TYPE`, `sends TYPE` and `progress`, where they apply'
 
 
 class Reader:
@@ -123,8 +126,6 @@ class Reader:
             if word != 'progress' and not words:
                 raise self.wrong('expected a type behind `%s`' % word)
             found[word] = True if word == 'progress' else self.known(words.pop(0), self.types, 'type')
-        if 'sends' in found and 'takes' in found:
-            raise self.wrong('expected `sends` or `takes`, not both: a row has one message at most')
         return found.get('sends'), found.get('takes'), 'progress' in found
 
 
@@ -149,9 +150,9 @@ def parsed(path, text):
 
 
 def row_text(plant, machine, row):
-    """A row as its line of the text: the states, and what it does."""
-    marks = [['sends', plant.types[row.sent]]] if row.sent is not None else []
-    marks += [['takes', plant.types[row.taken]]] if row.taken is not None else []
+    """A row as its line of the text: the states, and what it does in its order: it takes first, then sends."""
+    marks = [['takes', plant.types[row.taken]]] if row.taken is not None else []
+    marks += [['sends', plant.types[row.sent]]] if row.sent is not None else []
     marks += [['progress']] if row.progress else []
     return '%s -> %s' % (machine.states[row.left], machine.states[row.entered]), '  '.join(' '.join(mark) for mark in marks)
 

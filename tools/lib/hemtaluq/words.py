@@ -4,13 +4,19 @@ from .plant_text import row_text
 from .texts import counted, grouped
 
 
+def weight_words(row, weights):
+    """The weight of a row's message; the weights of both where it takes and sends."""
+    messages = [message for message in (row.taken, row.sent) if message is not None]
+    if len(messages) == 2:
+        return '(takes %s, sends %s)' % tuple(grouped(weights[message]) for message in messages)
+    return '(weight %s)' % grouped(weights[messages[0]]) if messages else ''
+
+
 def row_words(plant, number, weights=None):
     """A row's number, its states and what it does, with the weight of its message where there are weights."""
     m, row = plant.rows[number]
     move, marks = row_text(plant, plant.machines[m], row)
-    message = row.sent if row.sent is not None else row.taken
-    weight = '(weight %s)' % grouped(weights[message]) if weights is not None and message is not None else ''
-    return 'row %d' % number, move, marks, weight
+    return 'row %d' % number, move, marks, '' if weights is None else weight_words(row, weights)
 
 
 def columns(lines):

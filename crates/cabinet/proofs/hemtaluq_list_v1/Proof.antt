@@ -1,7 +1,7 @@
 -- `hemtaluq_list_v1` meets its contract: the answer of `list` becomes its struct, and what was lent is as `list` left it.
 use borrow.Author.Needs.{needs}
 use mathlib.Core.Path.{_∙_, ap}
-use Rattle.cabinet.specs.Structs.{listStruct}
+use Rattle.answer_structs.specs.Structs.{listStruct}
 use Rattle.cabinet.proofs.StructLaws.{lists-told}
 use Rattle.cabinet.proofs.hemtaluq_list_v1.Statement.{statement}
 use Rattle.cabinet.proofs.hemtaluq_list_v1.Tie as tie

@@ -1,7 +1,7 @@
 -- `hemtaluq_read_v1` meets its contract: the answer of `read` becomes its struct.
 use borrow.Author.Needs.{needs}
 use mathlib.Core.Path.{_∙_, ap}
-use Rattle.cabinet.specs.Structs.{readStruct}
+use Rattle.answer_structs.specs.Structs.{readStruct}
 use Rattle.cabinet.proofs.hemtaluq_read_v1.Statement.{statement}
 use Rattle.cabinet.proofs.hemtaluq_read_v1.Tie as tie
 

@@ -17,7 +17,7 @@ use Rattle.written_rows.proofs.write_rows.Tie as tie
 record Inv (numbers : List ℕ) (n states types : ℕ) (file₀ keys₀ : List ℕ) (from start : ℕ) (file keys : List ℕ) (at pos implied left i : ℕ) : Type 0 where
   going : (m : ℕ) (p : Plant) → p .types ≡ types → rowsIn m (p .rows) ≡ [] → RowsGoing n m states from numbers p file₀ start i at file pos implied keys left
   within : i ≤ n
-  reached : at ≡ from + 5 * i
+  reached : at ≡ from + 6 * i
   inside : at ≤ length numbers
   behind : pos ≤ at
   near : pos ≤ start + mostRowBytes * i
@@ -88,7 +88,7 @@ returns-2 : tie.Need-returns-2 Inv-loop μ-loop
 returns-2 c =
     let a = c .before .before .before .before .before .before .before .before .before .before .before .before .before .args in
     let l = c .before .before .before .before .before .before .before .before .before .loop in (
-      λ m p t none. row-is-twin (a .n) m (a .states) (a .start .at) (a .numbers .now) p (a .file .now) (a .start .pos) (l .i) (l .at) (l .file) (l .pos) (l .implied) (l .keys) (l .left) (l .inv .going m p t none) (omega (arith, c .before .before .before .before .before .before .before .before .loop-test .taken)) _ _ (l .at + 5) _ _ (c .before .before .before .before .listed-row .ensures .0 m)
+      λ m p t none. row-is-twin (a .n) m (a .states) (a .start .at) (a .numbers .now) p (a .file .now) (a .start .pos) (l .i) (l .at) (l .file) (l .pos) (l .implied) (l .keys) (l .left) (l .inv .going m p t none) (omega (arith, c .before .before .before .before .before .before .before .before .loop-test .taken)) _ _ (l .at + 6) _ _ (c .before .before .before .before .listed-row .ensures .0 m)
           (rw t (row-right (a .states) (a .types) (a .numbers .now) (l .at) (sym (c .before .before .before .before .before .before .before .row-passes .ensures) ∙ not-false _ (c .before .before .before .before .before .before .if1 .left)) m)) (c .before .before .before .keep-row .ensures) (c .if2 .taken),
       tt,
     )

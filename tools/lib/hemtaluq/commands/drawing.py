@@ -27,8 +27,8 @@ def draw(library, arguments):
 
 def add(commands):
     one = commands.add('draw', draw, 'draw a plant, and in red the cycle that weights show',
-                       'Draw a plant: a cluster for each machine, states as nodes, rows as arrows. An arrow has its row\'s number and !type for a type\n'
-                       'sent or ?type for a type taken; a progress row has a star and a double line. With weights that do not pass, the rows of the\n'
+                       'Draw a plant: a cluster for each machine, states as nodes, rows as arrows. An arrow has its row\'s number, ?type for a type\n'
+                       'taken and !type for a type sent; a progress row has a star and a double line. With weights that do not pass, the rows of the\n'
                        'shortest quiet cycle that `weigh` shows are red.',
                        '  hemtaluq draw plant.txt -o plant.svg\n  hemtaluq draw plant.txt -w request=1 answer=1 | dot -Tpng -o plant.png')
     add_weights(one)

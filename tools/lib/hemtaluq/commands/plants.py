@@ -9,8 +9,9 @@ ORDER = 10
 WRITE = '''Write the plant file of a plant text.
 
 %s
-A row sends one type, takes one type, or does neither; `progress` marks the rows that bring a fresh reading. No machine has the same
-row twice. A name is of letters, digits, _ - and . and begins with a letter, a digit or _. Types are named before the first machine.
+A row takes one type, sends one type, does both or neither. One that does both can happen when the type that it takes is present: it
+takes first, then sends, in whichever order the text has them. `progress` marks the rows that bring a fresh reading. No machine has the
+same row twice. A name is of letters, digits, _ - and . and begins with a letter, a digit or _. Types are named before the first machine.
 
 The file is made by the proved writer: it reads as the text's rows, and no file that does is shorter. A plant has 1 to 16 machines,
 at most 64 types, 1 to 64 states and at most 255 rows in a machine, and 1,024 rows in all.''' % plant_text.__doc__.split('\n', 2)[2]
@@ -30,12 +31,21 @@ def show(_library, arguments):
     return Outcome(YES, {'answer': 'shown', 'text': text}, text)
 
 
+def rows_without_weight(plant):
+    """Quiet rows that take and send one type and stay in their state: each is a quiet cycle that weighs 0, whatever the weights."""
+    for number, (m, row) in enumerate(plant.rows):
+        if row.left == row.entered and row.taken is not None and row.taken == row.sent and not row.progress:
+            yield 'row %d of machine %s takes and sends %s, stays in its state and has no progress: no weights pass' % (
+                number, plant.machines[m].name, plant.types[row.sent])
+
+
 def strange(plant):
     """What is often a mistake in a plant, beside the states."""
     sent, taken = {row.sent for _, row in plant.rows}, {row.taken for _, row in plant.rows}
     for t, name in enumerate(plant.types):
         if t not in sent or t not in taken:
             yield 'type %s is never %s' % (name, 'sent' if t in taken else 'taken' if t in sent else 'sent or taken')
+    yield from rows_without_weight(plant)
     if not any(row.progress for _, row in plant.rows):
         yield 'no row has progress'
 
