@@ -5,7 +5,7 @@
  *     bench decode REPS FILE                    the peer keeps the rows in a table
  *     bench weigh REPS FILE WEIGHTS
  *     bench floor REPS FILE WEIGHTS             weighing in C with arrays cleared as in Rattle, against the peer
- *     bench quote REPS FILE WEIGHTS             contents and g are 1,000
+ *     bench quote REPS FILE WEIGHTS             contents, g and d are 1,000
  *     bench list REPS FILE MACHINE ROOM         above 50,000,000 entries the list is only reserved, not held in memory
  *     bench confirm REPS FILE SET
  *     bench write REPS LIST                     16-bit numbers; the buffer has room for every file
@@ -49,6 +49,24 @@ static void *load(const char *name, size_t *length) {
     return data;
 }
 
+/* ---- the peer's weighing and quoting; with FORMER, those of a library before doublings, which has no such figure and gets no d */
+
+#ifdef FORMER
+typedef struct { uint8_t kind, number; size_t place; uint64_t base, most_states, per_progress; size_t rows; } peers_weigh_answer;
+peers_weigh_answer former_weigh(const uint8_t *f, size_t n, const uint16_t *w, size_t count, uint16_t *cycle, size_t room);
+hemtaluq_quote_answer former_quote(const uint8_t *f, size_t n, const uint16_t *w, size_t count, const uint32_t *c, size_t contents, uint32_t g);
+static uint32_t d = 0;
+#define PEERS_WEIGH former_weigh
+#define PEERS_QUOTE(...) former_quote(__VA_ARGS__)
+#define SAME_DOUBLING 1
+#else
+typedef hemtaluq_weigh_answer peers_weigh_answer;
+static uint32_t d = 1000;
+#define PEERS_WEIGH peer_weigh
+#define PEERS_QUOTE(...) peer_quote(__VA_ARGS__, d)
+#define SAME_DOUBLING (a.w.per_doubling == b.p.per_doubling)
+#endif
+
 /* ---- what the calls are given */
 
 static const uint8_t *file;
@@ -59,16 +77,16 @@ static uint32_t contents[64], machine, g = 1000;
 static uint16_t cycle_ours[64], cycle_peer[64], *out_ours, *out_peer;
 static uint8_t bytes_ours[HEMTALUQ_LONGEST_FILE + 8], bytes_peer[HEMTALUQ_LONGEST_FILE + 8];
 
-static union { hemtaluq_read_answer r; hemtaluq_weigh_answer w; hemtaluq_quote_answer q; hemtaluq_list_answer l; hemtaluq_confirm_answer c; hemtaluq_write_answer f; } a, b;
+static union { hemtaluq_read_answer r; hemtaluq_weigh_answer w; peers_weigh_answer p; hemtaluq_quote_answer q; hemtaluq_list_answer l; hemtaluq_confirm_answer c; hemtaluq_write_answer f; } a, b;
 
 static void ours_read(void) { a.r = hemtaluq_read(file, file_length); }
 static void peers_read(void) { b.r = peer_read(file, file_length); }
 static void peers_decode(void) { b.r = peer_decode(file, file_length); }
 static void ours_weigh(void) { a.w = hemtaluq_weigh(file, file_length, weights, weight_count, cycle_ours, 64); }
-static void peers_weigh(void) { b.w = peer_weigh(file, file_length, weights, weight_count, cycle_peer, 64); }
+static void peers_weigh(void) { b.p = PEERS_WEIGH(file, file_length, weights, weight_count, cycle_peer, 64); }
 static void floors_weigh(void) { a.w = floor_weigh(file, file_length, weights, weight_count, cycle_ours, 64); }
-static void ours_quote(void) { a.q = hemtaluq_quote(file, file_length, weights, weight_count, contents, weight_count, g); }
-static void peers_quote(void) { b.q = peer_quote(file, file_length, weights, weight_count, contents, weight_count, g); }
+static void ours_quote(void) { a.q = hemtaluq_quote(file, file_length, weights, weight_count, contents, weight_count, g, d); }
+static void peers_quote(void) { b.q = PEERS_QUOTE(file, file_length, weights, weight_count, contents, weight_count, g); }
 static void ours_list(void) { a.l = hemtaluq_list(file, file_length, machine, out_ours, room); }
 static void peers_list(void) { b.l = peer_list(file, file_length, machine, out_peer, room); }
 static void ours_confirm(void) { a.c = hemtaluq_confirm(file, file_length, set, set_length); }
@@ -77,7 +95,7 @@ static void ours_write(void) { a.f = hemtaluq_write(numbers, number_count, bytes
 static void peers_write(void) { b.f = peer_write(numbers, number_count, bytes_peer, bytes_room); }
 
 static int same_read(void) { return a.r.kind == b.r.kind && a.r.number == b.r.number && a.r.types == b.r.types && a.r.place == b.r.place && a.r.machines == b.r.machines && a.r.rows == b.r.rows; }
-static int same_weigh(void) { return a.w.kind == b.w.kind && a.w.number == b.w.number && a.w.place == b.w.place && a.w.base == b.w.base && a.w.most_states == b.w.most_states && a.w.per_progress == b.w.per_progress && a.w.rows == b.w.rows && !memcmp(cycle_ours, cycle_peer, sizeof cycle_ours); }
+static int same_weigh(void) { return a.w.kind == b.p.kind && a.w.number == b.p.number && a.w.place == b.p.place && a.w.base == b.p.base && a.w.most_states == b.p.most_states && a.w.per_progress == b.p.per_progress && SAME_DOUBLING && a.w.rows == b.p.rows && !memcmp(cycle_ours, cycle_peer, sizeof cycle_ours); }
 static int same_quote(void) { return a.q.kind == b.q.kind && a.q.number == b.q.number && a.q.place == b.q.place && a.q.price_class == b.q.price_class && a.q.ceiling == b.q.ceiling; }
 static int same_list(void) { return a.l.kind == b.l.kind && a.l.number == b.l.number && a.l.place == b.l.place && a.l.entries == b.l.entries && (a.l.kind != HEMTALUQ_LISTED || !memcmp(out_ours, out_peer, 2 * room)); }
 static int same_confirm(void) { return a.c.kind == b.c.kind && a.c.number == b.c.number && a.c.place == b.c.place && a.c.message_type == b.c.message_type && a.c.sum == b.c.sum; }
@@ -286,6 +304,9 @@ static void differ_on_list(void) {
     exit(1);
 }
 
+/* A number of progress rows or doublings, now and then above its limit. */
+static uint32_t amount(void) { return below(40) ? below(PICK(5, 1000001)) : PICK(1000000, 1000001, 4294967295u); }
+
 /* How often an answer of each kind was met, and with a row that takes and sends in what was given. */
 static long kinds[9], with_both[9];
 
@@ -299,7 +320,7 @@ static void check(long cases) {
     static uint16_t w[65], before[64];
     static uint32_t s[300 * 70];
     static uint16_t n[2 + 16 * (2 + ROW_NUMBERS * 256) + 1];
-    long read_with[27] = {0}, refusals[27] = {0};
+    long read_with[27] = {0}, refusals[27] = {0}, above_limit[2] = {0};
     file = plant;
     numbers = n;
     weights = w;
@@ -314,7 +335,8 @@ static void check(long cases) {
         weight_count = r.types + !below(40);
         for (size_t t = 0; t < weight_count; t++) w[t] = (uint16_t)below(largest);
         for (size_t t = 0; t < 64; t++) contents[t] = below(PICK(5, 1000001, 1000002));
-        g = below(PICK(5, 1000001, 1000002));
+        g = amount();
+        d = amount();
         for (int t = 0; t < 64; t++) before[t] = cycle_ours[t] = cycle_peer[t] = (uint16_t)below(65536);
         ours_read(), peers_read();
         if (!same_read()) differ("read");
@@ -331,6 +353,7 @@ static void check(long cases) {
         ours_quote(), peers_quote();
         if (!same_quote()) differ("quote");
         count(a.q.kind);
+        for (size_t k = 0; k < 2; k++) above_limit[k] += a.q.number == HEMTALUQ_AMOUNT_LIMIT && a.q.place == weight_count + k;
         set_length = random_set(s, r.kind == HEMTALUQ_COUNTS ? (unsigned)r.machines : 1);
         ours_confirm(), peers_confirm();
         if (!same_confirm()) differ("confirm");
@@ -353,6 +376,7 @@ static void check(long cases) {
     for (int k = 0; k < 9; k++)
         if (with_both[k] < cases / 100) die("an answer was met too seldom with rows that take and send");
     if (read_with[0] < cases / 2 || read_with[HEMTALUQ_TWIN_ROW] < cases / 100) die("files that read, or twin rows in files, were met too seldom");
+    if (above_limit[0] < cases / 200 || above_limit[1] < cases / 200) die("g or d above its limit was met too seldom");
     for (int k = HEMTALUQ_LIST_LENGTH; k <= HEMTALUQ_TWIN_ROW; k++)
         if (refusals[k] < cases / 100) die("a refusal of write was met too seldom");
     printf("{\"cases\": %ld, \"refused\": %ld, \"counts\": %ld, \"passed\": %ld, \"cycle\": %ld, \"ceiling\": %ld, \"listed\": %ld, \"confirmed\": %ld, \"negative\": %ld, \"wrote\": %ld}\n", cases, kinds[0], kinds[1], kinds[2], kinds[3], kinds[4], kinds[5], kinds[6], kinds[7], kinds[8]);

@@ -221,6 +221,7 @@ static hemtaluq_weigh_answer weigh_in(const uint8_t *file, size_t length, const 
     a.base = less + n * w * less;
     a.most_states = n;
     a.per_progress = n - 1 + n * n * w;
+    a.per_doubling = n * w;
     return a;
 }
 

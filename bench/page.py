@@ -3,12 +3,12 @@ import textwrap
 
 # How far whole runs lie apart. Look again when the crates have changed.
 RUNS = (
-    'Three full runs of the same code, one after the other, of which this page has the last. The two before had, for reading, 1.07 and 1.06 with the largest file, 1.03 and 1.02 with ten machines and twice 1.21 with '
-    'plant A; for plant A 1.36 and 1.35 where weights pass, 2.00 and 2.02 where a cycle is shown, 1.19 and 1.25 for quoting and twice 1.07 for writing; for ten machines of eight states 0.99 and 0.97 where weights '
-    'pass, 1.04 and 0.97 where a cycle is shown, 0.99 and 1.00 for quoting and 1.07 and 1.08 for writing; for the 16 machines 1.22 and 1.11 where weights pass, 1.12 and 1.11 for quoting and 1.11 and 1.16 where it is '
-    'refused with 22; for confirming 1.07 and 1.10. The page before was measured on an AMD EPYC: it had 1.30 for reading plant A, 1.21 for reading ten machines, 1.19 to 1.24 where 16 machines are decided in all rounds and 1.29 for confirming. '
-    'What rows that take and send cost: in turn with the library before (`bench/run --against`), reading takes 0.98 to 1.00 of its time with files that both read, weighing, quoting and listing 0.90 to 1.02 and confirming 1.06; '
-    'the lists of the two differ, so that writing is not compared. '
+    'Two full runs of the same code, one after the other, of which this page has the last. The one before had, for reading, 1.07 with the largest file, 1.05 with ten machines and 1.20 with plant A; for plant A 1.31 where '
+    'weights pass, 1.76 where a cycle is shown, 1.19 for quoting and 1.09 for writing; for ten machines of eight states twice 1.06 for weighing, 1.02 for quoting and 1.10 for writing; for the 16 machines 1.03 where weights '
+    'pass, 1.05 for quoting and 1.03 where it is refused with 22; for confirming 1.03. Three runs of version 5, on a machine of the same kind, had 1.21, 1.21 and 1.22 for reading plant A, 1.33 to 1.36 for plant A where weights '
+    'pass and 1.92 to 2.02 where a cycle is shown; one of version 4, on an AMD EPYC, 1.30 for reading plant A and 1.21 for reading ten machines. '
+    'What doublings cost: in turn with the library before (`bench/run --against`), weighing takes 0.99 to 1.02 of its time and quoting, with d 0, 0.97 to 1.03; the calls that did not change take 0.98 to 1.02, but for one file that '
+    'was read in 1.12 of the time, with 0.74 to 1.80 by layout: so far such figures move. '
     'Where 16 machines fail and none has a cycle of fewer than 64 rows, all are searched, which takes 15 times as long as to search the first.')
 
 # Why a goal is missed: for keys of bench/run that begin with the first word. The evidence is from `perf` and from the machine
@@ -64,7 +64,7 @@ def tool_goals(found):
     if least('solve') < 100:
         said.append('It cannot be met on plants this small: the problems have %d to %d columns, GLPK solves them in a few microseconds, and the peer in C, which is %s to %s times faster than the proved call here, does not reach it either.'
                     % (min(r['cycles'] for r in found['tools']), max(r['cycles'] for r in found['tools']), times(min(r['c'] for r in found['tools'])), times(max(r['c'] for r in found['tools']))))
-    said.append('The questions differ, too: GLPK finds out whether any weights exist, from cycles that someone has listed; weighing reads the file, judges given weights and hands back F, n and G. '
+    said.append('The questions differ, too: GLPK finds out whether any weights exist, from cycles that someone has listed; weighing reads the file, judges given weights and hands back the figures. '
                 'The count of cycles, and with it the linear program, can grow exponentially (a machine of 16 states and 48 rows has 43,046,721 cycles), while weights that pass are found to pass in at most states times rows steps.')
     return '\n\n'.join(said)
 

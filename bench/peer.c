@@ -250,9 +250,10 @@ static void figures(const struct table *t, const int32_t *laid, hemtaluq_weigh_a
     a->base = less + n * w * less;
     a->most_states = n;
     a->per_progress = n - 1 + n * n * w;
+    a->per_doubling = n * w;
 }
 
-/* F, n and G for weights that pass; otherwise the rows of a shortest cycle of all machines, if they are wanted. */
+/* F, n, G and n * w for weights that pass; otherwise the rows of a shortest cycle of all machines, if they are wanted. */
 INLINE hemtaluq_weigh_answer weigh_table(const struct table *t, const int32_t *laid, uint16_t *cycle, int shown) {
     hemtaluq_weigh_answer a = {0};
     struct edge e[256];
@@ -269,7 +270,7 @@ INLINE hemtaluq_weigh_answer weigh_table(const struct table *t, const int32_t *l
         if (k <= limit) least = k;
     }
     if (a.kind == HEMTALUQ_PASSED) return a;
-    a.base = a.most_states = a.per_progress = 0;
+    a.base = a.most_states = a.per_progress = a.per_doubling = 0;
     if (!shown) return a;
     a.rows = least;
     for (unsigned i = 0; i < least; i++) cycle[i] = best[i];
@@ -292,29 +293,30 @@ hemtaluq_weigh_answer peer_weigh(const uint8_t *file, size_t length, const uint1
 
 /* ---- quoting */
 
-static struct fault amounts(const struct table *t, const uint32_t *contents, size_t count, uint32_t g) {
+static struct fault amounts(const struct table *t, const uint32_t *contents, size_t count, uint32_t g, uint32_t d) {
     if (count != t->types) FAULT(20, 0);
     for (size_t i = 0; i < count; i++)
         if (contents[i] > 1000000) FAULT(21, i);
     if (g > 1000000) FAULT(21, count);
+    if (d > 1000000) FAULT(21, count + 1);
     return (struct fault){0, 0};
 }
 
 hemtaluq_quote_answer peer_quote(const uint8_t *file, size_t length, const uint16_t *weights, size_t weight_count,
-                                 const uint32_t *contents, size_t content_count, uint32_t g) {
+                                 const uint32_t *contents, size_t content_count, uint32_t g, uint32_t d) {
     struct table t;
     int32_t laid[NO_TYPE + 1];
     hemtaluq_quote_answer a = {0};
     struct fault fault = decode_table(file, length, &t);
     if (!fault.number) fault = lay_out(&t, weights, weight_count, laid);
-    if (!fault.number) fault = amounts(&t, contents, content_count, g);
+    if (!fault.number) fault = amounts(&t, contents, content_count, g, d);
     if (!fault.number) {
         hemtaluq_weigh_answer w = weigh_table(&t, laid, 0, 0);
         if (w.kind == HEMTALUQ_PASSED) {
             uint64_t sum = 0;
             for (size_t i = 0; i < weight_count; i++) sum += (uint64_t)weights[i] * contents[i];
             a.kind = HEMTALUQ_CEILING;
-            a.ceiling = w.base + w.most_states * sum + w.per_progress * g;
+            a.ceiling = w.base + w.most_states * sum + w.per_progress * g + w.per_doubling * d;
             a.price_class = a.ceiling ? (uint32_t)(64 - __builtin_clzll(a.ceiling)) : 0;
             return a;
         }

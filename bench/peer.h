@@ -10,7 +10,7 @@ hemtaluq_read_answer peer_decode(const uint8_t *file, size_t file_length);
 hemtaluq_weigh_answer peer_weigh(const uint8_t *file, size_t file_length, const uint16_t *weights, size_t weight_count,
                                  uint16_t *cycle, size_t cycle_length);
 hemtaluq_quote_answer peer_quote(const uint8_t *file, size_t file_length, const uint16_t *weights, size_t weight_count,
-                                 const uint32_t *contents, size_t content_count, uint32_t g);
+                                 const uint32_t *contents, size_t content_count, uint32_t g, uint32_t d);
 hemtaluq_list_answer peer_list(const uint8_t *file, size_t file_length, uint32_t machine, uint16_t *out, size_t out_length);
 hemtaluq_confirm_answer peer_confirm(const uint8_t *file, size_t file_length, const uint32_t *set, size_t set_length);
 hemtaluq_write_answer peer_write(const uint16_t *numbers, size_t number_count, uint8_t *out, size_t out_length);

@@ -25,7 +25,9 @@
  * a program can see at its start whether that is the library of its header: hemtaluq_version() == HEMTALUQ_VERSION.
  * 1: the first. 2: the cycle that weigh shows is a shortest one. 3: write, with kind 8 and numbers 23 to 25. 4: number 26;
  * files and lists with a twin row were accepted before. 5: a row can take and send; a row of write's list has six numbers,
- * with kind 3; the longest file and the longest list are longer; files with such rows were refused with 4 before.
+ * with kind 3; the longest file and the longest list are longer; files with such rows were refused with 4 before. 6: weigh
+ * hands back per_doubling and quote takes d, the most doublings; the largest ceiling is larger; quotes of before are those
+ * with d 0.
  */
 #ifndef HEMTALUQ_H
 #define HEMTALUQ_H
@@ -33,11 +35,11 @@
 #include <stddef.h>
 #include <stdint.h>
 
-#define HEMTALUQ_VERSION 5
+#define HEMTALUQ_VERSION 6
 
 #define hemtaluq_read hemtaluq_read_v1
-#define hemtaluq_weigh hemtaluq_weigh_v1
-#define hemtaluq_quote hemtaluq_quote_v1
+#define hemtaluq_weigh hemtaluq_weigh_v2
+#define hemtaluq_quote hemtaluq_quote_v2
 #define hemtaluq_list hemtaluq_list_v1
 #define hemtaluq_confirm hemtaluq_confirm_v1
 #define hemtaluq_write hemtaluq_write_v2
@@ -83,7 +85,7 @@ enum hemtaluq_fault {
     HEMTALUQ_NOT_QUIET_CYCLE = 17,  /* not a quiet simple cycle of the machine; index of the entry's first number */
     HEMTALUQ_SET_ENTRIES = 18,      /* the list is empty, or a 257th entry begins; the index where it begins */
     HEMTALUQ_CONTENT_COUNT = 20,    /* not one content for each type; 0 */
-    HEMTALUQ_AMOUNT_LIMIT = 21,     /* a content or g above 1,000,000; its index, for g the type count */
+    HEMTALUQ_AMOUNT_LIMIT = 21,     /* a content, g or d above 1,000,000; its index, for g the type count, for d one more */
     HEMTALUQ_NOT_PASSING = 22,      /* the weights do not pass; 0 */
     HEMTALUQ_LIST_LENGTH = 23,      /* the list of numbers ends early, or goes on; the index of the missing or first extra number */
     HEMTALUQ_LIST_NUMBER = 24,      /* a number of the list outside its values or the limits; its index */
@@ -99,12 +101,12 @@ enum hemtaluq_fault {
 #define HEMTALUQ_LONGEST_FILE 5154      /* bytes of the longest file that reads as a plant, and of the longest that write writes */
 #define HEMTALUQ_LONGEST_LIST 6178      /* numbers of the longest list that says a plant */
 #define HEMTALUQ_LARGEST_WEIGHT 1000
-#define HEMTALUQ_LARGEST_AMOUNT 1000000 /* a content, g, or the repeats of an entry */
+#define HEMTALUQ_LARGEST_AMOUNT 1000000 /* a content, g, d, or the repeats of an entry */
 #define HEMTALUQ_CYCLE_ENTRIES 64       /* the least length of the list lent to hemtaluq_weigh */
 #define HEMTALUQ_LISTED_STATES 24       /* the most states of a machine that is listed */
 #define HEMTALUQ_LISTED_ROWS 48         /* the most rows of a machine that is listed */
 #define HEMTALUQ_MOST_ENTRIES 256       /* of a cycle set */
-#define HEMTALUQ_LARGEST_CEILING UINT64_C(8192127513008)
+#define HEMTALUQ_LARGEST_CEILING UINT64_C(8256127513008)
 
 /* The counts of machines, types and rows of a plant file. */
 typedef struct {
@@ -120,8 +122,9 @@ hemtaluq_read_answer hemtaluq_read(const uint8_t *file, size_t file_length);
 
 /* Whether weights pass: one for each type, 0 to 1,000. The list cycle has at least 64 entries.
  * Passed: from any states and any contents, in whichever order the machines move and whatever the bus loses, the quiet
- * rows that happen number at most base + most_states * W + per_progress * g, where W sums weight times opening content
- * over the types and g counts the progress rows that happen. The list keeps its contents.
+ * rows that happen number at most base + most_states * W + per_progress * g + per_doubling * d, where W sums weight times
+ * opening content over the types, g counts the progress rows that happen and d the doublings: a doubling adds one message
+ * of a type that is present, as a bus does that delivers a message twice. The list keeps its contents.
  * Cycle: the first entries of the list are the rows of a shortest quiet simple cycle that weighs zero or more, in running
  * order: no such cycle of any machine has fewer rows. Which of equally short ones it is, and with which of its rows it
  * begins, is free. The later entries of the list are kept. */
@@ -132,14 +135,16 @@ typedef struct {
     uint64_t base;         /* passed: F */
     uint64_t most_states;  /* passed: n, the most states in one machine */
     uint64_t per_progress; /* passed: G */
+    uint64_t per_doubling; /* passed: n * w, w being the largest weight */
     size_t rows;           /* cycle: how many rows are shown, 1 to 64 */
 } hemtaluq_weigh_answer;
 
 hemtaluq_weigh_answer hemtaluq_weigh(const uint8_t *file, size_t file_length, const uint16_t *weights, size_t weight_count,
                                      uint16_t *cycle, size_t cycle_length);
 
-/* The ceiling F + n * W + G * g for weights, contents (one for each type) and g, each at most 1,000,000: no run that
- * opens with these contents, from any states, with at most g progress rows, has more quiet rows. */
+/* The ceiling F + n * W + G * g + n * w * d for weights as above, contents (one for each type), g and d; contents, g and d
+ * are at most 1,000,000 each. No run that opens with these contents, from any states, with at most g progress rows and at
+ * most d doublings, has more quiet rows. For a bus that never delivers a message twice, d is 0. */
 typedef struct {
     uint8_t kind;         /* HEMTALUQ_CEILING or HEMTALUQ_REFUSED */
     uint8_t number;       /* refused: the number of the fault */
@@ -149,7 +154,7 @@ typedef struct {
 } hemtaluq_quote_answer;
 
 hemtaluq_quote_answer hemtaluq_quote(const uint8_t *file, size_t file_length, const uint16_t *weights, size_t weight_count,
-                                     const uint32_t *contents, size_t content_count, uint32_t g);
+                                     const uint32_t *contents, size_t content_count, uint32_t g, uint32_t d);
 
 /* Every simple cycle of one machine, quiet or not, each once: its row count, then its rows, beginning with the row that
  * leaves its lowest state; cycles in ascending order of their row numbers, compared from the first row on. */

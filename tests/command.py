@@ -2,6 +2,7 @@
 
 - stored runs: data/command.txt, and the runs that README.md and examples/README.md show (command_runs.py)
 - plant texts: wrong ones, and the way there and back of the plants of the evidence (command_texts.py)
+- figures and ceilings: random plants, contents, progress rows and doublings (command_quotes.py)
 - weights: the plants of the stored certificates, and a solver that answers anything (command_weights.py)
 - pages: their structure, and in a browser (command_page.py)
 - installed by `tools/dist --prefix`: the command, the shared library by pkg-config, and what is refused: another version, no library
@@ -25,6 +26,7 @@ import figures
 building.dist()
 
 import command_page  # noqa: E402
+import command_quotes  # noqa: E402
 import command_runs  # noqa: E402
 import command_texts  # noqa: E402
 import command_weights  # noqa: E402
@@ -103,7 +105,7 @@ def hold_installed(folder):
         sys.exit('command.py: a file of an older command stays in the prefix, or an older library does not')
     os.symlink(os.path.join(prefix, 'bin', 'hemtaluq'), os.path.join(folder, 'linked'))
     for command in (os.path.join(prefix, 'bin', 'hemtaluq'), os.path.join(folder, 'linked')):
-        if not run([command, 'weigh', plant, '-w', '2', '1'], cwd='/').startswith('passed 10 2 9\n'):
+        if not run([command, 'weigh', plant, '-w', '2', '1'], cwd='/').startswith('passed 10 2 9 4\n'):
             sys.exit('command.py: the installed command answers otherwise')
     header = os.path.join(prefix, 'include', 'hemtaluq.h')
     with open(header, encoding='utf-8') as source:
@@ -127,7 +129,7 @@ def hold_linked(folder, prefix):
     program, environment = os.path.join(folder, 'cabinet'), dict(os.environ, PKG_CONFIG_PATH=os.path.join(prefix, 'lib', 'pkgconfig'))
     found = shlex.split(run(['pkg-config', '--cflags', '--libs', 'hemtaluq'], env=environment))
     run(['gcc', os.path.join(ROOT, 'examples/cabinet/cabinet.c'), *found, '-o', program])
-    arguments = [program] + [os.path.join(ROOT, 'examples/plant_a', name) for name in ('plant.bin', 'weights.bin')] + ['1', '3', '4']
+    arguments = [program] + [os.path.join(ROOT, 'examples/plant_a', name) for name in ('plant.bin', 'weights.bin')] + ['1', '0', '3', '4']
     version = os.readlink(os.path.join(prefix, 'lib', 'libhemtaluq.so')).rsplit('.', 1)[1]
     if run(['pkg-config', '--modversion', 'hemtaluq'], env=environment) != version + '\n' or 'libhemtaluq.so.' + version not in run(['objdump', '-p', program]):
         sys.exit('command.py: the shared library does not carry its version')
@@ -159,16 +161,18 @@ def main():
         hold_commands()
         tried, runs = hold_runs(folder)
         texts, plants, planted = command_texts.hold(seed)
+        quotes, planted_in_quotes = command_quotes.hold(seed)
         certificates, planted_in_weights = command_weights.hold(seed)
-        planted += planted_in_weights
+        planted += planted_in_quotes + planted_in_weights
         command_page.hold(folder)
         prefix, command = hold_installed(folder)
         if 'pkg-config' not in missing:
             hold_linked(folder, prefix)
         hold_broken(prefix, command)
-    figures.hold(command_runs=runs, command_texts=texts, command_plants=plants, command_planted=planted)
-    print('command.py: %d stored runs, %d texts, %d plants there and back, weights on %d plants, pages, installation, %d planted errors found%s'
-          % (tried, texts, plants, certificates, planted, '; not installed, so what needs them was not tried: ' + ', '.join(missing) if missing else ''))
+    figures.hold(command_runs=runs, command_texts=texts, command_plants=plants, command_quotes=quotes, command_planted=planted)
+    print('command.py: %d stored runs, %d texts, %d plants there and back, %d quotes, weights on %d plants, pages, installation, %d planted errors found%s'
+          % (tried, texts, plants, quotes, certificates, planted,
+             '; not installed, so what needs them was not tried: ' + ', '.join(missing) if missing else ''))
 
 
 if __name__ == '__main__':

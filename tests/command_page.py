@@ -14,11 +14,13 @@ from html.parser import HTMLParser
 import building
 import command_texts  # noqa: F401  (finds the package)
 from evidence_independent import Independent
+from evidence_plants import PLANT_A
 
 from hemtaluq import binding
 
 OUTSIDE = ('script', 'link', 'img', 'iframe', 'object', 'embed', 'base', 'form', 'image', 'use', 'a')
 PROGRESS_ROWS = (0, 1, 10, 100, 1000, 10000)
+CEILINGS = ('progress rows g', 'doublings d', 'ceiling', 'price class')
 TITLE = 'Kiln <2> & "co"'
 
 
@@ -95,20 +97,31 @@ def grouped(numbers):
     return ['{:,}'.format(number) for number in numbers]
 
 
+def ceilings(contents, progress_rows, doublings):
+    """The lines of the table of ceilings for plant A with the weights 2 and 1."""
+    independent, pairs = Independent(), [(g, d) for g in progress_rows for d in doublings]
+    plant = independent.plant(PLANT_A)
+    return [('', grouped([g, d, *map(int, independent.quote(plant, [2, 1], contents, g, d).split()[1:])])) for g, d in pairs]
+
+
+def hold_ceilings(page, owed):
+    if cells(page, CEILINGS) != owed:
+        sys.exit('command.py: report: the ceilings are %s' % cells(page, CEILINGS))
+
+
 def hold_passed(folder):
     text, page = made(folder, 'passed.html', 'plant_a/plant.txt', '-w', 'request=2', 'answer=1', '-c', '3', '4', '--title', TITLE, '--date', '16 November')
     data, text_bytes = [contents('examples/plant_a/' + name) for name in ('plant.bin', 'plant.txt')]
     independent, plant = Independent(), Independent().plant(data)
-    owed = [('', grouped([g, *map(int, independent.quote(plant, [2, 1], [3, 4], g).split()[1:])])) for g in PROGRESS_ROWS]
-    if cells(page, ('progress rows g', 'ceiling', 'price class')) != owed:
-        sys.exit('command.py: report: the ceilings are %s' % cells(page, ('progress rows g', 'ceiling', 'price class')))
-    meanings = ('with empty buffers', 'for each unit of W', 'for each progress row')
-    owed = [('', list(row)) for row in zip('FnG', independent.weigh(plant, [2, 1], 64).split()[1:], meanings)]
+    hold_ceilings(page, ceilings([3, 4], PROGRESS_ROWS, [0]))
+    meanings = ('with empty buffers', 'for each unit of W', 'for each progress row', 'for each doubling')
+    owed = [('', list(row)) for row in zip(('F', 'n', 'G', 'n × w'), independent.weigh(plant, [2, 1], 64).split()[1:], meanings)]
     if cells(page, ('figure', 'value', 'meaning')) != owed:
         sys.exit('command.py: report: the figures are otherwise')
     if cells(page, ('message type', 'weight', 'opening content')) != [('', ['request', '2', '3']), ('', ['answer', '1', '4'])]:
         sys.exit('command.py: report: the weights are otherwise')
-    for part in (TITLE, '16 November', 'Passed', '10 + 2 × W + 9 × g', 'From any states and any contents of the buffers', 'the bound holds', 'Not proved:',
+    for part in (TITLE, '16 November', 'Passed', '10 + 2 × W + 9 × g + 4 × d', 'From any states and any contents of the buffers', 'the bound holds',
+                 'Not proved:', 'at most g progress rows and at most d doublings', 'In a doubling the bus delivers one message twice', 'w the largest weight',
                  'plant file of 20 bytes', 'how many of the numbers 1, 2, 4, 8 and so on are not above', '2 machines, 2 types, 4 rows',
                  '2 × request + 1 × answer', 'version %d,' % binding.load().limits['VERSION'],
                  *(hashlib.sha256(one).hexdigest() for one in (data, text_bytes))):
@@ -147,17 +160,18 @@ def hold_both(folder):
 
 
 def hold_arguments(folder):
-    """The numbers of progress rows that are asked for; names that are no HTML; and the contents are judged where the weights do not pass."""
+    """The numbers of progress rows and doublings that are asked for; names that are no HTML; and all numbers are judged where the weights do not pass."""
     odd = os.path.join(folder, 'a<b>&.txt')
     with open(odd, 'wb') as out:
         out.write(contents('examples/plant_a/plant.txt'))
-    text, page = made(folder, 'odd.html', odd, '-w', '2', '1', '-g', '5', '-g', '7', '6')
-    asked = [row[1][0] for row in cells(page, ('progress rows g', 'ceiling', 'price class'))]
-    if asked != ['5', '7', '6'] or text.count('a&lt;b&gt;&amp;') != 3 or '<b>&' in text:
+    text, page = made(folder, 'odd.html', odd, '-w', '2', '1', '-g', '5', '-g', '7', '6', '-d', '3', '0', '-d', '1000000')
+    hold_ceilings(page, ceilings([0, 0], [5, 7, 6], [3, 0, 1000000]))
+    if text.count('a&lt;b&gt;&amp;') != 3 or '<b>&' in text:
         sys.exit('command.py: report: the arguments are taken otherwise')
-    done = command(folder, 'report', odd, '-w', '1', '1', '-c', '1000001', '0', '-o', 'none.html')
-    if done.returncode != 2 or 'refused 21 0' not in done.stderr or os.path.exists(os.path.join(folder, 'none.html')):
-        sys.exit('command.py: report: contents above the limit: %s' % (done,))
+    for place, words in enumerate((('-c', '1000001', '0'), ('-c', '0', '1000001'), ('-g', '0', '1000001'), ('-d', '0', '1000001'))):
+        done = command(folder, 'report', odd, '-w', '1', '1', *words, '-o', 'none.html')
+        if done.returncode != 2 or 'refused 21 %d' % place not in done.stderr or os.path.exists(os.path.join(folder, 'none.html')):
+            sys.exit('command.py: report: a number above the limit: %s' % (done,))
 
 
 def hold_drawing(folder):

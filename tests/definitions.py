@@ -1,11 +1,11 @@
 """Compare the definitions of crate livelock with a second implementation.
 
-The functions below were written from the scope document ("Runs", "Cycles and weighing",
-"Quoting", "Cycle sets"), in another style than the definitions: cycles are enumerated, runs
+The functions below were written from the documents ("Runs", "Cycles and weighing", "Quoting",
+"Cycle sets"; L6 for doublings), in another style than the definitions: cycles are enumerated, runs
 are simulated on dictionaries. For random plants this script states as theorems, in a crate
 outside of the repository, that the definitions compute the same numbers, and has the kit's
 `rt` check them. It also holds runs to the ceiling where weights pass: long random ones, and
-ones that put progress off as long as they can.
+ones that put progress off as long as they can, with and without doublings.
 
     python3 tests/definitions.py [SEED]
 """
@@ -20,6 +20,7 @@ from figures import SEED, hold
 
 ROOT = os.path.dirname(os.path.dirname(os.path.abspath(__file__)))
 PLANTS = 40
+HELD = 800          # plants whose runs are held to the ceiling
 LONG_RUN = 20000
 LACKING = [3, 1]    # opening contents of two types that a plant lacks
 
@@ -57,9 +58,9 @@ def simulate(plant, states, contents, events):
     state, content = dict(enumerate(states)), dict(enumerate(contents))
     happened = []
     for kind, number in events:
-        if kind == 'loss':
+        if kind != 'row':
             if number < plant.types and content[number] > 0:
-                content[number] -= 1
+                content[number] += {'loss': -1, 'doubling': 1}[kind]
                 happened.append((kind, number))
             continue
         if number >= len(plant.rows):
@@ -76,19 +77,17 @@ def simulate(plant, states, contents, events):
     return happened, [state[m] for m in range(len(states))], [content[t] for t in range(len(contents))]
 
 
-def rows_counted(plant, happened):
-    """The quiet rows and the progress rows among events that happened."""
+def counted(plant, happened):
+    """The quiet rows, the progress rows and the doublings among events that happened."""
     marks = [plant.rows[number].progress for kind, number in happened if kind == 'row']
-    return marks.count(False), marks.count(True)
+    return marks.count(False), marks.count(True), sum(kind == 'doubling' for kind, _ in happened)
 
 
 def random_events(rng, plant, count):
+    """Losses and doublings are at times of types that the plant lacks, and rows of a number that it lacks."""
     events = []
-    for _ in range(count):
-        if rng.random() < 0.15:
-            events.append(('loss', rng.randrange(plant.types + 2)))
-        else:
-            events.append(('row', rng.randrange(len(plant.rows) + 1)))
+    for kind in rng.choices(['row', 'loss', 'doubling'], [7, 1.5, 1.5], k=count):
+        events.append((kind, rng.randrange(len(plant.rows) + 1 if kind == 'row' else plant.types + 2)))
     return events
 
 
@@ -139,7 +138,12 @@ def passes(plant, weights):
 def figures(plant, weights):
     s = sum(n - 1 for n in plant.states)
     n, w = max(plant.states), max(weights, default=0)
-    return s + n * w * s, n, n - 1 + n * n * w
+    return s + n * w * s, n, n - 1 + n * n * w, n * w
+
+
+def ceiling(plant, weights, contents, g, d):
+    f, n, per_progress, per_doubling = figures(plant, weights)
+    return f + n * sum(w * x for w, x in zip(weights, contents)) + per_progress * g + per_doubling * d
 
 
 def set_sums(plant, entries):
@@ -188,10 +192,10 @@ use lib.ListN.{getD}
 use lib.IntN.{ℤ, pos, negsuc}
 use Rattle.livelock.specs.Lists.{below, sum, sumℤ, greatest}
 use Rattle.livelock.specs.Plants.{Plant, rowWith, hasProgress}
-use Rattle.livelock.specs.Runs.{Configuration, Event, row, loss, canHappen, changed, after, afterAll, run}
-use Rattle.livelock.specs.Runs.{isQuietRow, isProgressRow, quietRows, progressRows}
+use Rattle.livelock.specs.Runs.{Configuration, Event, row, loss, doubling, canHappen, changed, after, afterAll, run}
+use Rattle.livelock.specs.Runs.{isQuietRow, isProgressRow, isDoubling, quietRows, progressRows, doublings}
 use Rattle.livelock.specs.Weights.{cycleWeight}
-use Rattle.livelock.specs.Figures.{mostStates, base, perProgress, figuresOf, contentsWeight, ceilingOf}
+use Rattle.livelock.specs.Figures.{mostStates, base, perProgress, perDoubling, figuresOf, contentsWeight, ceilingOf}
 use Rattle.livelock.specs.CycleSets.{Entry, setEffect}
 use Rattle.livelock.specs.Tests.{every, isDistinct, isWalk, isSimpleCycle, isQuietCycle}
 use Rattle.livelock.proofs.Tests.{isWellFormed}
@@ -199,7 +203,7 @@ use Rattle.livelock.specs.Graphs.{via}
 use Rattle.livelock.proofs.Graphs.{longest}
 use Rattle.livelock.proofs.Decision.{statePotential, isPassing}
 '''
-UNFOLD = ('below sum sumℤ greatest hasProgress canHappen changed after afterAll run isQuietRow isProgressRow '
+UNFOLD = ('below sum sumℤ greatest hasProgress canHappen changed after afterAll run isQuietRow isProgressRow isDoubling '
           'cycleWeight setEffect every isDistinct isWalk via longest statePotential')
 
 
@@ -227,21 +231,22 @@ def state(theorems, rng, i, plant):
     weights = [rng.randint(0, 4) for _ in range(plant.types)]
     ws = numbers(weights)
     theorems.define(p, 'Plant', plant_text(plant))
-    f, n, g = figures(plant, weights)
-    theorems.equal('figures%d' % i, [('base %s %s' % (p, ws), str(f)), ('mostStates %s' % p, str(n)),
-                                     ('perProgress %s %s' % (p, ws), str(g)), ('isWellFormed %s' % p, 'true'),
+    f, n, per_progress, per_doubling = figures(plant, weights)
+    theorems.equal('figures%d' % i, [('base %s %s' % (p, ws), str(f)), ('mostStates %s' % p, str(n)), ('perProgress %s %s' % (p, ws), str(per_progress)),
+                                     ('perDoubling %s %s' % (p, ws), str(per_doubling)), ('isWellFormed %s' % p, 'true'),
                                      ('isPassing %s %s' % (p, ws), truth(passes(plant, weights)))], p)
 
     states = [rng.randrange(count) for count in plant.states]
     contents = [rng.randint(0, 3) for _ in range(plant.types)] + LACKING
     events = random_events(rng, plant, 25)
     happened, end, left = simulate(plant, states, contents, events)
-    quiet, progress = rows_counted(plant, happened)
+    quiet, progress, doubled = counted(plant, happened)
     theorems.define(c, 'Configuration', 'record { state = λ m. getD %s m 0; content = λ t. getD %s t 0 }' % (numbers(states), numbers(contents)))
     theorems.define('events%d' % i, 'List Event', events_text(events))
-    bound = f + n * sum(w * x for w, x in zip(weights, contents)) + g * progress
-    theorems.equal('run%d' % i, [('quietRows %s %s events%d' % (p, c, i), str(quiet)), ('progressRows %s %s events%d' % (p, c, i), str(progress)),
-                                 ('ceilingOf (figuresOf %s %s) (contentsWeight %s %s (%s .content)) %d' % (p, ws, p, ws, c, progress), str(bound))]
+    counts = [('%s %s %s events%d' % (name, p, c, i), str(x)) for name, x in (('quietRows', quiet), ('progressRows', progress), ('doublings', doubled))]
+    owed = ('ceilingOf (figuresOf %s %s) (contentsWeight %s %s (%s .content)) %d %d' % (p, ws, p, ws, c, progress, doubled),
+            str(ceiling(plant, weights, contents, progress, doubled)))
+    theorems.equal('run%d' % i, counts + [owed]
                    + [('afterAll %s %s events%d .state %d' % (p, c, i, m), str(s)) for m, s in enumerate(end)]
                    + [('afterAll %s %s events%d .content %d' % (p, c, i, t), str(x)) for t, x in enumerate(left)]
                    + [('run %s %s events%d' % (p, c, i), events_text(happened))], '%s %s events%d' % (p, c, i))
@@ -280,10 +285,17 @@ def check(text):
             sys.exit('definitions.py: rt does not find the numbers of the second implementation:\n' + '\n'.join(lines[:20]))
 
 
-def delay_progress(rng, plant, states, contents, limit):
-    """A run that takes quiet rows as long as one is possible, and at most `limit` progress rows; the events."""
+def delay_progress(rng, plant, weights, states, contents, limit, doublings):
+    """A run that takes quiet rows as long as one is possible, at most `limit` progress rows, and doubles up to so many messages, of a heaviest type
+    that is present; the events."""
     state, content, events, progress = list(states), list(contents), [], 0
     while len(events) < LONG_RUN:
+        present = [t for t, x in enumerate(content) if x]
+        if present and doublings and rng.random() < 0.2:
+            doublings -= 1
+            events.append(('doubling', max(present, key=lambda t: weights[t])))
+            content[events[-1][1]] += 1
+            continue
         possible = [k for k, r in enumerate(plant.rows)
                     if state[r.machine] == r.left and (r.taken is None or content[r.taken] > 0)]
         quiet = [k for k in possible if not plant.rows[k].progress]
@@ -302,41 +314,40 @@ def delay_progress(rng, plant, states, contents, limit):
 
 
 def hold_to_the_ceiling(rng, plant):
-    """Runs of a plant with weights that pass, if some are found: how many, and the largest share of a ceiling that was used."""
+    """Runs of a plant with weights that pass, if some are found: how many, and the largest share of a ceiling that was used, of all runs and of those
+    whose doublings count."""
     for _ in range(20):
-        weights = [rng.randint(0, 6) for _ in range(plant.types)]
+        weights = [rng.randint(0, rng.choice([1, 6])) for _ in range(plant.types)]
         if plant.rows and passes(plant, weights):
             break
     else:
-        return 0, 0.0
-    share = 0.0
-    f, n, g = figures(plant, weights)
+        return 0, 0.0, 0.0
+    shares, with_doublings = [0.0], [0.0]
     for attempt in range(4):
         states = [rng.randrange(count) for count in plant.states]
         contents = [rng.randint(0, 20) for _ in range(plant.types)]
-        events = random_events(rng, plant, LONG_RUN) if attempt == 0 else delay_progress(rng, plant, states, contents, 50)
-        quiet, progress = rows_counted(plant, simulate(plant, states, contents, events)[0])
-        bound = f + n * sum(w * x for w, x in zip(weights, contents)) + g * progress
+        events = random_events(rng, plant, LONG_RUN) if attempt == 0 else delay_progress(rng, plant, weights, states, contents, 50, 20 * (attempt - 1))
+        quiet, progress, doubled = counted(plant, simulate(plant, states, contents, events)[0])
+        bound = ceiling(plant, weights, contents, progress, doubled)
         if quiet > bound:
             sys.exit('definitions.py: %d quiet rows, but the ceiling is %d: %s' % (quiet, bound, plant_text(plant)))
-        share = max(share, quiet / bound if bound else 0.0)
-    return 4, share
+        shares.append(quiet / bound if bound else 0.0)
+        with_doublings += shares[-1:] * (bound > ceiling(plant, weights, contents, progress, 0))
+    return 4, max(shares), max(with_doublings)
 
 
 def main():
     seed = int(sys.argv[1]) if len(sys.argv) > 1 else SEED
     rng = random.Random(seed)
-    theorems, runs, share = Theorems(), 0, 0.0
+    theorems = Theorems()
     for i in range(PLANTS):
-        plant = random_plant(rng)
-        state(theorems, rng, i, plant)
-        held, used = hold_to_the_ceiling(rng, plant)
-        runs, share = runs + held, max(share, used)
+        state(theorems, rng, i, random_plant(rng))
+    runs, shares, with_doublings = zip(*(hold_to_the_ceiling(rng, random_plant(rng)) for _ in range(HELD)))
     check(theorems.text)
-    print('definitions.py: seed %d: %d plants, %d numbers agree; %d runs within their ceilings, the closest at %d %%'
-          % (seed, PLANTS, theorems.count, runs, 100 * share))
-    if seed == SEED and share < 1:
-        sys.exit('definitions.py: no run comes to its ceiling')
+    print('definitions.py: seed %d: %d plants, %d numbers agree; %d runs within their ceilings, the closest at %d %%, and at %d %% with doublings'
+          % (seed, PLANTS, theorems.count, sum(runs), 100 * max(shares), 100 * max(with_doublings)))
+    if seed == SEED and max(with_doublings) < 1:
+        sys.exit('definitions.py: no run with doublings comes to its ceiling')
     if seed == SEED:
         hold(defined_numbers=theorems.count)
 

@@ -51,7 +51,7 @@ def owed(other, call, plant, q, got):
     if call == 'read':
         return other.read(plant)
     if call == 'quote':
-        return other.quote(plant, q.weights, q.contents, q.g)
+        return other.quote(plant, q.weights, q.contents, q.g, q.d)
     if call == 'confirm':
         return other.confirm(plant, q.set)
     if call == 'list':
@@ -94,8 +94,8 @@ def compare(part, program, requests):
     for q, answer in zip(requests, got):
         wrong = disagreement(INDEPENDENT, q, answer)
         if wrong:
-            sys.exit('evidence: %s: file %s, weights %s, contents %s, g %d, machine %d, rooms %d, %d and %d, set %s, list %s: %s'
-                     % (part, q.file.hex(' '), q.weights, q.contents, q.g, q.machine, q.cycle_room, q.list_room, q.write_room, q.set, q.numbers, wrong))
+            sys.exit('evidence: %s: file %s, weights %s, contents %s, g %d, d %d, machine %d, rooms %d, %d and %d, set %s, list %s: %s'
+                     % (part, q.file.hex(' '), q.weights, q.contents, q.g, q.d, q.machine, q.cycle_room, q.list_room, q.write_room, q.set, q.numbers, wrong))
     return list(zip(requests, got))
 
 
@@ -133,9 +133,9 @@ def request_for(rng, data):
     plant = INDEPENDENT.plant(data)
     machine = rng.choice([rng.randrange(len(plant.states))] * 30 + [len(plant.states), 16, 4294967295])
     room, made = room_for(rng, plant, machine)
-    g = rng.choice([0, 1, 2, rng.randrange(1000), 1000000] * 10 + [1000001, 4294967295])
+    g, d = (rng.choice([0, 1, 2, rng.randrange(1000), 1000000] * 10 + [1000001, 4294967295]) for _ in range(2))
     return calls.request(data, plants.weights_for(rng, plant.types), rng.choice([64] * 40 + [63, 65, 70, 0]),
-                         plants.contents_for(rng, plant.types), g, machine, room, set_for(rng, plant), INDEPENDENT.numbers(plant), len(data), made)
+                         plants.contents_for(rng, plant.types), g, d, machine, room, set_for(rng, plant), INDEPENDENT.numbers(plant), len(data), made)
 
 
 def shaped(rng, count):
@@ -157,12 +157,12 @@ def edges():
         yield calls.request(data, calls=('read', 'weigh', 'quote', 'confirm'))
     for data, numbers in itertools.islice(cycle_sets.cases(random.Random(0)), 13):
         yield calls.request(data, set=numbers, calls=('confirm',))
-    for data, weights, contents, g in itertools.islice(quoting.cases(random.Random(0)), 19):
-        yield calls.request(data, weights, contents=contents, g=g, calls=('weigh', 'quote'))
+    for data, weights, contents, g, d in quoting.limits():
+        yield calls.request(data, weights, contents=contents, g=g, d=d, calls=('weigh', 'quote'))
     for data, machine, before in itertools.islice(listing.cases(random.Random(0)), 30):
         yield calls.request(data, machine=machine, list_room=len(before), calls=('list',))
-    for data, weights, contents, g in map(quoting.input_with_ceiling, quoting.edge_ceilings()):
-        yield calls.request(data, weights, contents=contents, g=g, calls=('quote',))
+    for data, weights, contents, g, d in map(quoting.input_with_ceiling, quoting.edge_ceilings()):
+        yield calls.request(data, weights, contents=contents, g=g, d=d, calls=('quote',))
     for last in (3, 4, 5, 6, 254, 255):
         yield calls.request(reading.counted(255, 255, 255, 255, last))
     for machines in plants.detours():
@@ -217,7 +217,7 @@ def damaged(long):
                 machine_room = i % 8
             except TooMany:
                 machine_room, made = 0, ('read', 'weigh', 'quote', 'confirm', 'write')
-            yield calls.request(variant, weights, 64, contents, i % 4, machine, max(0, machine_room), numbers, listed, len(variant), made)
+            yield calls.request(variant, weights, 64, contents, i % 4, i % 3, machine, max(0, machine_room), numbers, listed, len(variant), made)
 
 
 def twins(rng):
@@ -228,7 +228,7 @@ def twins(rng):
             yield request_for(rng, data)
         except Refused:
             types, more = data[1], rng.choice([0, 0, 1])
-            yield calls.request(data, [1] * types, 64 - more, [1] * (types + more), 1, 16 * more, 4, [0, 1, 1, 0][4 * more:])
+            yield calls.request(data, [1] * types, 64 - more, [1] * (types + more), 1, 1, 16 * more, 4, [0, 1, 1, 0][4 * more:])
 
 
 def longest_truncations():
@@ -244,7 +244,7 @@ def lengths(rng, count):
         data = plants.plant_file(rng, *rng.choice([plants.small, plants.passing, plants.rings])(rng))
         q = request_for(rng, data)._replace(cycle_room=64)
         types = data[1]
-        q = q._replace(weights=[t + 1 for t in range(types)], contents=[1] * types, g=1)
+        q = q._replace(weights=[t + 1 for t in range(types)], contents=[1] * types, g=1, d=1)
         for room in range(71):
             yield q._replace(cycle_room=room, calls=('weigh',))
         for k in range(types + 3):
@@ -332,20 +332,28 @@ def product_catches(folder, pairs, twin_pairs):
     return len(wrong)
 
 
+def kind_of(q, call, answer):
+    """What an answer is; of 21 also whether it is that of a content, of g or of d."""
+    words = answer.split()
+    kind = ' '.join([call, words[0]] + words[1:2] * (words[0] == 'refused'))
+    if kind != 'quote refused 21':
+        return kind
+    return '%s for %s' % (kind, {len(q.contents): 'g', len(q.contents) + 1: 'd'}.get(int(words[2]), 'a content'))
+
+
 def kinds(pairs):
     """How often each answer was met."""
     count = {}
-    for _, got in pairs:
+    for q, got in pairs:
         for call, answer in got.items():
-            words = answer.split()
-            kind = ' '.join([call, words[0]] + words[1:2] * (words[0] == 'refused'))
+            kind = kind_of(q, call, answer)
             count[kind] = count.get(kind, 0) + 1
     return count
 
 
 NEEDED = (['read counts', 'weigh passed', 'weigh cycle', 'quote ceiling', 'list listed', 'confirm confirmed', 'confirm negative', 'write wrote']
           + ['%s refused %d' % (call, k) for call in calls.FILE_CALLS for k in [*range(1, 9), 26]]
-          + ['weigh refused %d' % k for k in (9, 10, 11)] + ['quote refused %d' % k for k in (9, 10, 20, 21, 22)]
+          + ['weigh refused %d' % k for k in (9, 10, 11)] + ['quote refused %s' % k for k in (9, 10, 20, '21 for a content', '21 for g', '21 for d', 22)]
           + ['list refused %d' % k for k in (12, 13, 14)] + ['confirm refused %d' % k for k in (15, 16, 17, 18)]
           + ['write refused %d' % k for k in (23, 24, 25, 26)])
 
@@ -362,7 +370,7 @@ def main(program, folder, seed, long):
     whole = compare('plants', program, shaped(rng, PLANTS * (10 if long else 1)))
     harmed = compare('damage', program, list(damaged(long)) + list(longest_truncations()))
     twin = compare('twins', program, list(twins(random.Random(seed + 6))))
-    lent = compare('lengths', program, list(lengths(rng, 400 if long else 80)))
+    lent = compare('lengths', program, list(lengths(rng, 400 if long else 90)))
     lists = compare('lists', program, list(evidence_lists.damaged([data for data, _ in damaged_files(long)], INDEPENDENT)))
     twin_lists = compare('lists with twins', program, [evidence_lists.request(*given) for given in evidence_twins.lists(random.Random(seed + 7))])
     buffers = compare('buffers', program, list(evidence_lists.lengths(random.Random(seed + 5), INDEPENDENT, 1000 if long else 200)))

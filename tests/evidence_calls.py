@@ -18,7 +18,7 @@ FILE_CALLS = ('read', 'weigh', 'quote', 'list', 'confirm')
 CALLS = FILE_CALLS + ('write',)
 
 # A request: `calls` says which of the six are made; `cycle_room` and `list_room` are the lengths of the lent lists, `write_room` that of the buffer.
-Request = namedtuple('Request', 'file weights cycle_room contents g machine list_room set numbers write_room calls')
+Request = namedtuple('Request', 'file weights cycle_room contents g d machine list_room set numbers write_room calls')
 
 DRIVER = r'''#include <stdio.h>
 #include <stdlib.h>
@@ -65,15 +65,16 @@ static void put_weigh(const uint8_t *f, uint32_t n, const uint16_t *w, uint32_t 
     uint8_t *copy;
     uint16_t *list = lend(2, room, &copy);
     hemtaluq_weigh_answer a = hemtaluq_weigh(f, n, w, count, list, room);
-    unsigned long long base = a.base, most_states = a.most_states, per_progress = a.per_progress;
-    if (a.kind == HEMTALUQ_PASSED) { printf("passed %llu %llu %llu", base, most_states, per_progress); zero(a.number | a.place | a.rows); }
-    else if (a.kind == HEMTALUQ_CYCLE) { printf("cycle"); zero(a.number | a.place | a.base | a.most_states | a.per_progress); }
-    else if (a.kind == HEMTALUQ_REFUSED) { printf("refused %d %zu", a.number, a.place); zero(a.base | a.most_states | a.per_progress | a.rows); }
+    unsigned long long base = a.base, most_states = a.most_states, per_progress = a.per_progress, per_doubling = a.per_doubling;
+    uint64_t figures = a.base | a.most_states | a.per_progress | a.per_doubling;
+    if (a.kind == HEMTALUQ_PASSED) { printf("passed %llu %llu %llu %llu", base, most_states, per_progress, per_doubling); zero(a.number | a.place | a.rows); }
+    else if (a.kind == HEMTALUQ_CYCLE) { printf("cycle"); zero(a.number | a.place | figures); }
+    else if (a.kind == HEMTALUQ_REFUSED) { printf("refused %d %zu", a.number, a.place); zero(figures | a.rows); }
     else printf("kind %d", a.kind);
     lent(list, copy, 2, room, a.kind == HEMTALUQ_CYCLE ? a.rows : 0);
 }
-static void put_quote(const uint8_t *f, uint32_t n, const uint16_t *w, uint32_t count, const uint32_t *c, uint32_t contents, uint32_t g) {
-    hemtaluq_quote_answer a = hemtaluq_quote(f, n, w, count, c, contents, g);
+static void put_quote(const uint8_t *f, uint32_t n, const uint16_t *w, uint32_t count, const uint32_t *c, uint32_t contents, uint32_t g, uint32_t d) {
+    hemtaluq_quote_answer a = hemtaluq_quote(f, n, w, count, c, contents, g, d);
     if (a.kind == HEMTALUQ_CEILING) { printf("ceiling %llu %u", (unsigned long long)a.ceiling, (unsigned)a.price_class); zero(a.number | a.place); }
     else if (a.kind == HEMTALUQ_REFUSED) { printf("refused %d %zu", a.number, a.place); zero(a.ceiling | a.price_class); }
     else printf("kind %d", a.kind);
@@ -103,26 +104,26 @@ static void put_write(const uint16_t *numbers, uint32_t count, uint32_t room) {
     lent(out, copy, 1, room, a.kind == HEMTALUQ_WROTE ? a.length : 0);
 }
 int main(void) {
-    uint32_t h[11];
-    while (fread(h, 4, 11, stdin) == 11) {
+    uint32_t h[12];
+    while (fread(h, 4, 12, stdin) == 12) {
         void *copies[5];
         uint8_t *file = take(1, h[0], &copies[0]);
         uint16_t *weights = take(2, h[1], &copies[1]);
-        uint32_t *contents = take(4, h[3], &copies[2]), *set = take(4, h[7], &copies[3]);
-        uint16_t *numbers = take(2, h[8], &copies[4]);
-        if (h[10] & 1) put_read(file, h[0]);
+        uint32_t *contents = take(4, h[3], &copies[2]), *set = take(4, h[8], &copies[3]);
+        uint16_t *numbers = take(2, h[9], &copies[4]);
+        if (h[11] & 1) put_read(file, h[0]);
         printf(";");
-        if (h[10] & 2) put_weigh(file, h[0], weights, h[1], h[2]);
+        if (h[11] & 2) put_weigh(file, h[0], weights, h[1], h[2]);
         printf(";");
-        if (h[10] & 4) put_quote(file, h[0], weights, h[1], contents, h[3], h[4]);
+        if (h[11] & 4) put_quote(file, h[0], weights, h[1], contents, h[3], h[4], h[5]);
         printf(";");
-        if (h[10] & 8) put_list(file, h[0], h[5], h[6]);
+        if (h[11] & 8) put_list(file, h[0], h[6], h[7]);
         printf(";");
-        if (h[10] & 16) put_confirm(file, h[0], set, h[7]);
+        if (h[11] & 16) put_confirm(file, h[0], set, h[8]);
         printf(";");
-        if (h[10] & 32) put_write(numbers, h[8], h[9]);
+        if (h[11] & 32) put_write(numbers, h[9], h[10]);
         put_back(file, copies[0], h[0]); put_back(weights, copies[1], 2 * h[1]);
-        put_back(contents, copies[2], 4 * h[3]); put_back(set, copies[3], 4 * h[7]); put_back(numbers, copies[4], 2 * h[8]);
+        put_back(contents, copies[2], 4 * h[3]); put_back(set, copies[3], 4 * h[8]); put_back(numbers, copies[4], 2 * h[9]);
         printf("\n");
     }
     return 0;
@@ -152,9 +153,9 @@ def build(folder):
 
 
 def packed(q):
-    head = (len(q.file), len(q.weights), q.cycle_room, len(q.contents), q.g, q.machine, q.list_room, len(q.set), len(q.numbers), q.write_room,
+    head = (len(q.file), len(q.weights), q.cycle_room, len(q.contents), q.g, q.d, q.machine, q.list_room, len(q.set), len(q.numbers), q.write_room,
             sum(1 << CALLS.index(c) for c in q.calls))
-    return (struct.pack('<11I', *head) + q.file + struct.pack('<%dH' % len(q.weights), *q.weights) + struct.pack('<%dI' % len(q.contents), *q.contents)
+    return (struct.pack('<12I', *head) + q.file + struct.pack('<%dH' % len(q.weights), *q.weights) + struct.pack('<%dI' % len(q.contents), *q.contents)
             + struct.pack('<%dI' % len(q.set), *q.set) + struct.pack('<%dH' % len(q.numbers), *q.numbers))
 
 
@@ -174,5 +175,5 @@ def answers(program, requests, given=None):
     return result
 
 
-def request(file=b'', weights=(), cycle_room=64, contents=(), g=0, machine=0, list_room=0, set=(), numbers=(), write_room=0, calls=FILE_CALLS):
-    return Request(bytes(file), list(weights), cycle_room, list(contents), g, machine, list_room, list(set), list(numbers), write_room, calls)
+def request(file=b'', weights=(), cycle_room=64, contents=(), g=0, d=0, machine=0, list_room=0, set=(), numbers=(), write_room=0, calls=FILE_CALLS):
+    return Request(bytes(file), list(weights), cycle_room, list(contents), g, d, machine, list_room, list(set), list(numbers), write_room, calls)

@@ -196,9 +196,12 @@ class Independent:
     def most_states(self, plant):
         return max(plant.states)
 
+    def per_doubling(self, n, w):
+        return n * w
+
     def figures(self, plant, weights):
         n, s, w = self.most_states(plant), sum(x - 1 for x in plant.states), max(weights, default=0)
-        return s + n * w * s, n, n - 1 + n * n * w
+        return s + n * w * s, n, n - 1 + n * n * w, self.per_doubling(n, w)
 
     def check_weights(self, plant, weights):
         if len(weights) != plant.types:
@@ -245,24 +248,37 @@ class Independent:
         self.check_weights(plant, weights)
         if room < 64:
             raise Refused(11, 0)
-        return 'passed %d %d %d' % self.figures(plant, weights) if self.passes(plant, weights) else None
+        return 'passed %d %d %d %d' % self.figures(plant, weights) if self.passes(plant, weights) else None
 
     # ---- quoting
 
     def price_class(self, ceiling):
         return sum(2 ** k <= ceiling for k in range(43))
 
-    def quote(self, plant, weights, contents, g):
-        self.check_weights(plant, weights)
+    def amounts(self, contents, g, d):
+        """The numbers that 21 judges, with their places, in the order in which they are judged."""
+        return list(enumerate([*contents, g, d]))
+
+    def amount_fits(self, place, amount, types):
+        return amount <= 1000000
+
+    def check_amounts(self, plant, contents, g, d):
         if len(contents) != plant.types:
             raise Refused(20, 0)
-        for i, x in enumerate(list(contents) + [g]):
-            if x > 1000000:
-                raise Refused(21, i)
+        for place, x in self.amounts(contents, g, d):
+            if not self.amount_fits(place, x, plant.types):
+                raise Refused(21, place)
+
+    def ceiling(self, figures, content_weight, g, d):
+        f, n, per_progress, per_doubling = figures
+        return f + n * content_weight + per_progress * g + per_doubling * d
+
+    def quote(self, plant, weights, contents, g, d):
+        self.check_weights(plant, weights)
+        self.check_amounts(plant, contents, g, d)
         if not self.passes(plant, weights):
             raise Refused(22, 0)
-        f, n, per_progress = self.figures(plant, weights)
-        ceiling = f + n * sum(w * x for w, x in zip(weights, contents)) + per_progress * g
+        ceiling = self.ceiling(self.figures(plant, weights), sum(w * x for w, x in zip(weights, contents)), g, d)
         return 'ceiling %d %d' % (ceiling, self.price_class(ceiling))
 
     # ---- listing
@@ -490,6 +506,14 @@ def effect_with(moved):
     return effect
 
 
+def judged_in(*order):
+    """The numbers that 21 judges in another order, each with its place: of these names `contents` stands for all of them."""
+    def amounts(self, contents, g, d):
+        places = {'contents': list(enumerate(contents)), 'g': [(len(contents), g)], 'd': [(len(contents) + 1, d)]}
+        return [pair for name in order for pair in places[name]]
+    return amounts
+
+
 def with_most(index, most):
     """The greatest values of a row's numbers, with another for one of them; the kind and the count of types say which."""
     def most_in_row(self, states, types, kind):
@@ -541,12 +565,32 @@ WEIGHING_ERRORS = [
     planted('the shortest cycle of the last machine that fails is shown', searched=lambda self, counts: counts[-1:]),
     planted('the first cycle found is shown', fewest_in=lambda self, cycles: len(cycles[0][0])),
     planted('the lightest cycle is shown', fewest_in=lambda self, cycles: len(min(cycles, key=lambda c: c[1])[0])),
+    planted('w is handed back for n * w', per_doubling=lambda self, n, w: w),
+    planted('n is handed back for n * w', per_doubling=lambda self, n, w: n),
+    planted('n * n * w is handed back for n * w', per_doubling=lambda self, n, w: n * n * w),
+    planted('n * w is handed back only where w is above 1', per_doubling=lambda self, n, w: n * w if w > 1 else 0),
+    planted('G and n * w are exchanged', figures=lambda self, plant, weights: tuple(Independent.figures(self, plant, weights)[i] for i in (0, 1, 3, 2))),
 ]
 QUOTING_ERRORS = [
     planted('an edge equal to the ceiling does not count', price_class=lambda self, c: sum(2 ** k < c for k in range(43))),
     planted('42 edges', price_class=lambda self, c: sum(2 ** k <= c for k in range(42))),
     planted('the class begins at 1', price_class=lambda self, c: max(1, sum(2 ** k <= c for k in range(43)))),
     planted('a ceiling one below an edge has the class of the edge', price_class=lambda self, c: sum(2 ** k <= c + 1 for k in range(43))),
+    planted('d is not judged', amounts=judged_in('contents', 'g')),
+    planted('d is judged before g', amounts=judged_in('contents', 'd', 'g')),
+    planted('d is judged before the contents', amounts=judged_in('d', 'contents', 'g')),
+    planted('the place of d is that of g', amounts=lambda self, contents, g, d: [*enumerate([*contents, g]), (len(contents), d)]),
+    planted('the places of g and d are exchanged', amounts=lambda self, contents, g, d: [*enumerate(contents), (len(contents) + 1, g), (len(contents), d)]),
+    planted('the place of d is two past that of g', amounts=lambda self, contents, g, d: [*enumerate([*contents, g]), (len(contents) + 2, d)]),
+    planted('d may be 1,000,001', amount_fits=lambda self, place, amount, types: amount <= 1000000 + (place == types + 1)),
+    planted('d may be 999,999 at most', amount_fits=lambda self, place, amount, types: amount <= 1000000 - (place == types + 1)),
+    planted('n * w * d is left out of the ceiling', ceiling=lambda self, figures, weight, g, d: Independent.ceiling(self, figures, weight, g, 0)),
+    planted('g stands for d', ceiling=lambda self, figures, weight, g, d: Independent.ceiling(self, figures, weight, g, g)),
+    planted('g and d are exchanged', ceiling=lambda self, figures, weight, g, d: Independent.ceiling(self, figures, weight, d, g)),
+    planted('a doubling counts as a progress row', ceiling=lambda self, figures, weight, g, d: Independent.ceiling(self, figures, weight, g + d, 0)),
+    planted('w stands for n * w in the ceiling', per_doubling=lambda self, n, w: w),
+    planted('n stands for n * w in the ceiling', per_doubling=lambda self, n, w: n),
+    planted('of several doublings one counts', ceiling=lambda self, figures, weight, g, d: Independent.ceiling(self, figures, weight, g, min(d, 1))),
 ]
 LISTING_ERRORS = [
     planted('parallel rows are dropped', candidates=without_parallel_rows),
@@ -606,6 +650,8 @@ PROGRAM_ERRORS = [
     planted('the high byte comes first', weights_of=lambda self, data: [data[i] * 256 + data[i + 1] for i in range(0, len(data) - 1, 2)]),
     planted('an odd last byte is dropped', weights_of=lambda self, data: Independent.weights_of(self, data[:len(data) // 2 * 2])),
     planted('the count of weights is not judged', check_weights=lambda self, plant, weights: None),
+    planted('w is printed for n * w', per_doubling=lambda self, n, w: w),
+    planted('G and n * w are exchanged', figures=lambda self, plant, weights: tuple(Independent.figures(self, plant, weights)[i] for i in (0, 1, 3, 2))),
     planted('weight zero is good', good=lambda self, weight: weight <= 0),
     planted('the shortest cycle of the first machine that fails is shown', searched=lambda self, counts: counts[:1]),
 ]

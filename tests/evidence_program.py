@@ -23,8 +23,14 @@ INDEPENDENT = evidence_independent.Independent()
 NOT_WRITTEN = b'ceiling: the line could not be written to standard output\n'
 # Errors planted in the program's line: what is wrong, the line's first word, and the other words changed.
 LINE_ERRORS = [
-    ('n and G are exchanged', 'passed', lambda f, n, g: [f, g, n]),
-    ('F is one too low', 'passed', lambda f, n, g: [str(int(f) - 1), n, g]),
+    ('n and G are exchanged', 'passed', lambda f, n, g, d: [f, g, n, d]),
+    ('F is one too low', 'passed', lambda f, n, g, d: [str(int(f) - 1), n, g, d]),
+    ('n * w is left out', 'passed', lambda f, n, g, d: [f, n, g]),
+    ('n * w comes twice', 'passed', lambda f, n, g, d: [f, n, g, d, d]),
+    ('G and n * w are exchanged', 'passed', lambda f, n, g, d: [f, n, d, g]),
+    ('n * w comes first', 'passed', lambda f, n, g, d: [d, f, n, g]),
+    ('w stands for n * w', 'passed', lambda f, n, g, d: [f, n, g, str(int(d) // int(n))]),
+    ('n * w is left out where it is 0', 'passed', lambda f, n, g, d: [f, n, g] + [d] * (d != '0')),
     ('a place is one too far', 'refused', lambda number, place: [number, str(int(place) + 1)]),
     ('the last row of a cycle is left out', 'cycle', lambda *rows: rows[:-1]),
     ('a number has a zero before it', 'cycle', lambda first, *rows: ['0' + first, *rows]),
@@ -154,7 +160,7 @@ def main(seed, long):
                      % (plant and plant.hex(), weights and weights.hex(), line[:300], owed))
         kinds[line.split()[0]] = kinds.get(line.split()[0], 0) + 1
     twins = sum(line.startswith('refused 26 ') for _, _, line in pairs)
-    if pairs[0][2] != 'passed 10 2 9\n' or len(kinds) != 3 or min(twins, *kinds.values()) < 30:
+    if pairs[0][2] != 'passed 10 2 9 4\n' or len(kinds) != 3 or min(twins, *kinds.values()) < 30:
         sys.exit('evidence: program: %r for plant A; %s, %d of them with 26' % (pairs[0][2], kinds, twins))
     found, in_product = catches(pairs)
     missing = sum(plant is None or weights is None for plant, weights in cases)

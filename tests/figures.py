@@ -37,7 +37,9 @@ FIGURES = {
     'solved_anew': '# plants solved anew',
     'listed_machines': '# machines |',
     'events': '# events that happen',
+    'doublings': '# of them doublings',
     'maxima': '# exact maxima',
+    'maxima_with_doublings': '# of which meet the ceiling with a doubling',
     'stored_runs': '# stored runs |',
     'program_runs': '# runs, files missing',
     'program_missing': 'files missing in #',
@@ -49,6 +51,7 @@ FIGURES = {
     'command_texts': ', # texts |',
     'command_plants': '# plants there and back',
     'command_planted': '# planted errors found |',
+    'command_quotes': '# quotes of random plants',
 }
 # Numbers that are no figures.
 OTHERS = ['document 01', 'length 0', 'C99', '(1) to (4)', 'n = 1', 'w = 0']

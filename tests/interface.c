@@ -210,14 +210,14 @@ static void weigh_is(const char *what, const uint8_t *file, size_t length, const
     hemtaluq_weigh_answer a = hemtaluq_weigh(file, length, weights, count, cycle, room);
     for (size_t i = kept; i < 70; i++) good = good && cycle[i] == 7;
     check(what, good && a.kind == e.kind && a.number == e.number && a.place == e.place && a.base == e.base && a.most_states == e.most_states
-                    && a.per_progress == e.per_progress && a.rows == e.rows);
+                    && a.per_progress == e.per_progress && a.per_doubling == e.per_doubling && a.rows == e.rows);
 }
 
 static void weighing(void) {
     const uint16_t w10[] = {1, 0}, w11[] = {1, 1}, high[] = {1000, 1001}, three[] = {1, 2, 3};
-    hemtaluq_weigh_answer p21 = {HEMTALUQ_PASSED, 0, 0, 10, 2, 9, 0}, p10 = {HEMTALUQ_PASSED, 0, 0, 6, 2, 5, 0};
-    hemtaluq_weigh_answer shown = {HEMTALUQ_CYCLE, 0, 0, 0, 0, 0, 2}, none = {HEMTALUQ_PASSED, 0, 0, 0, 1, 0, 0};
-    hemtaluq_weigh_answer r9 = {HEMTALUQ_REFUSED, 9, 0, 0, 0, 0, 0}, r10 = {HEMTALUQ_REFUSED, 10, 1, 0, 0, 0, 0}, r11 = {HEMTALUQ_REFUSED, 11, 0, 0, 0, 0, 0};
+    hemtaluq_weigh_answer p21 = {HEMTALUQ_PASSED, 0, 0, 10, 2, 9, 4, 0}, p10 = {HEMTALUQ_PASSED, 0, 0, 6, 2, 5, 2, 0};
+    hemtaluq_weigh_answer shown = {HEMTALUQ_CYCLE, 0, 0, 0, 0, 0, 0, 2}, none = {HEMTALUQ_PASSED, 0, 0, 0, 1, 0, 0, 0};
+    hemtaluq_weigh_answer r9 = {HEMTALUQ_REFUSED, 9, 0, 0, 0, 0, 0, 0}, r10 = {HEMTALUQ_REFUSED, 10, 1, 0, 0, 0, 0, 0}, r11 = {HEMTALUQ_REFUSED, 11, 0, 0, 0, 0, 0, 0};
     uint16_t cycle[64], lower[64];
     for (size_t t = 0; t < 64; t++) lower[t] = t < 32;
     weigh_is("A, weights 2, 1", plant_a, sizeof plant_a, weights_2_1, 2, 64, p21, 0);
@@ -236,11 +236,12 @@ static void weighing(void) {
     check("the shortest ring is shown", a.rows == 2 && ((cycle[0] == 3 && cycle[1] == 4) || (cycle[0] == 4 && cycle[1] == 3)));
     /* Every row takes a type that weighs 1 and sends one that weighs 0. S is 16 * 63, n 64 and w 1. */
     a = hemtaluq_weigh(largest, HEMTALUQ_LONGEST_FILE, lower, 64, cycle, 64);
-    check("the largest plant passes", a.kind == HEMTALUQ_PASSED && a.base == 1008 + 64 * 1008 && a.most_states == 64 && a.per_progress == 63 + 64 * 64);
+    check("the largest plant passes", a.kind == HEMTALUQ_PASSED && a.base == 1008 + 64 * 1008 && a.most_states == 64 && a.per_progress == 63 + 64 * 64
+                                          && a.per_doubling == 64);
 }
 
-static void quote_is(const char *what, const uint8_t *file, size_t length, const uint16_t *weights, size_t count, const uint32_t *contents, size_t amounts, uint32_t g, hemtaluq_quote_answer e) {
-    hemtaluq_quote_answer a = hemtaluq_quote(file, length, weights, count, contents, amounts, g);
+static void quote_is(const char *what, const uint8_t *file, size_t length, const uint16_t *weights, size_t count, const uint32_t *contents, size_t amounts, uint32_t g, uint32_t d, hemtaluq_quote_answer e) {
+    hemtaluq_quote_answer a = hemtaluq_quote(file, length, weights, count, contents, amounts, g, d);
     check(what, a.kind == e.kind && a.number == e.number && a.place == e.place && a.ceiling == e.ceiling && a.price_class == e.price_class);
 }
 
@@ -249,22 +250,34 @@ static void quoting(void) {
     const uint16_t w11[] = {1, 1};
     const uint8_t machines[] = {16, 64, 64, 0, 64, 0, 64, 0, 64, 0, 64, 0, 64, 0, 64, 0, 64, 0, 64, 0, 64, 0, 64, 0, 64, 0, 64, 0, 64, 0, 64, 0, 64, 0};
     hemtaluq_quote_answer q39 = {HEMTALUQ_CEILING, 0, 6, 0, 39}, zero = {HEMTALUQ_CEILING, 0, 0, 0, 0}, top = {HEMTALUQ_CEILING, 0, 43, 0, HEMTALUQ_LARGEST_CEILING};
+    /* n is 2 and w 2, so that a doubling adds 4. */
+    hemtaluq_quote_answer q51 = {HEMTALUQ_CEILING, 0, 6, 0, 51}, doublings = {HEMTALUQ_CEILING, 0, 22, 0, 39 + 4 * 1000000};
     hemtaluq_quote_answer millions = {HEMTALUQ_CEILING, 0, 23, 0, 10 + 2 * 3000000};
-    hemtaluq_quote_answer r20 = {HEMTALUQ_REFUSED, 20, 0, 0, 0}, r21 = {HEMTALUQ_REFUSED, 21, 0, 1, 0}, rg = {HEMTALUQ_REFUSED, 21, 0, 2, 0}, r22 = {HEMTALUQ_REFUSED, 22, 0, 0, 0};
+    hemtaluq_quote_answer r20 = {HEMTALUQ_REFUSED, 20, 0, 0, 0}, r21 = {HEMTALUQ_REFUSED, 21, 0, 1, 0}, rg = {HEMTALUQ_REFUSED, 21, 0, 2, 0}, rd = {HEMTALUQ_REFUSED, 21, 0, 3, 0}, r22 = {HEMTALUQ_REFUSED, 22, 0, 0, 0};
+    hemtaluq_quote_answer untyped = {HEMTALUQ_REFUSED, 21, 0, 1, 0};
     uint16_t weights[64];
     uint32_t contents[64];
     for (size_t t = 0; t < 64; t++) {
         weights[t] = HEMTALUQ_LARGEST_WEIGHT;
         contents[t] = HEMTALUQ_LARGEST_AMOUNT;
     }
-    quote_is("A, contents 3, 4, g 1", plant_a, sizeof plant_a, weights_2_1, 2, c34, 2, 1, q39);
-    quote_is("one state", one_state, sizeof one_state, no_weights, 0, no_numbers, 0, 0, zero);
-    quote_is("the largest ceiling", machines, sizeof machines, weights, 64, contents, 64, HEMTALUQ_LARGEST_AMOUNT, top);
-    quote_is("contents of 1,000,000", plant_a, sizeof plant_a, weights_2_1, 2, most, 2, 0, millions);
-    quote_is("a content too few", plant_a, sizeof plant_a, weights_2_1, 2, c34, 1, 1, r20);
-    quote_is("content 1,000,001", plant_a, sizeof plant_a, weights_2_1, 2, above, 2, 1, r21);
-    quote_is("g 1,000,001", plant_a, sizeof plant_a, weights_2_1, 2, c34, 2, 1000001, rg);
-    quote_is("weights that do not pass", plant_a, sizeof plant_a, w11, 2, c34, 2, 1, r22);
+    quote_is("A, contents 3, 4, g 1", plant_a, sizeof plant_a, weights_2_1, 2, c34, 2, 1, 0, q39);
+    quote_is("one state", one_state, sizeof one_state, no_weights, 0, no_numbers, 0, 0, 0, zero);
+    quote_is("the largest ceiling", machines, sizeof machines, weights, 64, contents, 64, HEMTALUQ_LARGEST_AMOUNT, HEMTALUQ_LARGEST_AMOUNT, top);
+    quote_is("contents of 1,000,000", plant_a, sizeof plant_a, weights_2_1, 2, most, 2, 0, 0, millions);
+    quote_is("a content too few", plant_a, sizeof plant_a, weights_2_1, 2, c34, 1, 1, 0, r20);
+    quote_is("content 1,000,001", plant_a, sizeof plant_a, weights_2_1, 2, above, 2, 1, 0, r21);
+    quote_is("g 1,000,001", plant_a, sizeof plant_a, weights_2_1, 2, c34, 2, 1000001, 0, rg);
+    quote_is("A, contents 3, 4, g 1, d 3", plant_a, sizeof plant_a, weights_2_1, 2, c34, 2, 1, 3, q51);
+    quote_is("d 1,000,000", plant_a, sizeof plant_a, weights_2_1, 2, c34, 2, 1, 1000000, doublings);
+    quote_is("d 1,000,001", plant_a, sizeof plant_a, weights_2_1, 2, c34, 2, 1, 1000001, rd);
+    quote_is("the largest d of 32 bits", plant_a, sizeof plant_a, weights_2_1, 2, c34, 2, 1, UINT32_MAX, rd);
+    quote_is("a content, before g and d", plant_a, sizeof plant_a, weights_2_1, 2, above, 2, 1000001, 1000001, r21);
+    quote_is("g, before d", plant_a, sizeof plant_a, weights_2_1, 2, c34, 2, 1000001, 1000001, rg);
+    quote_is("d, before weights that do not pass", plant_a, sizeof plant_a, w11, 2, c34, 2, 1, 1000001, rd);
+    quote_is("one state, d 1,000,000", one_state, sizeof one_state, no_weights, 0, no_numbers, 0, 0, 1000000, zero);
+    quote_is("no types, d 1,000,001", one_state, sizeof one_state, no_weights, 0, no_numbers, 0, 0, 1000001, untyped);
+    quote_is("weights that do not pass", plant_a, sizeof plant_a, w11, 2, c34, 2, 1, 0, r22);
 }
 
 static void list_is(const char *what, const uint8_t *file, size_t length, uint32_t machine, size_t room, hemtaluq_list_answer e, const uint16_t *after) {
@@ -447,12 +460,12 @@ static void writing_twins(void) {
 /* The other calls refuse a file with a twin row before they look at what else they are given. */
 static void refusing_twins(void) {
     const uint16_t kept[8] = {7, 7, 7, 7, 7, 7, 7, 7};
-    hemtaluq_weigh_answer weighed = {HEMTALUQ_REFUSED, HEMTALUQ_TWIN_ROW, 20, 0, 0, 0, 0};
+    hemtaluq_weigh_answer weighed = {HEMTALUQ_REFUSED, HEMTALUQ_TWIN_ROW, 20, 0, 0, 0, 0, 0};
     hemtaluq_quote_answer quoted = {HEMTALUQ_REFUSED, HEMTALUQ_TWIN_ROW, 0, 20, 0};
     hemtaluq_list_answer listed = {HEMTALUQ_REFUSED, HEMTALUQ_TWIN_ROW, 20, 0};
     hemtaluq_confirm_answer confirmed = {HEMTALUQ_REFUSED, HEMTALUQ_TWIN_ROW, 20, 0, 0};
     weigh_is("weigh, a twin row", twin_row, sizeof twin_row, no_weights, 0, 0, weighed, 0);
-    quote_is("quote, a twin row", twin_row, sizeof twin_row, no_weights, 0, no_numbers, 0, 1000001, quoted);
+    quote_is("quote, a twin row", twin_row, sizeof twin_row, no_weights, 0, no_numbers, 0, 1000001, 0, quoted);
     list_is("list, a twin row", twin_row, sizeof twin_row, 2, 0, listed, kept);
     confirm_is("confirm, a twin row", twin_row, sizeof twin_row, no_numbers, 0, confirmed);
 }
@@ -464,7 +477,7 @@ static void taking_and_sending(void) {
     const uint16_t w03[] = {0, 3}, w33[] = {3, 3}, cycle[8] = {1, 0, 7, 7, 7, 7, 7, 7};
     const uint32_t c52[] = {5, 2}, set[] = {0, 4, 1, 0};
     /* S is 0, n 1 and w 3; the ceiling is 3 * 2 + 3 * 1. */
-    hemtaluq_weigh_answer passes = {HEMTALUQ_PASSED, 0, 0, 0, 1, 3, 0}, shown = {HEMTALUQ_CYCLE, 0, 0, 0, 0, 0, 1};
+    hemtaluq_weigh_answer passes = {HEMTALUQ_PASSED, 0, 0, 0, 1, 3, 3, 0}, shown = {HEMTALUQ_CYCLE, 0, 0, 0, 0, 0, 0, 1};
     hemtaluq_quote_answer nine = {HEMTALUQ_CEILING, 0, 4, 0, 9}, r22 = {HEMTALUQ_REFUSED, 22, 0, 0, 0};
     hemtaluq_list_answer listed = {HEMTALUQ_LISTED, 0, 0, 2};
     hemtaluq_confirm_answer less_1 = {HEMTALUQ_NEGATIVE, 0, 0, 1, -4}, less_0 = {HEMTALUQ_NEGATIVE, 0, 0, 0, -4}, balanced = {HEMTALUQ_CONFIRMED, 0, 0, 0, 0};
@@ -472,8 +485,8 @@ static void taking_and_sending(void) {
     weigh_is("takes a type of weight 0, sends one of 3", up, sizeof up, w03, 2, 64, shown, 1);
     weigh_is("takes and sends types of one weight", down, sizeof down, w33, 2, 64, shown, 1);
     weigh_is("takes and sends one type", same, sizeof same, w03, 2, 64, shown, 1);
-    quote_is("takes a type of weight 3, contents 5, 2, g 1", down, sizeof down, w03, 2, c52, 2, 1, nine);
-    quote_is("takes and sends one type, no ceiling", same, sizeof same, w03, 2, c52, 2, 1, r22);
+    quote_is("takes a type of weight 3, contents 5, 2, g 1", down, sizeof down, w03, 2, c52, 2, 1, 0, nine);
+    quote_is("takes and sends one type, no ceiling", same, sizeof same, w03, 2, c52, 2, 1, 0, r22);
     list_is("takes and sends, listed", down, sizeof down, 0, 8, listed, cycle);
     confirm_is("takes type 1 four times", down, sizeof down, set, 4, less_1);
     confirm_is("takes type 0 four times", up, sizeof up, set, 4, less_0);
@@ -487,14 +500,14 @@ static void written_is_read(void) {
     uint16_t list[] = {LIST_A};
     uint8_t file[30];
     hemtaluq_read_answer counts = {HEMTALUQ_COUNTS, 0, 2, 0, 2, 4};
-    hemtaluq_weigh_answer passes = {HEMTALUQ_PASSED, 0, 0, 10, 2, 9, 0};
+    hemtaluq_weigh_answer passes = {HEMTALUQ_PASSED, 0, 0, 10, 2, 9, 4, 0};
     hemtaluq_quote_answer q39 = {HEMTALUQ_CEILING, 0, 6, 0, 39};
     hemtaluq_list_answer three = {HEMTALUQ_LISTED, 0, 0, 3};
     hemtaluq_confirm_answer balanced = {HEMTALUQ_CONFIRMED, 0, 0, 0, 0};
     size_t length = hemtaluq_write(list, LENGTH(list), file, sizeof file).length;
     read_is("A as written", file, length, counts);
     weigh_is("A as written, weights 2, 1", file, length, weights_2_1, 2, 64, passes, 0);
-    quote_is("A as written, contents 3, 4, g 1", file, length, weights_2_1, 2, c34, 2, 1, q39);
+    quote_is("A as written, contents 3, 4, g 1", file, length, weights_2_1, 2, c34, 2, 1, 0, q39);
     list_is("A's machine 1 as written", file, length, 1, 8, three, probe);
     list[14] = 0;
     length = hemtaluq_write(list, LENGTH(list), file, sizeof file).length;
@@ -504,8 +517,8 @@ static void written_is_read(void) {
 /* A list of length 0 may have a null pointer: each list of each call, alone and with the others, as far as the call judges it. */
 static void null_pointers(void) {
     const uint32_t c34[] = {3, 4};
-    hemtaluq_weigh_answer ends = {HEMTALUQ_REFUSED, 1, 0, 0, 0, 0, 0}, none = {HEMTALUQ_PASSED, 0, 0, 0, 1, 0, 0};
-    hemtaluq_weigh_answer r9 = {HEMTALUQ_REFUSED, 9, 0, 0, 0, 0, 0};
+    hemtaluq_weigh_answer ends = {HEMTALUQ_REFUSED, 1, 0, 0, 0, 0, 0, 0}, none = {HEMTALUQ_PASSED, 0, 0, 0, 1, 0, 0, 0};
+    hemtaluq_weigh_answer r9 = {HEMTALUQ_REFUSED, 9, 0, 0, 0, 0, 0, 0};
     hemtaluq_quote_answer no_plant = {HEMTALUQ_REFUSED, 1, 0, 0, 0}, zero = {HEMTALUQ_CEILING, 0, 0, 0, 0};
     hemtaluq_quote_answer nine = {HEMTALUQ_REFUSED, 9, 0, 0, 0}, r20 = {HEMTALUQ_REFUSED, 20, 0, 0, 0};
     hemtaluq_confirm_answer no_file = {HEMTALUQ_REFUSED, 1, 0, 0, 0}, r18 = {HEMTALUQ_REFUSED, 18, 0, 0, 0};
@@ -523,10 +536,10 @@ static void null_pointers(void) {
     weigh_is("weigh, no types, weights null", one_state, sizeof one_state, NULL, 0, 64, none, 0);
     weigh_is("weigh, types, weights null", plant_a, sizeof plant_a, NULL, 0, 64, r9, 0);
     read_refused("read, no file, null", NULL, 0, HEMTALUQ_FILE_ENDS, 0);
-    quote_is("quote, three null lists", NULL, 0, NULL, 0, NULL, 0, 0, no_plant);
-    quote_is("quote, no types, weights and contents null", one_state, sizeof one_state, NULL, 0, NULL, 0, 0, zero);
-    quote_is("quote, weights null", plant_a, sizeof plant_a, NULL, 0, c34, 2, 1, nine);
-    quote_is("quote, contents null", plant_a, sizeof plant_a, weights_2_1, 2, NULL, 0, 1, r20);
+    quote_is("quote, three null lists", NULL, 0, NULL, 0, NULL, 0, 0, 0, no_plant);
+    quote_is("quote, no types, weights and contents null", one_state, sizeof one_state, NULL, 0, NULL, 0, 0, 0, zero);
+    quote_is("quote, weights null", plant_a, sizeof plant_a, NULL, 0, c34, 2, 1, 0, nine);
+    quote_is("quote, contents null", plant_a, sizeof plant_a, weights_2_1, 2, NULL, 0, 1, 0, r20);
     confirm_is("confirm, no file and no set, null", NULL, 0, NULL, 0, no_file);
     confirm_is("confirm, no set, null", plant_b, sizeof plant_b, NULL, 0, r18);
     hemtaluq_write_answer n = hemtaluq_write(NULL, 0, NULL, 0);
@@ -537,7 +550,7 @@ static void null_pointers(void) {
 }
 
 int main(void) {
-    check("the header has version 5", HEMTALUQ_VERSION == 5);
+    check("the header has version 6", HEMTALUQ_VERSION == 6);
     check("the library has the header's version", hemtaluq_version() == HEMTALUQ_VERSION);
     check("write has revision 2, and read revision 1", !strcmp(SYMBOL(hemtaluq_write), "hemtaluq_write_v2") && !strcmp(SYMBOL(hemtaluq_read), "hemtaluq_read_v1"));
     make_largest();

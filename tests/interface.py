@@ -25,28 +25,37 @@ PROGRAMS = ('cabinet', 'designer')
 # Words that are no number from 0 to 1,000,000: none may be taken for another number. The program in Rust gets the last as bytes that are no UTF-8.
 NO_AMOUNTS = ['-1', '-0', 'abc', '1x', 'x1', ' 1', '1 ', '+1', '', '0x1', '1e3', '1.0', '1,0', '1000001', '4294967295', '4294967296', '4294967297',
               '18446744073709551616', '18446744073709551617', '100000000000000000000000000001', '\u0661', '\udcff']
-AMOUNT = 'refused with 21 at %d: a content or G is not a number up to 1,000,000'
+AMOUNT = 'refused with 21 at %d: a content, G or D is not a number up to 1,000,000'
 
-# Folder of examples/, G and contents, the exit code, and what a cabinet program prints.
+# Folder of examples/, G, D and contents, the exit code, and what a cabinet program prints.
 RUNS = [
-    ('plant_a', ['1', '3', '4'], 0, 'at most 39 steps without a fresh reading (price class 6)'),
-    ('plant_b', ['1', '3', '4'], 1, 'no ceiling: these rows can go on for ever without a fresh reading: 0 1'),
-    ('detour', ['1', '3', '4'], 1, 'no ceiling: these rows can go on for ever without a fresh reading: 9 13'),
-    ('feeder', ['1', '3', '4'], 0, 'at most 71 steps without a fresh reading (price class 7)'),
-    ('twin_row', ['1', '3', '4'], 2, 'refused with 26 at 20: a row is equal to an earlier row of its machine'),
-    ('plant_a', ['1', '3'], 2, 'refused with 20 at 0: there is not one content for each type'),
-    ('plant_a', ['1', '0000000000000000000000000000000000000003', '04'], 0, 'at most 39 steps without a fresh reading (price class 6)'),
-    ('plant_a', ['1000000', '3', '4'], 0, 'at most 9000030 steps without a fresh reading (price class 24)'),
-    ('two_clients_in_turn', ['0', '0', '0', '0', '0', '0', '0'], 0, 'at most 143 steps without a fresh reading (price class 8)'),
-    ('no_such_folder', ['0'], 2, 'refused with 1 at 0: the plant file ends too soon'),
-    # A word that is no number is judged in the order of the call: after the plant and the counts, contents before G, before the weights.
-    ('no_such_folder', ['abc'], 2, 'refused with 1 at 0: the plant file ends too soon'),
-    ('plant_a', ['abc', '3'], 2, 'refused with 20 at 0: there is not one content for each type'),
-    ('plant_a', ['1', '3', '4', 'abc'], 2, 'refused with 20 at 0: there is not one content for each type'),
-    ('plant_a', ['abc', '3', '-1'], 2, AMOUNT % 1),
-    ('plant_b', ['1', '4294967296', '4'], 2, AMOUNT % 0),
-] + [('plant_a', [word, '3', '4'], 2, AMOUNT % 2) for word in NO_AMOUNTS] + [
-    ('plant_a', ['1', word, '4'], 2, AMOUNT % 0) for word in NO_AMOUNTS] + [('plant_a', ['1', '3', word], 2, AMOUNT % 1) for word in NO_AMOUNTS]
+    ('plant_a', ['1', '0', '3', '4'], 0, 'at most 39 steps without a fresh reading (price class 6)'),
+    ('plant_b', ['1', '0', '3', '4'], 1, 'no ceiling: these rows can go on for ever without a fresh reading: 0 1'),
+    ('detour', ['1', '0', '3', '4'], 1, 'no ceiling: these rows can go on for ever without a fresh reading: 9 13'),
+    ('feeder', ['1', '0', '3', '4'], 0, 'at most 71 steps without a fresh reading (price class 7)'),
+    ('twin_row', ['1', '0', '3', '4'], 2, 'refused with 26 at 20: a row is equal to an earlier row of its machine'),
+    ('plant_a', ['1', '0', '3'], 2, 'refused with 20 at 0: there is not one content for each type'),
+    ('plant_a', ['1', '0', '0000000000000000000000000000000000000003', '04'], 0, 'at most 39 steps without a fresh reading (price class 6)'),
+    ('plant_a', ['1000000', '0', '3', '4'], 0, 'at most 9000030 steps without a fresh reading (price class 24)'),
+    ('two_clients_in_turn', ['0', '0', '0', '0', '0', '0', '0', '0'], 0, 'at most 143 steps without a fresh reading (price class 8)'),
+    # With doublings, each of which adds the most states times the largest weight.
+    ('plant_a', ['1', '3', '3', '4'], 0, 'at most 51 steps without a fresh reading (price class 6)'),
+    ('plant_a', ['0', '1000000', '0', '0'], 0, 'at most 4000010 steps without a fresh reading (price class 22)'),
+    ('feeder', ['1', '1', '3', '4'], 0, 'at most 77 steps without a fresh reading (price class 7)'),
+    ('two_clients_in_turn', ['0', '2', '0', '0', '0', '0', '0', '0'], 0, 'at most 167 steps without a fresh reading (price class 8)'),
+    # Arguments without D, as up to version 5: the first content is taken for it, and one is missing.
+    ('plant_a', ['1', '3', '4'], 2, 'refused with 20 at 0: there is not one content for each type'),
+    ('no_such_folder', ['0', '0'], 2, 'refused with 1 at 0: the plant file ends too soon'),
+    # A word that is no number is judged in the order of the call: after the plant and the counts, contents before G, G before D, before the weights.
+    ('no_such_folder', ['abc', 'abc'], 2, 'refused with 1 at 0: the plant file ends too soon'),
+    ('plant_a', ['abc', 'abc', '3'], 2, 'refused with 20 at 0: there is not one content for each type'),
+    ('plant_a', ['1', '0', '3', '4', 'abc'], 2, 'refused with 20 at 0: there is not one content for each type'),
+    ('plant_a', ['abc', 'abc', '3', '-1'], 2, AMOUNT % 1),
+    ('plant_a', ['abc', 'abc', '3', '4'], 2, AMOUNT % 2),
+    ('plant_b', ['1', '0', '4294967296', '4'], 2, AMOUNT % 0),
+    ('plant_b', ['1', '4294967296', '3', '4'], 2, AMOUNT % 3),
+] + [('plant_a', [word, '0', '3', '4'], 2, AMOUNT % 2) for word in NO_AMOUNTS] + [('plant_a', ['1', word, '3', '4'], 2, AMOUNT % 3) for word in NO_AMOUNTS] + [
+    ('plant_a', ['1', '0', word, '4'], 2, AMOUNT % 0) for word in NO_AMOUNTS] + [('plant_a', ['1', '0', '3', word], 2, AMOUNT % 1) for word in NO_AMOUNTS]
 
 # The folders of examples/ with a list; their plant files are the shortest.
 LISTED = ['plant_a', 'plant_b', 'two_clients', 'two_clients_in_turn', 'detour', 'feeder']
@@ -318,7 +327,7 @@ def hold_other_version(folder):
     other, program, plant = [os.path.join(folder, name) for name in ('other.o', 'program', 'unwritten.bin')]
     library = renamed(folder, 'hemtaluq_version', 'hemtaluq_version_of_before')
     run(['gcc', '-x', 'c', '-', '-c', '-o', other], input='unsigned hemtaluq_version(void) { return 1; }\n')
-    given = {'cabinet': ['examples/plant_a/plant.bin', 'examples/plant_a/weights.bin', '1', '3', '4'], 'designer': ['examples/plant_a/plant.list.txt', plant]}
+    given = {'cabinet': ['examples/plant_a/plant.bin', 'examples/plant_a/weights.bin', '1', '0', '3', '4'], 'designer': ['examples/plant_a/plant.list.txt', plant]}
     for name in PROGRAMS:
         source = 'examples/%s/%s' % (name, name)
         commands = [['gcc', '-Idist', source + '.c', other, os.path.join(library, 'libhemtaluq.a'), '-o', program]]

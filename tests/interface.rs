@@ -52,7 +52,7 @@ fn writing() {
 }
 
 fn main() {
-    assert_eq!(hemtaluq::VERSION, 5);
+    assert_eq!(hemtaluq::VERSION, 6);
     assert_eq!(hemtaluq::version(), hemtaluq::VERSION);
     assert_eq!(fault(22, 0).in_words(), "the weights do not pass");
     assert_eq!(fault(26, 0).in_words(), "a row is equal to an earlier row of its machine");
@@ -61,15 +61,17 @@ fn main() {
     assert_eq!(hemtaluq::read(&PLANT_A[..7]), Err(fault(1, 7)));
     assert_eq!(hemtaluq::read(&BOTH), Ok(Counts { machines: 1, types: 2, rows: 1 }));
     assert_eq!(hemtaluq::confirm(&BOTH, &[0, 1, 1, 0]), Ok(Confirmed::Negative { message_type: 1, sum: -1 }));
-    assert_eq!(hemtaluq::weigh(&BOTH, &[0, 1]), Ok(Weighed::Passed { base: 0, most_states: 1, per_progress: 1 }));
-    assert_eq!(hemtaluq::weigh(&PLANT_A, &[2, 1]), Ok(Weighed::Passed { base: 10, most_states: 2, per_progress: 9 }));
+    assert_eq!(hemtaluq::weigh(&BOTH, &[0, 1]), Ok(Weighed::Passed { base: 0, most_states: 1, per_progress: 1, per_doubling: 1 }));
+    assert_eq!(hemtaluq::weigh(&PLANT_A, &[2, 1]), Ok(Weighed::Passed { base: 10, most_states: 2, per_progress: 9, per_doubling: 4 }));
     let shown = hemtaluq::weigh(&PLANT_A, &[1, 1]);
     assert!(shown == Ok(Weighed::Cycle(vec![2, 3])) || shown == Ok(Weighed::Cycle(vec![3, 2])));
     let shortest = hemtaluq::weigh(&RINGS, &[]);
     assert!(shortest == Ok(Weighed::Cycle(vec![3, 4])) || shortest == Ok(Weighed::Cycle(vec![4, 3])));
     assert_eq!(hemtaluq::weigh(&PLANT_A, &[2, 1001]), Err(fault(10, 1)));
-    assert_eq!(hemtaluq::quote(&PLANT_A, &[2, 1], &[3, 4], 1), Ok(Quote { ceiling: 39, price_class: 6 }));
-    assert_eq!(hemtaluq::quote(&PLANT_A, &[2, 1], &[3, 4], 1_000_001), Err(fault(21, 2)));
+    assert_eq!(hemtaluq::quote(&PLANT_A, &[2, 1], &[3, 4], 1, 0), Ok(Quote { ceiling: 39, price_class: 6 }));
+    assert_eq!(hemtaluq::quote(&PLANT_A, &[2, 1], &[3, 4], 1, 3), Ok(Quote { ceiling: 51, price_class: 6 }));
+    assert_eq!(hemtaluq::quote(&PLANT_A, &[2, 1], &[3, 4], 1_000_001, 1_000_001), Err(fault(21, 2)));
+    assert_eq!(hemtaluq::quote(&PLANT_A, &[2, 1], &[3, 4], 1, 1_000_001), Err(fault(21, 3)));
     let mut out = [7; 5];
     assert_eq!(hemtaluq::list(&PLANT_A, 1, &mut out[..2]), Err(fault(14, 0)));
     assert_eq!(hemtaluq::list(&PLANT_A, 1, &mut out), Ok(3));

@@ -4,7 +4,7 @@ The second one was written from the scope document, in another way than the prov
 of reading.py and finds the greatest mean weight of a machine's quiet cycles (Karp's algorithm, in fractions); weights
 pass when every mean is below zero. On small machines it also goes through all simple cycles. A cycle that is shown is
 held to the words of the documents: it must have as few rows as any of the plant, which the heaviest walks of each exact
-length tell. For weights that pass, random runs that put progress off are held to the bound.
+length tell. For weights that pass, random runs that put progress off and double messages are held to the bound.
 
 `tests/compiled.py` runs it.
 """
@@ -121,7 +121,7 @@ def fewest_of_all(plant, weights):
 def figures(plant, weights):
     _, states, _ = plant
     n, less, w = max(states), sum(s - 1 for s in states), max(weights, default=0)
-    return less + n * w * less, n, n - 1 + n * n * w
+    return less + n * w * less, n, n - 1 + n * n * w, n * w
 
 
 def is_failing_cycle(plant, weights, shown):
@@ -155,7 +155,7 @@ def judge(data, weights, room, before, line):
         return None
     k = fewest_of_all(plant, weights)
     if k is None:
-        owed = 'passed %d %d %d' % figures(plant, weights)
+        owed = 'passed %d %d %d %d' % figures(plant, weights)
         return None if ' '.join(answer) == owed and after == before else owed + ', list kept'
     if answer == ['cycle', str(k)] and is_failing_cycle(plant, weights, after[:k]) and after[k:] == before[k:]:
         return None
@@ -165,13 +165,19 @@ def judge(data, weights, room, before, line):
 # ---- runs
 
 def longest_run(rng, plant, weights, steps):
-    """Quiet rows and progress rows of a run that takes a quiet row wherever one can happen, and the bound."""
+    """The quiet rows of a run that takes a quiet row wherever one can happen, the bound, and the doublings: one of four events where a message
+    is there."""
     types, states, rows = plant
-    f, n, g = figures(plant, weights)
+    f, n, g, d = figures(plant, weights)
     content = [rng.randrange(4) for _ in range(types)]
     bound = f + n * sum(w * c for w, c in zip(weights, content))
-    state, quiet, progress = [rng.randrange(s) for s in states], 0, 0
+    state, quiet, progress, doubled = [rng.randrange(s) for s in states], 0, 0, 0
     for _ in range(steps):
+        present = [t for t in range(types) if content[t]]
+        if present and rng.random() < 0.25:
+            content[rng.choice(present)] += 1
+            doubled += 1
+            continue
         can = [r for r in rows if state[r[0]] == r[1] and (r[4] is None or content[r[4]])]
         if not can:
             break
@@ -182,9 +188,10 @@ def longest_run(rng, plant, weights, steps):
         if row[3] is not None:
             content[row[3]] += 1
         quiet, progress = quiet + (not row[5]), progress + row[5]
-        if quiet > bound + g * progress:
-            sys.exit('weighing.py: %d quiet rows and %d others, but the bound is %d' % (quiet, progress, bound + g * progress))
-    return quiet, bound + g * progress
+        if quiet > bound + g * progress + d * doubled:
+            sys.exit('weighing.py: %d quiet rows, %d others and %d doublings, but the bound is %d'
+                     % (quiet, progress, doubled, bound + g * progress + d * doubled))
+    return quiet, bound + g * progress + d * doubled, doubled
 
 
 # ---- cases
@@ -238,7 +245,8 @@ int main(void) {
         uint16_t *weights = malloc(2 * head[1] + 2), *cycle = malloc(2 * head[2] + 2);
         if (fread(file, 1, head[0], stdin) != head[0] || fread(weights, 2, head[1], stdin) != head[1] || fread(cycle, 2, head[2], stdin) != head[2]) return 1;
         hemtaluq_weigh_answer w = hemtaluq_weigh(file, head[0], weights, head[1], cycle, head[2]);
-        if (w.kind == HEMTALUQ_PASSED) printf("passed %llu %llu %llu", (unsigned long long)w.base, (unsigned long long)w.most_states, (unsigned long long)w.per_progress);
+        unsigned long long base = w.base, most_states = w.most_states, per_progress = w.per_progress, per_doubling = w.per_doubling;
+        if (w.kind == HEMTALUQ_PASSED) printf("passed %llu %llu %llu %llu", base, most_states, per_progress, per_doubling);
         if (w.kind == HEMTALUQ_CYCLE) printf("cycle %zu", w.rows);
         if (w.kind == HEMTALUQ_REFUSED) printf("refused %d %zu", w.number, w.place);
         printf(" :");
@@ -258,19 +266,21 @@ def compare(driver, seed):
     printed = subprocess.run([driver], input=stream, capture_output=True, check=True).stdout.decode().split('\n')[:-1]
     if len(printed) != len(given):
         sys.exit('weighing.py: %d answers to %d cases' % (len(printed), len(given)))
-    kinds, closest = {}, 0
+    kinds, closest, doubled = {}, 0, 0
     for (data, weights, room, before), line in zip(given, printed):
         wrong = judge(data, weights, room, before, line)
         if wrong:
             sys.exit('weighing.py: plant %s, weights %s: %s, but owed is %s' % (data.hex(' '), weights, line, wrong))
         kind = ' '.join(line.split()[:2]) if line.startswith('refused') else line.split()[0]
         kinds[kind] = kinds.get(kind, 0) + 1
-        if kind == 'passed' and rng.random() < 0.05:
-            quiet, bound = longest_run(rng, reading.read_plant(data), weights, 300)
-            closest = max(closest, quiet / bound if bound else 0)
+        if kind == 'passed' and rng.random() < 0.2:
+            quiet, bound, more = longest_run(rng, reading.read_plant(data), weights, 300)
+            closest, doubled = max(closest, quiet / bound if bound else 0), doubled + more
     for kind in ('passed', 'cycle', 'refused 9', 'refused 10', 'refused 11', 'refused 26'):
         if kinds.get(kind, 0) < 10:
             sys.exit('weighing.py: %s was met %d times only' % (kind, kinds.get(kind, 0)))
-    print('weighing.py: seed %d: %d cases, of which %d pass and %d show a cycle; runs came to %d %% of the bound'
-          % (seed, len(given), kinds['passed'], kinds['cycle'], round(100 * closest)))
+    if doubled < 1000:
+        sys.exit('weighing.py: only %d doublings happened' % doubled)
+    print('weighing.py: seed %d: %d cases, of which %d pass and %d show a cycle; runs, with %d doublings, came to %d %% of the bound'
+          % (seed, len(given), kinds['passed'], kinds['cycle'], doubled, round(100 * closest)))
     return len(given)

@@ -1,10 +1,11 @@
 /* A cabinet's start-up check: loads a plant and its weights, and prints the ceiling for what the buffers hold.
  *
- *     cabinet PLANT WEIGHTS G CONTENT...
+ *     cabinet PLANT WEIGHTS G D CONTENT...
  *
- * PLANT is a plant file, WEIGHTS has two bytes a weight, low byte first, G is the most progress rows, and CONTENT the
- * messages of each type in the buffers. G and CONTENT are decimal digits alone, without sign or space. The exit code is 0
- * for a ceiling, 1 for a cycle, 2 for a refusal, and 3 for a library of another version than the header's. */
+ * PLANT is a plant file, WEIGHTS has two bytes a weight, low byte first, G is the most progress rows, D the most messages that
+ * the bus delivers twice (0 where it never does), and CONTENT the messages of each type in the buffers. G, D and CONTENT are
+ * decimal digits alone, without sign or space. The exit code is 0 for a ceiling, 1 for a cycle, 2 for a refusal, and 3 for a
+ * library of another version than the header's. */
 #include <stdio.h>
 #include "hemtaluq.h"
 
@@ -16,7 +17,7 @@ static const char *in_words(unsigned number) {
         "a weight is above 1,000", "the list for a cycle is too short", "there is no such machine", "the machine is too large to list",
         "the list is too short for the cycles", "the set ends within an entry", "a number of the set is outside limits",
         "an entry of the set is no quiet cycle", "the set has no entry or more than 256", "no fault", "there is not one content for each type",
-        "a content or G is not a number up to 1,000,000", "the weights do not pass", "the list of numbers ends early or goes on",
+        "a content, G or D is not a number up to 1,000,000", "the weights do not pass", "the list of numbers ends early or goes on",
         "a number of the list is outside its values or the limits", "the buffer is too short for the file",
         "a row is equal to an earlier row of its machine"};
     return number < sizeof words / sizeof words[0] ? words[number] : "unknown";
@@ -67,16 +68,16 @@ int main(int argc, char **argv) {
         fprintf(stderr, "cabinet: the library has version %u, the header %u\n", (unsigned)hemtaluq_version(), HEMTALUQ_VERSION);
         return 3;
     }
-    if (argc < 4) {
-        fprintf(stderr, "usage: cabinet PLANT WEIGHTS G CONTENT...\n");
+    if (argc < 5) {
+        fprintf(stderr, "usage: cabinet PLANT WEIGHTS G D CONTENT...\n");
         return 2;
     }
     size_t length = load(argv[1], plant, sizeof plant), held = load(argv[2], bytes, sizeof bytes);
     /* Half a weight is one weight too many for any plant. */
     size_t count = held % 2 ? HEMTALUQ_MOST_TYPES + 1 : held / 2;
     for (size_t t = 0; t < held / 2; t++) weights[t] = (uint16_t)(bytes[2 * t] | bytes[2 * t + 1] << 8);
-    for (int i = 4; i < argc && amounts <= HEMTALUQ_MOST_TYPES; i++) contents[amounts++] = number_of(argv[i]);
-    hemtaluq_quote_answer answer = hemtaluq_quote(plant, length, weights, count, contents, amounts, number_of(argv[3]));
+    for (int i = 5; i < argc && amounts <= HEMTALUQ_MOST_TYPES; i++) contents[amounts++] = number_of(argv[i]);
+    hemtaluq_quote_answer answer = hemtaluq_quote(plant, length, weights, count, contents, amounts, number_of(argv[3]), number_of(argv[4]));
     if (answer.kind == HEMTALUQ_REFUSED && answer.number == HEMTALUQ_NOT_PASSING) return show_cycle(plant, length, weights, count);
     if (answer.kind == HEMTALUQ_REFUSED) return refuse(answer.number, answer.place);
     printf("at most %llu steps without a fresh reading (price class %u)\n", (unsigned long long)answer.ceiling, (unsigned)answer.price_class);

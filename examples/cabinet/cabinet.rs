@@ -1,6 +1,6 @@
 //! The program of cabinet.c in Rust, over the safe wrappers of hemtaluq.rs.
 //!
-//!     cabinet PLANT WEIGHTS G CONTENT...
+//!     cabinet PLANT WEIGHTS G D CONTENT...
 
 // The program makes two of the six calls.
 #[allow(dead_code)]
@@ -41,8 +41,8 @@ fn main() -> ExitCode {
         return ExitCode::from(3);
     }
     let arguments: Vec<OsString> = std::env::args_os().collect();
-    if arguments.len() < 4 {
-        eprintln!("usage: cabinet PLANT WEIGHTS G CONTENT...");
+    if arguments.len() < 5 {
+        eprintln!("usage: cabinet PLANT WEIGHTS G D CONTENT...");
         return ExitCode::from(2);
     }
     let plant = std::fs::read(&arguments[1]).unwrap_or_default();
@@ -53,7 +53,7 @@ fn main() -> ExitCode {
         weights = vec![0; 65];
     }
     let numbers: Vec<u32> = arguments[3..].iter().map(|word| number_of(word)).collect();
-    match hemtaluq::quote(&plant, &weights, &numbers[1..], numbers[0]) {
+    match hemtaluq::quote(&plant, &weights, &numbers[2..], numbers[0], numbers[1]) {
         Ok(quote) => {
             println!("at most {} steps without a fresh reading (price class {})", quote.ceiling, quote.price_class);
             ExitCode::SUCCESS

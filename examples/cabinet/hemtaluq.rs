@@ -1,7 +1,7 @@
 //! Safe wrappers around the C interface of Hemtaluq: slices in, enums out.
 
 /// The version of the interface that these wrappers are written for.
-pub const VERSION: u32 = 5;
+pub const VERSION: u32 = 6;
 
 /// Bytes of the longest plant file.
 pub const LONGEST_FILE: usize = 5154;
@@ -39,7 +39,7 @@ impl Fault {
             17 => "an entry of the set is no quiet cycle",
             18 => "the set has no entry or more than 256",
             20 => "there is not one content for each type",
-            21 => "a content or G is not a number up to 1,000,000",
+            21 => "a content, G or D is not a number up to 1,000,000",
             22 => "the weights do not pass",
             23 => "the list of numbers ends early or goes on",
             24 => "a number of the list is outside its values or the limits",
@@ -58,10 +58,10 @@ pub struct Counts {
     pub rows: usize,
 }
 
-/// What weighing says: F, n and G, or the rows of a shortest quiet simple cycle that weighs zero or more.
+/// What weighing says: F, n, G and n * w, or the rows of a shortest quiet simple cycle that weighs zero or more.
 #[derive(Debug, Clone, PartialEq, Eq)]
 pub enum Weighed {
-    Passed { base: u64, most_states: u64, per_progress: u64 },
+    Passed { base: u64, most_states: u64, per_progress: u64, per_doubling: u64 },
     Cycle(Vec<u16>),
 }
 
@@ -97,6 +97,7 @@ struct WeighAnswer {
     base: u64,
     most_states: u64,
     per_progress: u64,
+    per_doubling: u64,
     rows: usize,
 }
 
@@ -145,10 +146,10 @@ extern "C" {
     fn hemtaluq_version() -> u32;
     #[link_name = "hemtaluq_read_v1"]
     fn hemtaluq_read(file: *const u8, file_length: usize) -> ReadAnswer;
-    #[link_name = "hemtaluq_weigh_v1"]
+    #[link_name = "hemtaluq_weigh_v2"]
     fn hemtaluq_weigh(file: *const u8, file_length: usize, weights: *const u16, weight_count: usize, cycle: *mut u16, cycle_length: usize) -> WeighAnswer;
-    #[link_name = "hemtaluq_quote_v1"]
-    fn hemtaluq_quote(file: *const u8, file_length: usize, weights: *const u16, weight_count: usize, contents: *const u32, content_count: usize, g: u32) -> QuoteAnswer;
+    #[link_name = "hemtaluq_quote_v2"]
+    fn hemtaluq_quote(file: *const u8, file_length: usize, weights: *const u16, weight_count: usize, contents: *const u32, content_count: usize, g: u32, d: u32) -> QuoteAnswer;
     #[link_name = "hemtaluq_list_v1"]
     fn hemtaluq_list(file: *const u8, file_length: usize, machine: u32, out: *mut u16, out_length: usize) -> ListAnswer;
     #[link_name = "hemtaluq_confirm_v1"]
@@ -178,13 +179,13 @@ pub fn weigh(file: &[u8], weights: &[u16]) -> Result<Weighed, Fault> {
     match a.kind {
         REFUSED => Err(Fault { number: a.number, place: a.place }),
         CYCLE => Ok(Weighed::Cycle(cycle[..a.rows].to_vec())),
-        _ => Ok(Weighed::Passed { base: a.base, most_states: a.most_states, per_progress: a.per_progress }),
+        _ => Ok(Weighed::Passed { base: a.base, most_states: a.most_states, per_progress: a.per_progress, per_doubling: a.per_doubling }),
     }
 }
 
-/// The ceiling for contents and g.
-pub fn quote(file: &[u8], weights: &[u16], contents: &[u32], g: u32) -> Result<Quote, Fault> {
-    let a = unsafe { hemtaluq_quote(file.as_ptr(), file.len(), weights.as_ptr(), weights.len(), contents.as_ptr(), contents.len(), g) };
+/// The ceiling for contents, at most g progress rows and at most d doublings; d is 0 for a bus that never delivers a message twice.
+pub fn quote(file: &[u8], weights: &[u16], contents: &[u32], g: u32, d: u32) -> Result<Quote, Fault> {
+    let a = unsafe { hemtaluq_quote(file.as_ptr(), file.len(), weights.as_ptr(), weights.len(), contents.as_ptr(), contents.len(), g, d) };
     if a.kind == REFUSED {
         return Err(Fault { number: a.number, place: a.place });
     }

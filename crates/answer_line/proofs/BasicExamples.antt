@@ -10,8 +10,9 @@ use Rattle.weighing.specs.Answers.{passed, cycle, refused}
 use Rattle.answer_line.specs.Lines.{lineOf}
 use Rattle.answer_line.specs.Files.{checkedBytes, judgedFiles}
 
--- `passed 10 2 9`.
-line-passed : lineOf (passed (record { base = 10; «most_states» = 2; «per_progress» = 9 })) ([]) ≡ 112 ∷ 97 ∷ 115 ∷ 115 ∷ 101 ∷ 100 ∷ 32 ∷ 49 ∷ 48 ∷ 32 ∷ 50 ∷ 32 ∷ 57 ∷ 10 ∷ []
+-- `passed 10 2 9 4`.
+line-passed : lineOf (passed (record { base = 10; «most_states» = 2; «per_progress» = 9; «per_doubling» = 4 })) ([])
+    ≡ 112 ∷ 97 ∷ 115 ∷ 115 ∷ 101 ∷ 100 ∷ 32 ∷ 49 ∷ 48 ∷ 32 ∷ 50 ∷ 32 ∷ 57 ∷ 32 ∷ 52 ∷ 10 ∷ []
 unfolding decimalWithin decimal figure figures
 line-passed = refl
 

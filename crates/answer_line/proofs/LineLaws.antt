@@ -57,8 +57,8 @@ rows-short numbers i n h l short =
     let e : figures (take (i + 1) (set numbers i n)) ≡ figures (take i numbers) ++ figure n = rw (add-one i, take-suc-set numbers i n h, figures-next (take i numbers) n) in
     omega (arith, short, figure-row n l, ap length e, length-append (figures (take i numbers)) (figure n))
 
--- A word of at most seven letters and at most three figures, or 64 figures of six bytes, make a line of at most 512 bytes.
-pub few-figures : {word ns : List ℕ} → length word ≤ 7 → length ns ≤ 3 → All (λ n. n < 2 ^ 64) ns → ShortLine word ns
+-- A word of at most seven letters and at most four figures, or 64 figures of six bytes, make a line of at most 512 bytes.
+pub few-figures : {word ns : List ℕ} → length word ≤ 7 → length ns ≤ 4 → All (λ n. n < 2 ^ 64) ns → ShortLine word ns
 few-figures {word} {ns} short few all = record { few = omega (arith, line-length word ns, figures-short ns all) }
 
 pub few-rows : {word ns : List ℕ} (rows : ℕ) → length word ≤ 7 → rows ≤ 64 → length (figures ns) ≤ 6 * rows → ShortLine word ns

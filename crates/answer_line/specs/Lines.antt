@@ -16,9 +16,9 @@ cycleWord = 99 ∷ 121 ∷ 99 ∷ 108 ∷ 101 ∷ []
 abbrev pub refusedWord : List ℕ
 refusedWord = 114 ∷ 101 ∷ 102 ∷ 117 ∷ 115 ∷ 101 ∷ 100 ∷ []
 
--- "`passed F n G`".
+-- "`passed F n G`", and the line "prints" n × w "as a fourth number" (document 02, L6).
 abbrev pub passedLine : Figures → List ℕ
-passedLine f = lineWith passedWord (f .base ∷ f .«most_states» ∷ f .«per_progress» ∷ [])
+passedLine f = lineWith passedWord (f .base ∷ f .«most_states» ∷ f .«per_progress» ∷ f .«per_doubling» ∷ [])
 
 -- "`cycle` and the rows".
 abbrev pub cycleLine : List ℕ → List ℕ

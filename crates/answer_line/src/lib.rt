@@ -31,7 +31,12 @@ fn write_answer(answer: Weighed, cycle: &[u16], line: &mut [u8]) -> usize
 {
     match answer {
         Weighed::Passed(figures) => {
-            let numbers = [figures.base, figures.most_states, figures.per_progress];
+            let numbers = [
+                figures.base,
+                figures.most_states,
+                figures.per_progress,
+                figures.per_doubling,
+            ];
             figure_lines::write_line_with(b"passed", &numbers, line)
         }
         Weighed::Cycle { rows } => {

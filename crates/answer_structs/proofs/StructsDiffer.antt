@@ -26,7 +26,7 @@ refused-0 = (refl, refl, refl, refl, refl, refl)
 -- HEMTALUQ_COUNTS 1, HEMTALUQ_PASSED 2, HEMTALUQ_CYCLE 3, HEMTALUQ_CEILING 4, HEMTALUQ_LISTED 5, HEMTALUQ_CONFIRMED 6, HEMTALUQ_NEGATIVE 7,
 -- HEMTALUQ_WROTE 8.
 kinds : (readStruct (Reading.counts 2 2 4) .kind ≡ 1)
-    × (weighStruct (Weighing.passed (record { base = 10; «most_states» = 2; «per_progress» = 9 })) .kind ≡ 2) × (weighStruct (Weighing.cycle 2) .kind ≡ 3)
+    × (weighStruct (Weighing.passed (record { base = 10; «most_states» = 2; «per_progress» = 9; «per_doubling» = 4 })) .kind ≡ 2) × (weighStruct (Weighing.cycle 2) .kind ≡ 3)
     × (quoteStruct (Quoting.quoted 39 6) .kind ≡ 4) × (listStruct (Listing.entries 3) .kind ≡ 5)
     × (confirmStruct Confirming.confirmed .kind ≡ 6) × (confirmStruct (Confirming.negative 1 (negsuc 0)) .kind ≡ 7)
     × (writeStruct (Writing.wrote 20) .kind ≡ 8)
@@ -49,7 +49,7 @@ read-one-to-one (Reading.refused n p) (Reading.refused n′ p′) e =
 
 pub weigh-one-to-one : (a b : Weighing.Answer) → weighStruct a ≡ weighStruct b → a ≡ b
 weigh-one-to-one (Weighing.passed f) (Weighing.passed g) e =
-    λ i. Weighing.passed (record { base = e i .base; «most_states» = e i .«most_states»; «per_progress» = e i .«per_progress» })
+    λ i. Weighing.passed (record { base = e i .base; «most_states» = e i .«most_states»; «per_progress» = e i .«per_progress»; «per_doubling» = e i .«per_doubling» })
 weigh-one-to-one (Weighing.passed f) (Weighing.cycle k) e = absurd (omega (arith, ap (λ (x : WeighAnswer). x .kind) e))
 weigh-one-to-one (Weighing.passed f) (Weighing.refused m p) e = absurd (omega (arith, ap (λ (x : WeighAnswer). x .kind) e))
 weigh-one-to-one (Weighing.cycle k) (Weighing.passed f) e = absurd (omega (arith, ap (λ (x : WeighAnswer). x .kind) e))

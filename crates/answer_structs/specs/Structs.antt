@@ -28,13 +28,23 @@ abbrev pub readStruct : Reading.Answer → ReadAnswer
 readStruct (Reading.counts machines types rows) = record { kind = 1; number = 0; place = 0; machines = machines; types = types; rows = rows }
 readStruct (Reading.refused number place) = record { kind = 0; number = number; place = place; machines = 0; types = 0; rows = 0 }
 
--- "Passing hands back F, n and G": kind 2; a cycle shown, with the count of its rows: kind 3.
+-- "Passing hands back F, n and G", and "also … n × w" (document 02, L6): kind 2; a cycle shown, with the count of its rows: kind 3.
 abbrev pub weighStruct : WeighingAnswers.Answer → WeighAnswer
 weighStruct (WeighingAnswers.passed f) =
-    record { kind = 2; number = 0; place = 0; base = f .base; «most_states» = f .«most_states»; «per_progress» = f .«per_progress»; rows = 0 }
-weighStruct (WeighingAnswers.cycle rows) = record { kind = 3; number = 0; place = 0; base = 0; «most_states» = 0; «per_progress» = 0; rows = rows }
+    record {
+      kind = 2;
+      number = 0;
+      place = 0;
+      base = f .base;
+      «most_states» = f .«most_states»;
+      «per_progress» = f .«per_progress»;
+      «per_doubling» = f .«per_doubling»;
+      rows = 0;
+    }
+weighStruct (WeighingAnswers.cycle rows) =
+    record { kind = 3; number = 0; place = 0; base = 0; «most_states» = 0; «per_progress» = 0; «per_doubling» = 0; rows = rows }
 weighStruct (WeighingAnswers.refused number place) =
-    record { kind = 0; number = number; place = place; base = 0; «most_states» = 0; «per_progress» = 0; rows = 0 }
+    record { kind = 0; number = number; place = place; base = 0; «most_states» = 0; «per_progress» = 0; «per_doubling» = 0; rows = 0 }
 
 -- The ceiling and its price class: kind 4.
 abbrev pub quoteStruct : QuotingAnswers.Answer → QuoteAnswer
@@ -64,10 +74,10 @@ pub record WeighedAs (ws before after : List ℕ) (r : WeighAnswer) (x : Found P
   pub owed : Weighing.Owed ws before after answer x
 
 -- The struct is that of an answer that `quote` owes.
-pub record QuotedAs (ws contents : List ℕ) (g : ℕ) (r : QuoteAnswer) (x : Found Plant) : Type 0 where
+pub record QuotedAs (ws contents : List ℕ) (g d : ℕ) (r : QuoteAnswer) (x : Found Plant) : Type 0 where
   pub answer : QuotingAnswers.Answer
   pub struct : r ≡ quoteStruct answer
-  pub owed : Quoting.Owed ws contents g answer x
+  pub owed : Quoting.Owed ws contents g d answer x
 
 -- Where the struct hands back entries, the front of the lent list is every simple cycle of the machine, once.
 abbrev pub Lists : List ℕ → ℕ → ListAnswer → List ℕ → Type 0

@@ -23,7 +23,7 @@ pub struct ReadAnswer {
     pub rows: usize,
 }
 
-// kind 2: F, n and G; kind 3: the count of the rows shown; kind 0: a refusal.
+// kind 2: F, n, G and n × w; kind 3: the count of the rows shown; kind 0: a refusal.
 #[repr(C)]
 pub struct WeighAnswer {
     pub kind: u8,
@@ -32,6 +32,7 @@ pub struct WeighAnswer {
     pub base: u64,
     pub most_states: u64,
     pub per_progress: u64,
+    pub per_doubling: u64,
     pub rows: usize,
 }
 
@@ -113,6 +114,7 @@ pub fn weigh_answer(answer: Weighed) -> WeighAnswer
             base: figures.base,
             most_states: figures.most_states,
             per_progress: figures.per_progress,
+            per_doubling: figures.per_doubling,
             rows: 0,
         },
         Weighed::Cycle { rows } => WeighAnswer {
@@ -122,6 +124,7 @@ pub fn weigh_answer(answer: Weighed) -> WeighAnswer
             base: 0,
             most_states: 0,
             per_progress: 0,
+            per_doubling: 0,
             rows,
         },
         Weighed::Refused(fault) => WeighAnswer {
@@ -131,6 +134,7 @@ pub fn weigh_answer(answer: Weighed) -> WeighAnswer
             base: 0,
             most_states: 0,
             per_progress: 0,
+            per_doubling: 0,
             rows: 0,
         },
     }

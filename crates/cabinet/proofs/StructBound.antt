@@ -1,4 +1,4 @@
--- Demand 3 from the side of C's struct: whenever its kind says that the weights pass, the bound holds with its F, n and G.
+-- Demand 3 from the side of C's struct: whenever its kind says that the weights pass, the bound holds with its F, n, G and n × w.
 use mathlib.Core.Path.{_≡_, sym, ap, _∙_, subst}
 use mathlib.Core.List.{List}
 use Prim.Native.Nat.{ℕ}
@@ -17,7 +17,7 @@ use Rattle.answer_structs.specs.Structs.{weighStruct, WeighedAs}
 
 -- The figures in a struct.
 abbrev pub structFigures : WeighAnswer → Figures
-structFigures r = record { base = r .base; «most_states» = r .«most_states»; «per_progress» = r .«per_progress» }
+structFigures r = record { base = r .base; «most_states» = r .«most_states»; «per_progress» = r .«per_progress»; «per_doubling» = r .«per_doubling» }
 
 pub struct-bound : (file ws before after : List ℕ) (r : WeighAnswer) (P : Plant) (end : ℕ) → readPlant file ≡ found P end
     → WeighedAs ws before after r (judged file ws (length before)) → r .kind ≡ 2 → BoundedBy P ws (structFigures r)

@@ -27,7 +27,7 @@ use answer_structs::weigh_answer;
 use answer_structs::write_answer;
 use cycle_sets::Confirmation;
 
-const VERSION: u32 = 5;
+const VERSION: u32 = 6;
 
 // The version of this library's interface. This export has no revision: what it means never changes.
 #[no_mangle]
@@ -46,7 +46,7 @@ pub extern "C" fn hemtaluq_read_v1(file: &[u8]) -> ReadAnswer
 }
 
 #[no_mangle]
-pub extern "C" fn hemtaluq_weigh_v1(file: &[u8], weights: &[u16], cycle: &mut [u16]) -> WeighAnswer
+pub extern "C" fn hemtaluq_weigh_v2(file: &[u8], weights: &[u16], cycle: &mut [u16]) -> WeighAnswer
     ensures { λ r. ⌜ WeighedAs (now (weights .entry)) (now (cycle .entry)) (now (cycle .exit)) r (WeightChecks.judged (now (file .entry)) (now (weights .entry)) (length (now (cycle .entry)))) ⌝ }
 {
     let answer = weighing::weigh(file, weights, cycle);
@@ -54,15 +54,16 @@ pub extern "C" fn hemtaluq_weigh_v1(file: &[u8], weights: &[u16], cycle: &mut [u
 }
 
 #[no_mangle]
-pub extern "C" fn hemtaluq_quote_v1(
+pub extern "C" fn hemtaluq_quote_v2(
     file: &[u8],
     weights: &[u16],
     contents: &[u32],
     g: u32,
+    d: u32,
 ) -> QuoteAnswer
-    ensures { λ r. ⌜ QuotedAs (now (weights .entry)) (now (contents .entry)) g r (Quoting.judged (now (file .entry)) (now (weights .entry)) (now (contents .entry)) g) ⌝ }
+    ensures { λ r. ⌜ QuotedAs (now (weights .entry)) (now (contents .entry)) g d r (Quoting.judged (now (file .entry)) (now (weights .entry)) (now (contents .entry)) g d) ⌝ }
 {
-    let answer = quoting::quote(file, weights, contents, g);
+    let answer = quoting::quote(file, weights, contents, g, d);
     quote_answer(answer)
 }
 

@@ -1,3 +1,4 @@
--- Laws of the contents and g.
+-- Laws of the contents, g and d.
 pub mod BasicExamples
 pub mod AmountLaws
+pub mod ZeroLast

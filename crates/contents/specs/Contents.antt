@@ -1,6 +1,6 @@
--- The contents and g (document 01, "Quoting" and "Where each fault is found", 20 and 21).
+-- The contents and the numbers behind them, g and d (document 01, "Quoting" and "Where each fault is found", 20 and 21; document 02, L6).
 use mathlib.Core.Bool.{cond}
-use mathlib.Core.List.{List, [], _∷_, _++_}
+use mathlib.Core.List.{List, _++_}
 use Prim.Native.Nat.{ℕ, _*_, _≤_}
 use lib.ListN.{length, getD}
 use lib.Dec.{eqb, ltb}
@@ -14,19 +14,20 @@ use Rattle.weight_checks.specs.Checks.{firstAbove}
 abbrev pub content : List ℕ → ℕ → ℕ
 content contents t = getD contents t 0
 
--- "contents, g": the numbers given, the last of them behind the contents, so that the index of g is the type count.
+-- "contents, g", and d "as a last number": the numbers given, the last of them behind the contents, so that the index of g is the type count and
+-- that of d "one past that of g".
 abbrev pub amounts : (contents last : List ℕ) → List ℕ
 amounts contents last = contents ++ last
 
--- "contents, g | 21 | above 1,000,000 | index; for g the type count".
-unfoldable pub checkedAmounts : List ℕ → ℕ → Plant → ℕ → Found Plant
-checkedAmounts contents g P end =
-    let given = amounts contents (g ∷ []) in
+-- "contents, g | 21 | above 1,000,000 | index; for g the type count", and "21 covers" d.
+unfoldable pub checkedAmounts : (contents last : List ℕ) → Plant → ℕ → Found Plant
+checkedAmounts contents last P end =
+    let given = amounts contents last in
     cond (ltb (firstAbove 1000000 given) (length given)) (fault 21 (firstAbove 1000000 given)) (found P end)
 
 -- "contents | 20 | not one for each type | 0", then 21.
-unfoldable pub checkedContents : List ℕ → ℕ → Plant → ℕ → Found Plant
-checkedContents contents g P end = cond (eqb (length contents) (P .types)) (checkedAmounts contents g P end) (fault 20 0)
+unfoldable pub checkedContents : (contents last : List ℕ) → Plant → ℕ → Found Plant
+checkedContents contents last P end = cond (eqb (length contents) (P .types)) (checkedAmounts contents last P end) (fault 20 0)
 
 -- No number of a list is above the limit.
 abbrev pub AllAtMost : ℕ → List ℕ → Type 0

@@ -1,3 +1,3 @@
--- The contents and g, and their checks.
+-- The contents, g and d, and their checks.
 pub mod Contents
 pub mod Checks

@@ -1,4 +1,4 @@
-// The contents and g: their checks (20, 21 and 22), and the weight W of the contents. No entry point: `quoting` calls it.
+// The contents, g and d: their checks (20, 21 and 22), and the weight W of the contents. No entry point: `quoting` calls it.
 ghost use mathlib.Core.Path.{_≡_};
 ghost use mathlib.Core.List.{[], _∷_};
 ghost use Prim.Native.Nat.{_≤_};
@@ -14,10 +14,10 @@ pub enum Check {
     Fault(Fault),
 }
 
-// The index of the first number above 1,000,000 among the contents and g, which stands behind them; without one, the index after g.
-fn first_above(contents: &[u32], g: u32) -> usize
+// The index of the first number above 1,000,000 among the contents, g and d, which stand behind them; without one, the index after d.
+fn first_above(contents: &[u32], g: u32, d: u32) -> usize
     requires { ⌜ length (now contents) ≤ 64 ⌝ }
-    ensures { λ r. ⌜ r ≡ firstAbove 1000000 (amounts (now (contents .entry)) (g ∷ [])) ⌝ }
+    ensures { λ r. ⌜ r ≡ firstAbove 1000000 (amounts (now (contents .entry)) (g ∷ d ∷ [])) ⌝ }
 {
     let mut i = 0;
     while i < contents.len() {
@@ -29,7 +29,10 @@ fn first_above(contents: &[u32], g: u32) -> usize
     if g > 1000000 {
         return contents.len();
     }
-    i + 1
+    if d > 1000000 {
+        return contents.len() + 1;
+    }
+    i + 2
 }
 
 // The refusal of this number and place.
@@ -40,15 +43,16 @@ fn refused(number: u8, place: usize) -> Check
 }
 
 // The first of the faults 20, 21 and 22.
-pub fn check_numbers(types: usize, contents: &[u32], g: u32, passes: bool) -> Check
+pub fn check_numbers(types: usize, contents: &[u32], g: u32, d: u32, passes: bool) -> Check
     requires { ⌜ types ≤ 64 ⌝ }
-    ensures { λ r. ⌜ Checks types (now (contents .entry)) g passes r ⌝ }
+    ensures { λ r. ⌜ Checks types (now (contents .entry)) (g ∷ d ∷ []) passes r ⌝ }
 {
     if contents.len() != types {
         return refused(20, 0);
     }
-    let above = first_above(contents, g);
-    if above <= types {
+    let above = first_above(contents, g, d);
+    let last = types + 1;
+    if above <= last {
         return refused(21, above);
     }
     if !passes {

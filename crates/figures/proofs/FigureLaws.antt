@@ -1,4 +1,4 @@
--- Laws of the figures F, n and G.
+-- Laws of the figures F, n, G and n × w.
 use mathlib.Core.Path.{_≡_}
 use mathlib.Core.List.{List}
 use Prim.Native.Nat.{ℕ, _+_, _-_, _*_, _≤_, _<_}
@@ -8,7 +8,7 @@ use lib.ListN.{length, getD}
 use Rattle.livelock.specs.Lists.{below, sum, greatest}
 use Rattle.livelock.specs.Plants.{Plant, machineCount, stateCount}
 use Rattle.livelock.specs.Weights.{weight}
-use Rattle.livelock.specs.Figures.{statesLessOne, mostStates, largestWeight, base, perProgress}
+use Rattle.livelock.specs.Figures.{statesLessOne, mostStates, largestWeight, base, perProgress, perDoubling}
 use Rattle.livelock.proofs.ListLaws.{all-at}
 use Rattle.livelock.proofs.SumLaws.{sum-limit, greatest-limit}
 use Rattle.plant.specs.Limits.{WithinLimits}
@@ -22,12 +22,12 @@ module _ (states ws : List ℕ) (n less w : ℕ)
     (most : n ≡ greatest (λ m. getD states m 0) (below (length states)))
     (total : less ≡ sum (λ m. getD states m 0 - 1) (below (length states)))
     (largest : w ≡ greatest (λ t. getD ws t 0) (below (length ws))) where
-  pub figures-are : FiguresOf states ws (record { base = less + n * w * less; «most_states» = n; «per_progress» = (n - 1) + n * n * w })
+  pub figures-are : FiguresOf states ws (record { base = less + n * w * less; «most_states» = n; «per_progress» = (n - 1) + n * n * w; «per_doubling» = n * w })
   figures-are P s t = rw (s, t, most, total, largest)
 
 -- Structs that hold the same figures are the same.
 pub same-figures : (f g : Figures) → figuresIn f ≡ figuresIn g → f ≡ g
-same-figures f g e = λ i. record { base = e i .base; «most_states» = e i .«most_states»; «per_progress» = e i .«per_progress» }
+same-figures f g e = λ i. record { base = e i .base; «most_states» = e i .«most_states»; «per_progress» = e i .«per_progress»; «per_doubling» = e i .«per_doubling» }
 
 -- ---- the largest figures
 
@@ -54,6 +54,10 @@ module _ (P : Plant) (limits : WithinLimits P) where
     pub base-limit : base P ws ≤ 64513008
     base-limit = omega (arith, less-limit, mul-le-mul (mul-le-mul most-limit largest-limit) less-limit)
 
-    -- and G at most 63 + 64 × 64 × 1,000.
+    -- G at most 63 + 64 × 64 × 1,000,
     pub per-progress-limit : perProgress P ws ≤ 4096063
     per-progress-limit = omega (arith, most-limit, mul-le-mul (mul-le-mul most-limit most-limit) largest-limit)
+
+    -- and n × w at most 64 × 1,000.
+    pub per-doubling-limit : perDoubling P ws ≤ 64000
+    per-doubling-limit = mul-le-mul most-limit largest-limit

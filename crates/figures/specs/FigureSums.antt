@@ -10,9 +10,9 @@ use Rattle.figures.specs.declared.Figures.{Figures}
 
 -- The figures of the theory that a struct holds.
 abbrev pub figuresIn : Figures → Theory.Figures
-figuresIn f = record { base = f .base; «most_states» = f .«most_states»; «per_progress» = f .«per_progress» }
+figuresIn f = record { base = f .base; «most_states» = f .«most_states»; «per_progress» = f .«per_progress»; «per_doubling» = f .«per_doubling» }
 
--- "it hands back exactly these F, n and G": the figures of a plant with these counts of states and a weight for each of its types.
+-- "it hands back exactly these F, n and G", and "also hands back n × w": the figures of a plant with these counts of states and a weight for each of its types.
 abbrev pub FiguresOf : List ℕ → List ℕ → Figures → Type 0
 FiguresOf states ws f = (P : Plant) → P .states ≡ states → P .types ≡ length ws → figuresIn f ≡ figuresOf P ws
 

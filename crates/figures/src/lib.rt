@@ -1,15 +1,16 @@
-// The figures F, n and G of demand 3. No entry point: `weighing` calls it.
+// The figures F, n, G and n × w of demand 3. No entry point: `weighing` calls it.
 ghost use mathlib.Core.Path.{_≡_};
 ghost use Prim.Native.Nat.{_-_, _≤_, max};
 ghost use lib.ListN.{length, getD};
 ghost use Rattle.livelock.specs.Lists.{below, sum, greatest};
 ghost use Rattle.figures.specs.FigureSums.{FiguresOf, SomeStates};
 
-// F, n and G.
+// F, n, G and n × w.
 pub struct Figures {
     pub base: u64,
     pub most_states: u64,
     pub per_progress: u64,
+    pub per_doubling: u64,
 }
 
 fn larger(a: u64, b: u64) -> u64
@@ -68,7 +69,7 @@ fn largest_weight(weights: &[u16]) -> u64
     largest
 }
 
-// F, n and G of a plant with these counts of states and these weights.
+// F, n, G and n × w of a plant with these counts of states and these weights.
 pub fn figures_of(states: &[u8], weights: &[u16]) -> Figures
     requires { ⌜ (1 ≤ length (now states)) × (length (now states) ≤ 16) × SomeStates (now states) ⌝ }
     ensures { λ r. ⌜ FiguresOf (now (states .entry)) (now (weights .entry)) r ⌝ }
@@ -76,9 +77,11 @@ pub fn figures_of(states: &[u8], weights: &[u16]) -> Figures
     let n = most_states(states);
     let less = states_less_one(states);
     let w = largest_weight(weights);
+    let per_doubling = n * w;
     Figures {
-        base: less + n * w * less,
+        base: less + per_doubling * less,
         most_states: n,
         per_progress: (n - 1) + n * n * w,
+        per_doubling,
     }
 }

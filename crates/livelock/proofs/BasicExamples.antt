@@ -12,11 +12,11 @@ use lib.Signed.{_≤ℤ_, leZ-yes}
 use lib.Dec.{lit<}
 use Rattle.livelock.specs.Lists.{below, sum, sumℤ, greatest, All, Distinct}
 use Rattle.livelock.specs.Plants.{Plant, rowWith, hasProgress}
-use Rattle.livelock.specs.Runs.{Configuration, Event, row, loss, canHappen, changed, after, afterAll, run}
-use Rattle.livelock.specs.Runs.{isQuietRow, isProgressRow, quietRows, progressRows}
+use Rattle.livelock.specs.Runs.{Configuration, Event, row, loss, doubling, canHappen, changed, after, afterAll, run}
+use Rattle.livelock.specs.Runs.{isQuietRow, isProgressRow, isDoubling, quietRows, progressRows, doublings}
 use Rattle.livelock.specs.Cycles.{Walk, SimpleCycle, Quiet}
 use Rattle.livelock.specs.Weights.{cycleWeight, Passes}
-use Rattle.livelock.specs.Figures.{statesLessOne, mostStates, largestWeight, base, perProgress, figuresOf, contentsWeight, ceilingOf}
+use Rattle.livelock.specs.Figures.{statesLessOne, mostStates, largestWeight, base, perProgress, perDoubling, figuresOf, contentsWeight, ceilingOf}
 use Rattle.livelock.specs.CycleSets.{Entry, setEffect, Balanced}
 
 -- ---- plants A and B of document 01
@@ -43,15 +43,15 @@ plantB = panelAndProbe false
 
 -- ---- figures of plant A
 
--- Weights 2, 1: F 10, n 2, G 9.
-figures-2-1 : (base plantA (2 ∷ 1 ∷ []) ≡ 10) × (mostStates plantA ≡ 2) × (perProgress plantA (2 ∷ 1 ∷ []) ≡ 9)
+-- Weights 2, 1: F 10, n 2, G 9, n × w 4.
+figures-2-1 : (base plantA (2 ∷ 1 ∷ []) ≡ 10) × (mostStates plantA ≡ 2) × (perProgress plantA (2 ∷ 1 ∷ []) ≡ 9) × (perDoubling plantA (2 ∷ 1 ∷ []) ≡ 4)
 unfolding panelAndProbe below sum greatest
-figures-2-1 = (refl, refl, refl)
+figures-2-1 = (refl, refl, refl, refl)
 
--- Weights 1, 0: F 6, n 2, G 5.
-figures-1-0 : (base plantA (1 ∷ 0 ∷ []) ≡ 6) × (mostStates plantA ≡ 2) × (perProgress plantA (1 ∷ 0 ∷ []) ≡ 5)
+-- Weights 1, 0: F 6, n 2, G 5, n × w 2.
+figures-1-0 : (base plantA (1 ∷ 0 ∷ []) ≡ 6) × (mostStates plantA ≡ 2) × (perProgress plantA (1 ∷ 0 ∷ []) ≡ 5) × (perDoubling plantA (1 ∷ 0 ∷ []) ≡ 2)
 unfolding panelAndProbe below sum greatest
-figures-1-0 = (refl, refl, refl)
+figures-1-0 = (refl, refl, refl, refl)
 
 -- Of weights 1, 2 the largest is the second.
 largest-1-2 : largestWeight plantA (1 ∷ 2 ∷ []) ≡ 2
@@ -112,6 +112,29 @@ without-loss = row 2 ∷ row 0 ∷ row 2 ∷ row 9 ∷ loss 7 ∷ loss 0 ∷ row
 run-without-loss : (quietRows plantA empty without-loss ≡ 3) × (progressRows plantA empty without-loss ≡ 1)
 unfolding panelAndProbe empty without-loss sum run canHappen changed after isQuietRow isProgressRow hasProgress
 run-without-loss = (refl, refl)
+
+-- ---- doublings (document 02, L6)
+
+-- Doubling 0 finds no message before row 0, and behind it adds one, so that the probe has two to take. The plant has no type 7.
+with-doubling : List Event
+with-doubling = doubling 0 ∷ row 0 ∷ doubling 0 ∷ doubling 7 ∷ row 2 ∷ row 3 ∷ row 2 ∷ row 3 ∷ row 2 ∷ []
+
+-- A doubling that happens is an event of the run, and neither a quiet row nor a progress row.
+run-with-doubling : (run plantA empty with-doubling ≡ row 0 ∷ doubling 0 ∷ row 2 ∷ row 3 ∷ row 2 ∷ row 3 ∷ []) × (quietRows plantA empty with-doubling ≡ 5)
+    × (progressRows plantA empty with-doubling ≡ 0) × (doublings plantA empty with-doubling ≡ 1)
+unfolding panelAndProbe empty with-doubling sum run canHappen changed after isQuietRow isProgressRow isDoubling hasProgress
+run-with-doubling = (refl, refl, refl, refl)
+
+-- A loss is no doubling.
+none-with-loss : doublings plantA empty with-loss ≡ 0
+unfolding panelAndProbe empty with-loss sum run canHappen changed after isDoubling
+none-with-loss = refl
+
+-- There are three messages of every number, also of 7, which is no type of the plant.
+one-doubled : (run plantA three (doubling 7 ∷ doubling 0 ∷ []) ≡ doubling 0 ∷ []) × (afterAll plantA three (doubling 7 ∷ doubling 0 ∷ []) .content 0 ≡ 4)
+    × (afterAll plantA three (doubling 7 ∷ doubling 0 ∷ []) .content 1 ≡ 3) × (afterAll plantA three (doubling 7 ∷ doubling 0 ∷ []) .content 7 ≡ 3)
+unfolding panelAndProbe three run canHappen changed after afterAll
+one-doubled = (refl, refl, refl, refl)
 
 -- ---- cycles
 
@@ -214,13 +237,14 @@ both-balanced =
 
 -- ---- ceilings
 
--- Plant A, weights 2, 1, contents 3, 4, g 1: W 10, ceiling 39.
+-- Plant A, weights 2, 1, contents 3, 4, g 1: W 10, ceiling 39; with three doublings 39 + 3 × 4.
 three-and-four : ℕ → ℕ
 three-and-four t = getD (3 ∷ 4 ∷ []) t 0
 
-ceiling-39 : (contentsWeight plantA (2 ∷ 1 ∷ []) three-and-four ≡ 10) × (ceilingOf (figuresOf plantA (2 ∷ 1 ∷ [])) 10 1 ≡ 39)
+ceiling-39 : (contentsWeight plantA (2 ∷ 1 ∷ []) three-and-four ≡ 10) × (ceilingOf (figuresOf plantA (2 ∷ 1 ∷ [])) 10 1 0 ≡ 39)
+    × (ceilingOf (figuresOf plantA (2 ∷ 1 ∷ [])) 10 1 3 ≡ 51)
 unfolding panelAndProbe three-and-four below sum greatest
-ceiling-39 = (refl, refl)
+ceiling-39 = (refl, refl, refl)
 
 -- A plant that meets its ceiling: one state, row 0 takes type 0, row 1 sends it with progress. Weight 1: F 0, n 1, G 1.
 unfoldable pub tight : Plant
@@ -247,6 +271,17 @@ tight-events : List Event
 tight-events = row 0 ∷ row 1 ∷ row 0 ∷ row 0 ∷ row 0 ∷ row 0 ∷ []
 
 -- From content 3 there are 4 quiet rows and 1 progress row, and the ceiling is 4.
-tight-run : (quietRows tight three tight-events ≡ 4) × (progressRows tight three tight-events ≡ 1) × (ceilingOf (figuresOf tight (1 ∷ [])) (contentsWeight tight (1 ∷ []) (three .content)) 1 ≡ 4)
+tight-run : (quietRows tight three tight-events ≡ 4) × (progressRows tight three tight-events ≡ 1) × (ceilingOf (figuresOf tight (1 ∷ [])) (contentsWeight tight (1 ∷ []) (three .content)) 1 0 ≡ 4)
 unfolding tight three tight-events below sum greatest run canHappen changed after isQuietRow isProgressRow hasProgress
 tight-run = (refl, refl, refl)
+
+-- A run meets the bound: where the plant that meets its ceiling of 4 has a message doubled, there are 5 quiet rows, and the ceiling is 5.
+-- So n × w × d cannot be left out.
+doubled-events : List Event
+doubled-events = doubling 0 ∷ tight-events
+
+doubled-run : (quietRows tight three doubled-events ≡ 5) × (progressRows tight three doubled-events ≡ 1) × (doublings tight three doubled-events ≡ 1)
+    × (ceilingOf (figuresOf tight (1 ∷ [])) (contentsWeight tight (1 ∷ []) (three .content)) 1 1 ≡ 5)
+    × (ceilingOf (figuresOf tight (1 ∷ [])) (contentsWeight tight (1 ∷ []) (three .content)) 1 0 ≡ 4)
+unfolding tight three tight-events doubled-events below sum greatest run canHappen changed after isQuietRow isProgressRow isDoubling hasProgress
+doubled-run = (refl, refl, refl, refl, refl)

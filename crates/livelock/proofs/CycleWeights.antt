@@ -104,7 +104,7 @@ module _ (P : Plant) (wf : WellFormed P) (ws c : List ℕ) where
   zero-or-more-iff = not-negative-iff (cycleWeight P ws c) (sum (sentWeight P ws) c) (sum (takenWeight P ws) c) weight-by-rows
 
 -- No message is heavier than w, the largest weight.
-message-bound : (P : Plant) (ws : List ℕ) (o : Option ℕ) → TypeIn (P .types) o → messageWeight ws o ≤ largestWeight P ws
+pub message-bound : (P : Plant) (ws : List ℕ) (o : Option ℕ) → TypeIn (P .types) o → messageWeight ws o ≤ largestWeight P ws
 message-bound P ws none h = omega arith
 message-bound P ws (some t) h = omega (arith, greatest-below (weight ws) (P .types) t h)
 

@@ -21,3 +21,4 @@ pub mod CycleSetLaws
 pub mod Exclusion
 pub mod PassingExamples
 pub mod TakeAndSend
+pub mod Doublings

@@ -6,7 +6,7 @@ use Prim.Native.Nat.{ℕ, _+_, _*_, _≤_}
 use lib.Signed.{leZ-yes}
 use Rattle.livelock.specs.Lists.{below, sum, sumℤ, greatest}
 use Rattle.livelock.specs.Plants.{hasProgress, WellFormed}
-use Rattle.livelock.specs.Runs.{Configuration, Event, quietRows, progressRows}
+use Rattle.livelock.specs.Runs.{Configuration, Event, quietRows, progressRows, doublings}
 use Rattle.livelock.specs.Weights.{cycleWeight, Passes, FailingCycle, FewestRows}
 use Rattle.livelock.specs.Figures.{contentsWeight}
 use Rattle.livelock.specs.Tests.{every}
@@ -29,7 +29,7 @@ unfolding panelAndProbe below greatest every statePotential longest via hasProgr
 passes-2-1 = passing-iff plantA formed-A (2 ∷ 1 ∷ []) .0 refl
 
 runs-of-A : (c : Configuration) (events : List Event)
-    → quietRows plantA c events ≤ 10 + 2 * contentsWeight plantA (2 ∷ 1 ∷ []) (c .content) + 9 * progressRows plantA c events
+    → quietRows plantA c events ≤ 10 + 2 * contentsWeight plantA (2 ∷ 1 ∷ []) (c .content) + 9 * progressRows plantA c events + 4 * doublings plantA c events
 unfolding panelAndProbe below sum greatest
 runs-of-A = ceiling plantA formed-A (2 ∷ 1 ∷ []) passes-2-1
 

@@ -128,6 +128,6 @@ feeder-bounded = ceiling feeder (well-formed-iff feeder .0 refl) (1 ∷ 0 ∷ []
 -- and a run meets the ceiling: from three orders there are 4 quiet rows and 1 progress row, and the ceiling is 0 + 1 × 3 + 1 × 1.
 feeder-run : (quietRows feeder (orders 3) (row 0 ∷ row 1 ∷ row 0 ∷ row 0 ∷ row 0 ∷ row 0 ∷ []) ≡ 4)
     × (progressRows feeder (orders 3) (row 0 ∷ row 1 ∷ row 0 ∷ row 0 ∷ row 0 ∷ row 0 ∷ []) ≡ 1)
-    × (ceilingOf (figuresOf feeder (1 ∷ 0 ∷ [])) (contentsWeight feeder (1 ∷ 0 ∷ []) (orders 3 .content)) 1 ≡ 4)
+    × (ceilingOf (figuresOf feeder (1 ∷ 0 ∷ [])) (contentsWeight feeder (1 ∷ 0 ∷ []) (orders 3 .content)) 1 0 ≡ 4)
 unfolding feeder orders below sum greatest run canHappen changed after isQuietRow isProgressRow hasProgress
 feeder-run = (refl, refl, refl)

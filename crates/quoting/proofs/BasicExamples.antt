@@ -16,21 +16,22 @@ use Rattle.quoting.specs.Quoting.{judged, ceilingFor}
 
 -- ---- plant A of document 01
 
--- Its 20 bytes, with weights 2, 1, contents 3, 4 and g 1: no fault,
-judged-A : judged (panelAndProbeFile 0x1B) (2 ∷ 1 ∷ []) (3 ∷ 4 ∷ []) 1 ≡ found plantA 20
+-- Its 20 bytes, with weights 2, 1, contents 3, 4, g 1 and d 3: no fault,
+judged-A : judged (panelAndProbeFile 0x1B) (2 ∷ 1 ∷ []) (3 ∷ 4 ∷ []) 1 3 ≡ found plantA 20
 unfolding panelAndProbeFile panelAndProbe byteAt byteThat byteIn mapByte stateField typeField readRow readRows rowsByte readMachine readMachines readPlant firstAbove checkedSizes checkedWeights checkedAmounts checkedContents
 judged-A = refl
 
--- W 10, ceiling 39, class 6.
-quoted-A : (contentsWeight plantA (2 ∷ 1 ∷ []) (content (3 ∷ 4 ∷ [])) ≡ 10) × (ceilingFor plantA (2 ∷ 1 ∷ []) (3 ∷ 4 ∷ []) 1 ≡ 39) × (classOf 39 ≡ 6)
+-- W 10, and without a doubling the ceiling 39 of class 6; with three it is 51.
+quoted-A : (contentsWeight plantA (2 ∷ 1 ∷ []) (content (3 ∷ 4 ∷ [])) ≡ 10) × (ceilingFor plantA (2 ∷ 1 ∷ []) (3 ∷ 4 ∷ []) 1 0 ≡ 39) × (classOf 39 ≡ 6)
+    × (ceilingFor plantA (2 ∷ 1 ∷ []) (3 ∷ 4 ∷ []) 1 3 ≡ 51)
 unfolding panelAndProbe below sum greatest edges classOf
-quoted-A = (refl, refl, refl)
+quoted-A = (refl, refl, refl, refl)
 
 -- ---- faults, in their order
 
 -- The checks of plant A, whose file has 20 bytes.
 abbrev checkedA : (ws contents : List ℕ) → ℕ → Found Plant
-checkedA ws contents g = andThen (checkedWeights ws plantA 20) (checkedContents contents g)
+checkedA ws contents g = andThen (checkedWeights ws plantA 20) (checkedContents contents (g ∷ 0 ∷ []))
 
 -- Numbers 9 and 10 come before number 20.
 weight-missing : checkedA (2 ∷ []) (3 ∷ []) 1 ≡ fault 9 0

@@ -1,4 +1,4 @@
--- Demand 3 from the side of the answer: whenever weighing hands back F, n and G, the bound holds with these F, n and G.
+-- Demand 3 from the side of the answer: whenever weighing hands back figures, the bound holds with these figures.
 use mathlib.Core.Path.{_≡_, refl, sym, _∙_, subst}
 use mathlib.Core.Bool.{false≢true}
 use mathlib.Core.List.{List}
@@ -37,7 +37,7 @@ module _ (file ws before after : List ℕ) (a : Answer) (P : Plant) (end : ℕ) 
           subst (λ (x : Plant). Passes x ws × OnPassing x ws before after a) (sym same) (passes, on-passing (subst (Owed ws before after a) e owed) passes)
 
 -- "Whenever the weighing passes weights, this bound holds and it hands back exactly these F, n and G": an answer that meets the contract
--- of `weigh` and hands back F, n and G bounds every list of events from any states and any contents of the plant that was read.
+-- of `weigh` and hands back figures bounds every list of events from any states and any contents of the plant that was read.
 pub passed-bound : (file ws before after : List ℕ) (f : Figures) (P : Plant) (end : ℕ) → readPlant file ≡ found P end
     → Owed ws before after (passed f) (judged file ws (length before)) → BoundedBy P ws f
 passed-bound file ws before after f P end reads owed =

@@ -8,7 +8,7 @@ use Rattle.weighing.specs.declared.Weighed.the-variants as Variants
 use Rattle.weighing.specs.declared.Verdict.{Verdict}
 use Rattle.weighing.specs.declared.Verdict.the-variants as Verdicts
 
--- "Passing hands back F, n and G"; otherwise "their count is handed back"; or "its number and a place". Different answers are different here.
+-- "Passing hands back F, n and G", and "also … n × w"; otherwise "their count is handed back"; or "its number and a place". Different answers are different here.
 pub data Answer : Type 0 where
   passed : Figures → Answer
   cycle : ℕ → Answer
@@ -24,7 +24,7 @@ answerOf (Variants.Refused f) = refused (f .number) (f .place)
 abbrev pub HasFigures : Answer → Type 0
 HasFigures a = (f : Figures) × (a ≡ passed f)
 
--- Without a cycle: "Passing hands back F, n and G"; or that the weights do not pass; or "its number and a place".
+-- Without a cycle: "Passing hands back F, n and G", and "also … n × w"; or that the weights do not pass; or "its number and a place".
 pub data Judgement : Type 0 where
   passing : Figures → Judgement
   failing : Judgement

@@ -1,4 +1,4 @@
--- What weighing owes (document 01, "Cycles and weighing"; demands 2 and 3). How its input is judged stands in crate `weight_checks`.
+-- What weighing owes (document 01, "Cycles and weighing"; document 02, L1 and L6; demands 2 and 3). How its input is judged stands in crate `weight_checks`.
 use mathlib.Core.Path.{_≡_}
 use mathlib.Core.List.{List, _++_}
 use Prim.Native.Nat.{ℕ, _≤_}
@@ -9,7 +9,8 @@ use Rattle.livelock.specs.Figures.{figuresOf, Bounded}
 use Rattle.plant.specs.Found.{Found, found, fault}
 use Rattle.weighing.specs.Answers.{Answer, passed, cycle, refused, Judgement, passing, failing, refusing}
 
--- "Passing hands back F, n and G as in the mission"; "On passing, the whole list does" keep its contents; and the bound holds.
+-- "Passing hands back F, n and G as in the mission", and "also hands back n × w"; "On passing, the whole list does" keep its contents; and the
+-- bound holds.
 pub record OnPassing (P : Plant) (ws before after : List ℕ) (a : Answer) : Type 0 where
   pub figures : a ≡ passed (figuresOf P ws)
   pub whole-kept : after ≡ before
@@ -36,7 +37,7 @@ pub data Owed (ws before after : List ℕ) (a : Answer) : Found Plant → Type 0
   for-plant : {P : Plant} {end : ℕ} → (Passes P ws → OnPassing P ws before after a) → ((Passes P ws → ⊥) → OnFailing P ws before after a)
       → Owed ws before after a (found P end)
 
--- "Passing hands back F, n and G as in the mission"; and the bound holds.
+-- "Passing hands back F, n and G as in the mission", and "also hands back n × w"; and the bound holds.
 pub record OnPassingVerdict (P : Plant) (ws : List ℕ) (v : Judgement) : Type 0 where
   pub figures : v ≡ passing (figuresOf P ws)
   pub bounded : Bounded P ws

@@ -27,14 +27,14 @@ const TABLE: usize = 8192;
 // The numbers of a list of 256 edges: a machine has at most 255 rows.
 const EDGES: usize = 1024;
 
-// The answer of weighing: F, n and G, or how many rows are shown, or a fault.
+// The answer of weighing: F, n, G and n × w, or how many rows are shown, or a fault.
 pub enum Weighed {
     Passed(Figures),
     Cycle { rows: usize },
     Refused(Fault),
 }
 
-// The answer of weighing without a cycle: F, n and G, or that the weights do not pass, or a fault.
+// The answer of weighing without a cycle: F, n, G and n × w, or that the weights do not pass, or a fault.
 pub enum Verdict {
     Passes(Figures),
     Fails,

@@ -45,9 +45,9 @@ shown-owed file ws before after rows a P end reads one-each light rightful fewes
     (shown, shown .count ∙ ap cycle (fewest-as-many (shown .fails) (shown .fewest) rightful fewest))
 
 -- An answer of quoting that is owed for such a plant has the ceiling and its class.
-pub quote-owed : (ws contents : List ℕ) (g : ℕ) (a : QuotingAnswers.Answer) (P : Plant) (end : ℕ) (x : Found Plant) → x ≡ found P end → Passes P ws
-    → Quoting.Owed ws contents g a x → a ≡ QuotingAnswers.quoted (Quoting.ceilingFor P ws contents g) (classOf (Quoting.ceilingFor P ws contents g))
-quote-owed ws contents g a P end x e p owed = on-passing (subst (Quoting.Owed ws contents g a) e owed)
+pub quote-owed : (ws contents : List ℕ) (g d : ℕ) (a : QuotingAnswers.Answer) (P : Plant) (end : ℕ) (x : Found Plant) → x ≡ found P end → Passes P ws
+    → Quoting.Owed ws contents g d a x → a ≡ QuotingAnswers.quoted (Quoting.ceilingFor P ws contents g d) (classOf (Quoting.ceilingFor P ws contents g d))
+quote-owed ws contents g d a P end x e p owed = on-passing (subst (Quoting.Owed ws contents g d a) e owed)
   where
-    on-passing : Quoting.Owed ws contents g a (found P end) → a ≡ QuotingAnswers.quoted (Quoting.ceilingFor P ws contents g) (classOf (Quoting.ceilingFor P ws contents g))
+    on-passing : Quoting.Owed ws contents g d a (found P end) → a ≡ QuotingAnswers.quoted (Quoting.ceilingFor P ws contents g d) (classOf (Quoting.ceilingFor P ws contents g d))
     on-passing (Quoting.for-plant passing failing) = passing p .quote

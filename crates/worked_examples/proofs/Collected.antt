@@ -18,7 +18,7 @@ use Rattle.plant.specs.Found.{found}
 use Rattle.weight_checks.specs.Checks.{firstAbove, checkedSizes, checkedWeights}
 use Rattle.price_classes.specs.Classes.{edges, classOf}
 use Rattle.contents.specs.Contents.{checkedAmounts, checkedContents}
-use Rattle.quoting.specs.Quoting.{judged}
+use Rattle.quoting.specs.Quoting.{judged, ceilingFor}
 use Rattle.cycle_paths.specs.Listings.{flattened}
 use Rattle.cycle_paths.specs.Cycles.{joined, selected, unleft, paths, cyclesThrough}
 use Rattle.listing.specs.Listing as Listing
@@ -26,7 +26,7 @@ use Rattle.set_numbers.specs.Numbers.{numberIn, rowsAt, entryBegins}
 use Rattle.set_entries.specs.Sets.{entryEnds, entryAt, entriesAt}
 use Rattle.cycle_sets.specs.Confirming.{lowestNegative}
 use Rattle.worked_examples.specs.Files.{fileA, oneState, oneRow}
-use Rattle.worked_examples.specs.Table.{Examples}
+use Rattle.worked_examples.specs.Table.{QuotedAs, Examples, DoublingExample}
 use Rattle.worked_examples.proofs.Plants.{onePlant, rowPlant, reads-A, reads-B, reads-one-state, reads-quiet-row, reads-progress-row}
 use Rattle.worked_examples.proofs.Plants.{passes-1-0, shown-1-2, one-state-passes, quiet-row-fails, progress-row-passes}
 use Rattle.worked_examples.proofs.AnswerLaws.{figures-owed, shown-owed, quote-owed}
@@ -39,6 +39,19 @@ needs-3 = rw reads-A
 -- A list of 3 holds them and nothing else.
 fills-3 : (before : List ℕ) → length before ≡ 3 → Listing.filled (Listing.judged fileA 1 (length before)) before ≡ (2 ∷ 2 ∷ 3 ∷ [])
 fills-3 before e = let short : length before ≤ 3 = omega (arith, e) in rw (e, needs-3, drop-of-length-le before short)
+
+-- Weights 2, 1 pass in plant A, so with contents 3, 4, g 1 and a d that is checked without a fault every answer has the ceiling for them.
+quoted-A : (d : ℕ) → checkedContents (3 ∷ 4 ∷ []) (1 ∷ d ∷ []) plantA 20 ≡ found plantA 20
+    → QuotedAs fileA (2 ∷ 1 ∷ []) (3 ∷ 4 ∷ []) 1 d 10 (ceilingFor plantA (2 ∷ 1 ∷ []) (3 ∷ 4 ∷ []) 1 d) (classOf (ceilingFor plantA (2 ∷ 1 ∷ []) (3 ∷ 4 ∷ []) 1 d))
+unfolding panelAndProbe below sum firstAbove checkedSizes checkedWeights
+quoted-A d good =
+    record {
+      plant = plantA;
+      end = 20;
+      reads = reads-A;
+      contents-weigh = refl;
+      answer = λ a owed. quote-owed (2 ∷ 1 ∷ []) (3 ∷ 4 ∷ []) 1 d a plantA 20 (judged fileA (2 ∷ 1 ∷ []) (3 ∷ 4 ∷ []) 1 d) (rw reads-A good) passes-2-1 owed;
+    }
 
 -- The table holds. Each number of it is computed here from the definitions.
 pub examples : Examples
@@ -74,14 +87,7 @@ examples =
                 λ before after a room owed.
                 shown-owed fileA (1 ∷ 2 ∷ []) before after (2 ∷ 3 ∷ []) a plantA 20 reads-A refl (le-refl 2) shown-1-2 (fewest-in-A (1 ∷ 2 ∷ [])) room owed;
           };
-      quote-39 =
-          record {
-            plant = plantA;
-            end = 20;
-            reads = reads-A;
-            contents-weigh = refl;
-            answer = λ a owed. quote-owed (2 ∷ 1 ∷ []) (3 ∷ 4 ∷ []) 1 a plantA 20 (judged fileA (2 ∷ 1 ∷ []) (3 ∷ 4 ∷ []) 1) (rw reads-A) passes-2-1 owed;
-          };
+      quote-39 = quoted-A 0 refl;
       both-cycles = rw reads-B;
       none-in-B = record { plant = plantB; end = 20; reads = reads-B; none = λ ws long p. none-pass-in-B ws p };
       panel-alone = rw reads-B;
@@ -91,3 +97,8 @@ examples =
       progress-row = record { plant = rowPlant _; end = 5; reads = reads-progress-row; all = λ ws long. progress-row-passes ws };
       progress-row-figures = λ before after a room owed. figures-owed (oneRow 0x10) [] before after a (rowPlant _) 5 reads-progress-row refl (le-refl 0) (progress-row-passes []) room owed;
     }
+
+-- With three doublings the ceiling is 51.
+pub doubling-example : DoublingExample
+unfolding panelAndProbe below sum greatest firstAbove edges classOf checkedAmounts checkedContents
+doubling-example = record { quote-51 = quoted-A 3 refl }

@@ -1,5 +1,5 @@
-// Runs every worked example of document 01, its tempting errors, the published test's running example and a plant with a detour through
-// the calls, and prints a line for each.
+// Runs every worked example of document 01, its tempting errors, the published test's running example, a plant with a detour and quotes for a
+// bus that doubles messages through the calls, and prints a line for each.
 use cycle_sets::Confirmation;
 use listing::Listed;
 use quoting::Quoted;
@@ -36,6 +36,7 @@ fn weigh(title: &[u8], file: &[u8], weights: &[u16]) {
             printing::say_number(b"passed with F ", figures.base);
             printing::say_number(b", n ", figures.most_states);
             printing::say_number(b", G ", figures.per_progress);
+            printing::say_number(b", n x w ", figures.per_doubling);
         }
         Weighed::Cycle { rows } => {
             printing::say(b"not passed, shown are the rows");
@@ -63,8 +64,9 @@ fn weigh_untyped(title: &[u8], file: &[u8]) {
     weigh(title, file, &[]);
 }
 
-fn quote(title: &[u8], file: &[u8], weights: &[u16], contents: &[u32], g: u32) {
-    let answer = quoting::quote(file, weights, contents, g);
+// Quotes for plant A with weights 2, 1, contents 3, 4 and g 1.
+fn quote_a(title: &[u8], d: u32) {
+    let answer = quoting::quote(&plants::PLANT_A, &[2, 1], &[3, 4], 1, d);
     printing::say(title);
     match answer {
         Quoted::Ceiling { ceiling, class } => {
@@ -138,16 +140,16 @@ fn weighing_one_state() {
     weigh_untyped(b"One state, row 10: ", &plants::PROGRESS_ROW);
 }
 
-fn quoting_and_listing() {
+fn quoting_a() {
+    quote_a(b"A, weights 2, 1, contents 3, 4, g 1: ", 0);
+    quote_a(b"A, weights 2, 1, contents 3, 4, g 1, d 3: ", 3);
+    quote_a(b"A, weights 2, 1, contents 3, 4, g 1, d 1000000: ", 1000000);
+    quote_a(b"A, weights 2, 1, contents 3, 4, g 1, d 1000001: ", 1000001);
+}
+
+fn listing_a() {
     let mut three = [7; 3];
     let mut two = [7; 2];
-    quote(
-        b"A, weights 2, 1, contents 3, 4, g 1: ",
-        &plants::PLANT_A,
-        &[2, 1],
-        &[3, 4],
-        1,
-    );
     list(
         b"Listing A's machine 1, lent 3 entries: ",
         &plants::PLANT_A,
@@ -266,7 +268,8 @@ fn main() {
     reading();
     weighing_a();
     weighing_one_state();
-    quoting_and_listing();
+    quoting_a();
+    listing_a();
     sets_of_b();
     tempting_weights();
     tempting_listings();

@@ -15,8 +15,8 @@ def weighed(library, plant, weights):
     return answer, list(cycle[:answer.rows])
 
 
-def quoted(library, plant, weights, contents, g):
-    return accepted(library, library.quote(plant.data, weights, contents, g), where_in_amounts(plant, weights, contents, g))
+def quoted(library, plant, weights, contents, g, d):
+    return accepted(library, library.quote(plant.data, weights, contents, g, d), where_in_amounts(plant, weights, contents, g, d))
 
 
 def listed(library, plant, machine, most):

@@ -37,7 +37,7 @@ class Parser(argparse.ArgumentParser):
     """A parser that leaves it to `main` how a bad use is told."""
 
     def error(self, message):
-        hint = ' (PLANT stands before -w, -c and -g)' if 'PLANT' in message else ''
+        hint = ' (PLANT stands before -w, -c, -g and -d)' if 'PLANT' in message else ''
         raise BadUse('%s%s: %s%s\n`%s --help` explains it' % (self.format_usage(), self.prog, message, hint, self.prog))
 
 

@@ -4,6 +4,7 @@ import os
 
 from .outcomes import BadInput
 from .texts import is_number
+from .words import DOUBLING
 
 AMOUNTS = '''weights and contents are given as
   request=2 answer=1   by name; a type that is not named has 0
@@ -11,6 +12,8 @@ AMOUNTS = '''weights and contents are given as
   FILE                 a text with NAME NUMBER in each line, or with the numbers in order; weights also as in weights.bin: two bytes
                        each, low byte first
 '''
+MOST_DOUBLINGS = '''%s D is the most messages that are delivered twice in the
+time that is quoted for (one that is delivered three times counts as two); it is 0 for a bus that delivers no message twice.''' % DOUBLING
 
 
 def whole_number(word):

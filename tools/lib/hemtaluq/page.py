@@ -5,7 +5,7 @@ from html import escape
 from . import drawing
 from .outcomes import BadInput
 from .texts import counted, grouped
-from .words import PRICE_CLASS, SETTING, bound, opening_weight
+from .words import DOUBLING, PRICE_CLASS, SETTING, bound, opening_weight
 
 # How long the drawing may take.
 SECONDS = 60
@@ -62,18 +62,19 @@ def rows_table(plant, numbers, red=()):
 
 
 def passed_part(plant, sheet):
-    answer, quotes = sheet.answer, [(g, quote.ceiling, quote.price_class) for g, quote in sheet.quotes]
-    figures = [('F', answer.base, 'with empty buffers'), ('n', answer.most_states, 'for each unit of W'), ('G', answer.per_progress, 'for each progress row')]
+    answer, quotes = sheet.answer, [(g, d, quote.ceiling, quote.price_class) for g, d, quote in sheet.quotes]
+    figures = [('F', answer.base, 'with empty buffers'), ('n', answer.most_states, 'for each unit of W'), ('G', answer.per_progress, 'for each progress row'),
+               ('n × w', answer.per_doubling, 'for each doubling')]
     return [
         '<section class="verdict passed"><strong>Passed</strong>', '<p>%s the quiet rows (rows without progress) that happen number at most</p>' % SETTING,
         '<p class="formula">%s</p>' % escape(bound(answer)),
-        '<p>W is the weight of what the buffers hold at the start, %s; g counts the progress rows that happen.</p></section>'
-        % escape(opening_weight(plant, sheet.weights)),
+        '<p>W is the weight of what the buffers hold at the start, %s; g counts the progress rows that happen, and d the doublings. %s</p></section>'
+        % (escape(opening_weight(plant, sheet.weights)), DOUBLING),
         '<h2>Weights and figures</h2>', '<div class="pair">',
         table(('message type', 'weight', 'opening content'), list(zip(plant.types, sheet.weights, sheet.contents))),
-        table(('figure', 'value', 'meaning'), figures), '</div>', '<h2>Ceilings</h2>',
-        '<p>No run that opens with these contents, from any states, with at most g progress rows, has more quiet rows than the ceiling.</p>',
-        table(('progress rows g', 'ceiling', 'price class'), quotes), '<p>%s</p>' % PRICE_CLASS]
+        table(('figure', 'value', 'meaning'), figures), '</div>', '<p>n is the most states of a machine, w the largest weight.</p>', '<h2>Ceilings</h2>',
+        '<p>No run that opens with these contents, from any states, with at most g progress rows and at most d doublings, has more quiet rows than the '
+        'ceiling.</p>', table(('progress rows g', 'doublings d', 'ceiling', 'price class'), quotes), '<p>%s</p>' % PRICE_CLASS]
 
 
 def cycle_part(plant, sheet):

@@ -36,8 +36,8 @@ def row_json(plant, number):
             'sends': None if row.sent is None else plant.types[row.sent], 'takes': None if row.taken is None else plant.types[row.taken]}
 
 
-def where_in_amounts(plant, weights, contents=(), g=0):
-    """What stands at the place of a refusal of weights, contents or g."""
+def where_in_amounts(plant, weights, contents=(), g=0, d=0):
+    """What stands at the place of a refusal of weights, contents, g or d."""
     def where(number, place):
         if number == 9:
             return 'the plant has %s, and %s given' % (counted(len(plant.types), 'type'), given(len(weights), 'weight'))
@@ -45,8 +45,8 @@ def where_in_amounts(plant, weights, contents=(), g=0):
             return 'the weight of %s is %s' % (plant.types[place], grouped(weights[place]))
         if number == 20:
             return 'the plant has %s, and %s given' % (counted(len(plant.types), 'type'), given(len(contents), 'content'))
-        if number == 21 and place == len(plant.types):
-            return 'g is %s' % grouped(g)
+        if number == 21 and place >= len(plant.types):
+            return ('g is %s' % grouped(g), 'd is %s' % grouped(d))[place - len(plant.types)]
         if number == 21:
             return 'the content of %s is %s' % (plant.types[place], grouped(contents[place]))
         return '`hemtaluq weigh` shows a quiet cycle that weighs zero or more' if number == 22 else ''
@@ -63,11 +63,17 @@ def named(plant, numbers):
 
 PRICE_CLASS = 'The price class is how many of the numbers 1, 2, 4, 8 and so on are not above the ceiling.'
 SETTING = 'From any states and any contents of the buffers, in whichever order the machines move and whatever the bus loses,'
+DOUBLING = 'In a doubling the bus delivers one message twice, as a radio link may do.'
+
+
+def figures_of(answer):
+    """The figures of weighing, by the names that scripts get."""
+    return {'F': answer.base, 'n': answer.most_states, 'G': answer.per_progress, 'nw': answer.per_doubling}
 
 
 def bound(answer):
     """The ceiling as a formula, from the figures of weighing."""
-    return '%s + %s × W + %s × g' % (grouped(answer.base), grouped(answer.most_states), grouped(answer.per_progress))
+    return '%s + %s × W + %s × g + %s × d' % tuple(map(grouped, figures_of(answer).values()))
 
 
 def opening_weight(plant, weights):
@@ -77,10 +83,10 @@ def opening_weight(plant, weights):
 
 def passed_words(plant, weights, answer):
     given = 'with the weights ' + amounts.in_words(plant, weights) if plant.types else 'as there are no types, whatever the weights'
-    return ['passed %d %d %d' % (answer.base, answer.most_states, answer.per_progress), 'Every quiet cycle weighs below zero, %s.' % given,
+    return ['passed %d %d %d %d' % tuple(figures_of(answer).values()), 'Every quiet cycle weighs below zero, %s.' % given,
             SETTING, 'at most %s quiet rows (rows without progress) happen:' % bound(answer),
             '  W  the weight of what the buffers hold at the start, %s' % opening_weight(plant, weights),
-            '  g  how many progress rows happen']
+            '  g  how many progress rows happen', '  d  how many doublings happen: how often the bus delivers one message twice']
 
 
 def cycle_words(plant, weights, rows):

@@ -29,8 +29,9 @@ write-line-with-requires c κs =
     let base = known .0 in
     let states = known .1 .0 in
     let progress = known .1 .1 .0 in
+    let doubling = known .1 .1 .1 .0 in
     let room = c .before .before .before .before .before .before .before .before .pre .2 in
-    (few-figures (omega arith) (omega arith) (omega (arith, base), (omega (arith, states), (omega (arith, progress), tt))), room)
+    (few-figures (omega arith) (omega arith) (omega (arith, base), (omega (arith, states), (omega (arith, progress), (omega (arith, doubling), tt)))), room)
 
 enum-known-answer-2 : tie.Need-enum-known-answer-2
 enum-known-answer-2 c = search needs

@@ -18,10 +18,13 @@ refused-requires c κs = search needs
 returns : tie.Need-returns
 returns c =
     let a = c .before .before .before .args in
-    λ P end t. c .refused .ensures P end ∙ refuse-20 (a .contents .now) (a .g) (a .passes) P end (λ e. c .before .if1 .taken (e ∙ t))
+    λ P end t. c .refused .ensures P end ∙ refuse-20 (a .contents .now) (a .g ∷ a .d ∷ []) (a .passes) P end (λ e. c .before .if1 .taken (e ∙ t))
 
 first-above-requires : tie.Need-first-above-requires
 first-above-requires c κs = search needs
+
+add-last : tie.Need-add-last
+add-last c = search needs
 
 refused-requires-2 : tie.Need-refused-requires-2
 refused-requires-2 c κs = search needs
@@ -30,15 +33,15 @@ returns-2 : tie.Need-returns-2
 returns-2 c =
     let a = c .before .before .before .before .before .args in
     let i = c .before .before .first-above in
-    let among : i .result < length (amounts (a .contents .now) (a .g ∷ [])) = omega (arith, amounts-length (a .contents .now) (a .g ∷ []), c .before .before .before .if1 .left) in
-    λ P end t. c .refused2 .ensures P end ∙ refuse-21 (a .contents .now) (a .g) (a .passes) P end (c .before .before .before .if1 .left ∙ sym t) (i .result) (i .ensures) among
+    let among : i .result < length (amounts (a .contents .now) (a .g ∷ a .d ∷ [])) = omega (arith, amounts-length (a .contents .now) (a .g ∷ a .d ∷ []), c .before .before .before .if1 .left) in
+    λ P end t. c .refused2 .ensures P end ∙ refuse-21 (a .contents .now) (a .g ∷ a .d ∷ []) (a .passes) P end (c .before .before .before .if1 .left ∙ sym t) (i .result) (i .ensures) among
 
 -- After check 21 no number is above 1,000,000.
 none-above : (c : tie.Else2) →
-    length (amounts (c .before .before .before .before .args .contents .now) (c .before .before .before .before .args .g ∷ [])) ≤ firstAbove 1000000 (amounts (c .before .before .before .before .args .contents .now) (c .before .before .before .before .args .g ∷ []))
+    length (amounts (c .before .before .before .before .args .contents .now) (c .before .before .before .before .args .g ∷ c .before .before .before .before .args .d ∷ [])) ≤ firstAbove 1000000 (amounts (c .before .before .before .before .args .contents .now) (c .before .before .before .before .args .g ∷ c .before .before .before .before .args .d ∷ []))
 none-above c =
     let a = c .before .before .before .before .args in
-    omega (arith, amounts-length (a .contents .now) (a .g ∷ []), c .before .first-above .ensures, c .before .before .if1 .left)
+    omega (arith, amounts-length (a .contents .now) (a .g ∷ a .d ∷ []), c .before .first-above .ensures, c .before .before .if1 .left)
 
 refused-requires-3 : tie.Need-refused-requires-3
 refused-requires-3 c κs = search needs
@@ -48,12 +51,12 @@ returns-3 c =
     let a = c .before .before .before .before .before .before .args in
     λ P end t.
     c .refused3 .ensures P end
-    ∙ refuse-22 (a .contents .now) (a .g) (a .passes) P end (c .before .before .before .before .if1 .left ∙ sym t) (none-above (c .before .before)) (not-true _ (c .before .if3 .taken))
+    ∙ refuse-22 (a .contents .now) (a .g ∷ a .d ∷ []) (a .passes) P end (c .before .before .before .before .if1 .left ∙ sym t) (none-above (c .before .before)) (not-true _ (c .before .if3 .taken))
 
 returns-4 : tie.Need-returns-4
 returns-4 c =
     let a = c .before .before .before .before .before .args in
-    λ P end t. refuse-none (a .contents .now) (a .g) (a .passes) P end (c .before .before .before .if1 .left ∙ sym t) (none-above (c .before)) (not-false _ (c .if3 .left))
+    λ P end t. refuse-none (a .contents .now) (a .g ∷ a .d ∷ []) (a .passes) P end (c .before .before .before .if1 .left ∙ sym t) (none-above (c .before)) (not-false _ (c .if3 .left))
 
 pub check-numbers-spec : {M : Type 1} → statement M
 check-numbers-spec =
@@ -62,6 +65,7 @@ check-numbers-spec =
     refused-requires
     returns
     first-above-requires
+    add-last
     refused-requires-2
     returns-2
     refused-requires-3

@@ -51,8 +51,8 @@ states-less-one-requires c κs = search needs
 largest-weight-requires : tie.Need-largest-weight-requires
 largest-weight-requires c κs = search needs
 
-mul-t6 : tie.Need-mul-t6
-mul-t6 c = record { fits = omega (arith, mul-le-mul (most c) (largest c)) }
+mul-per-doubling : tie.Need-mul-per-doubling
+mul-per-doubling c = record { fits = omega (arith, mul-le-mul (most c) (largest c)) }
 
 mul-t7 : tie.Need-mul-t7
 mul-t7 c = record { fits = omega (arith, mul-le-mul (mul-le-mul (most c) (largest c)) (total c)) }
@@ -84,7 +84,7 @@ figures-of-spec =
     most-states-requires
     states-less-one-requires
     largest-weight-requires
-    mul-t6
+    mul-per-doubling
     mul-t7
     add-t8
     sub-t9

@@ -1,7 +1,7 @@
 -- What the private functions of quoting ask and give.
 use mathlib.Core.Path.{_≡_}
 use mathlib.Core.Bool.{Bool}
-use mathlib.Core.List.{List}
+use mathlib.Core.List.{List, [], _∷_}
 use Prim.Native.Nat.{ℕ, _≤_}
 use lib.ListN.{length}
 use Rattle.livelock.specs.Plants.{Plant}
@@ -13,22 +13,23 @@ use Rattle.contents.specs.Contents.{weightOfContents}
 use Rattle.contents.specs.Checks.{checkedPassing}
 
 -- The ceiling of these figures, and its class.
-abbrev pub Priced : Figures → ℕ → ℕ → Answer → Type 0
-Priced f weight g a = a ≡ quoted (ceilingOf f weight g) (classOf (ceilingOf f weight g))
+abbrev pub Priced : Figures → ℕ → ℕ → ℕ → Answer → Type 0
+Priced f weight g d a = a ≡ quoted (ceilingOf f weight g d) (classOf (ceilingOf f weight g d))
 
 -- Figures within the limits.
 pub record FiguresFit (f : Figures) : Type 0 where
   pub base-limit : f .base ≤ 64513008
   pub most-limit : f .«most_states» ≤ 64
   pub per-progress-limit : f .«per_progress» ≤ 4096063
+  pub per-doubling-limit : f .«per_doubling» ≤ 64000
 
 -- What is said after weighing: the fault found, or the ceiling of the figures.
-abbrev pub quotedFor : Figures → List ℕ → List ℕ → ℕ → Found Plant → Answer
-quotedFor f ws contents g (fault number place) = refused number place
-quotedFor f ws contents g (found P end) =
-    quoted (ceilingOf f (weightOfContents ws contents) g) (classOf (ceilingOf f (weightOfContents ws contents) g))
+abbrev pub quotedFor : Figures → List ℕ → List ℕ → ℕ → ℕ → Found Plant → Answer
+quotedFor f ws contents g d (fault number place) = refused number place
+quotedFor f ws contents g d (found P end) =
+    quoted (ceilingOf f (weightOfContents ws contents) g d) (classOf (ceilingOf f (weightOfContents ws contents) g d))
 
 -- The answer is what is said, after the checks 20, 21 and 22, of every plant with a type for each weight.
-abbrev pub OwedChecked : Bool → Figures → List ℕ → List ℕ → ℕ → Answer → Type 0
-OwedChecked passes f ws contents g a =
-    (P : Plant) (end : ℕ) → P .types ≡ length ws → a ≡ quotedFor f ws contents g (checkedPassing contents g passes P end)
+abbrev pub OwedChecked : Bool → Figures → List ℕ → List ℕ → ℕ → ℕ → Answer → Type 0
+OwedChecked passes f ws contents g d a =
+    (P : Plant) (end : ℕ) → P .types ≡ length ws → a ≡ quotedFor f ws contents g d (checkedPassing contents (g ∷ d ∷ []) passes P end)

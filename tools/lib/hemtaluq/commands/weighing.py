@@ -1,20 +1,22 @@
 """Weights judged, and ceilings: weigh, quote."""
 from ..amounts import contents_for, in_words, kept_form, weights_for
 from ..calls import quoted, weighed
-from ..options import AMOUNTS, Once, add_contents, add_output, add_weights, keep, whole_number
+from ..options import AMOUNTS, MOST_DOUBLINGS, Once, add_contents, add_output, add_weights, keep, whole_number
 from ..outcomes import NO, YES, Outcome
 from ..texts import counted
-from ..words import PRICE_CLASS, cycle_words, named, passed_words, row_json
+from ..words import DOUBLING, PRICE_CLASS, cycle_words, figures_of, named, passed_words, row_json
 
 ORDER = 20
 
 WEIGH = '''Judge weights, one for each type, 0 to 1,000. They pass exactly when every quiet cycle (one without progress) weighs below zero, where
-a row weighs the weight of what it sends less that of what it takes. Then F, n and G make the ceiling F + n × W + G × g, which is told
-as a formula: W is the weight of what the buffers hold at the start, and g counts the progress rows. Otherwise a shortest quiet cycle
-that weighs zero or more is shown, row by row: these weights do not rule out that it goes on for ever.'''
+a row weighs the weight of what it sends less that of what it takes. Then F, n, G and n × w make the ceiling F + n × W + G × g + n × w × d,
+which is told as a formula: n is the most states of a machine, w the largest weight, W the weight of what the buffers hold at the start,
+g counts the progress rows and d the doublings. %s
+Otherwise a shortest quiet cycle that weighs zero or more is shown, row by row: these weights do not rule out that it goes on for ever.''' % DOUBLING
 QUOTE = '''Quote a ceiling: how many quiet rows can happen at most in a run that opens with these contents of the buffers and has at most G
-progress rows; G is 0 for the time up to the first fresh reading, 1 up to the second. Contents and G are at most 1,000,000.
-%s''' % PRICE_CLASS
+progress rows and at most D doublings. G is 0 for the time up to the first fresh reading, 1 up to the second.
+%s
+Contents, G and D are at most 1,000,000. %s''' % (MOST_DOUBLINGS, PRICE_CLASS)
 
 
 def weigh(library, arguments):
@@ -25,18 +27,19 @@ def weigh(library, arguments):
         return Outcome(NO, said, '\n'.join(cycle_words(plant, weights, rows)))
     if arguments.output:
         keep(arguments.output, kept_form(plant, weights, arguments.output), arguments)
-    said = {'answer': 'passed', 'F': answer.base, 'n': answer.most_states, 'G': answer.per_progress, 'weights': named(plant, weights)}
+    said = dict(answer='passed', **figures_of(answer), weights=named(plant, weights))
     return Outcome(YES, said, '\n'.join(passed_words(plant, weights, answer)))
 
 
 def quote(library, arguments):
     plant, weights, contents = arguments.plant, weights_for(arguments.plant, arguments), contents_for(arguments.plant, arguments)
-    answer = quoted(library, plant, weights, contents, arguments.g)
-    said = {'answer': 'ceiling', 'ceiling': answer.ceiling, 'class': answer.price_class, 'g': arguments.g,
+    answer = quoted(library, plant, weights, contents, arguments.g, arguments.d)
+    said = {'answer': 'ceiling', 'ceiling': answer.ceiling, 'class': answer.price_class, 'g': arguments.g, 'd': arguments.d,
             'weights': named(plant, weights), 'contents': named(plant, contents)}
     opening = 'with the contents ' + in_words(plant, contents) if plant.types else 'without types'
     text = ['ceiling %d, price class %d' % (answer.ceiling, answer.price_class),
-            'No run that opens %s and has at most %s has more than %s.' % (opening, counted(arguments.g, 'progress row'), counted(answer.ceiling, 'quiet row'))]
+            'No run that opens %s and has at most %s and at most %s has more than %s.'
+            % (opening, counted(arguments.g, 'progress row'), counted(arguments.d, 'doubling'), counted(answer.ceiling, 'quiet row'))]
     return Outcome(YES, said, '\n'.join(text))
 
 
@@ -46,8 +49,10 @@ def add(commands):
                        '  hemtaluq weigh plant.txt -w weights.txt -o weights.bin\n\n' + AMOUNTS)
     add_weights(one)
     add_output(one, 'keep weights that pass, as a text for -w; as weights.bin, for the program `ceiling` and for cabinets, where the name ends so')
-    one = commands.add('quote', quote, 'the ceiling for contents and a number of progress rows, with its price class', QUOTE,
-                       '  hemtaluq quote plant.txt -w request=2 answer=1 -c request=3 answer=4 -g 1\n\n' + AMOUNTS)
+    one = commands.add('quote', quote, 'the ceiling for contents, progress rows and doublings, with its price class', QUOTE,
+                       '  hemtaluq quote plant.txt -w request=2 answer=1 -c request=3 answer=4 -g 1\n'
+                       '  hemtaluq quote plant.txt -w request=2 answer=1 -c request=3 answer=4 -g 1 -d 3\n\n' + AMOUNTS)
     add_weights(one)
     add_contents(one)
     one.add_argument('-g', type=whole_number, action=Once, default=0, metavar='G', help='the most progress rows (default: 0)')
+    one.add_argument('-d', type=whole_number, action=Once, default=0, metavar='D', help='the most doublings (default: 0)')

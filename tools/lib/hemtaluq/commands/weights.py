@@ -6,7 +6,7 @@ from ..amounts import in_words, kept_form
 from ..options import Once, add_output, keep
 from ..outcomes import NO, REFUSED, YES, Outcome
 from ..texts import counted, grouped
-from ..words import named, passed_words, rows_words
+from ..words import figures_of, named, passed_words, rows_words
 
 ORDER = 25
 
@@ -41,8 +41,7 @@ def after(found):
 def found_weights(plant, found, arguments):
     if arguments.output:
         keep(arguments.output, kept_form(plant, found.weights, arguments.output), arguments)
-    figures = {'F': found.figures.base, 'n': found.figures.most_states, 'G': found.figures.per_progress}
-    said = dict(answer='weights', weights=named(plant, found.weights), rounds=found.rounds, cycles=found.cycles, **figures)
+    said = dict(answer='weights', weights=named(plant, found.weights), rounds=found.rounds, cycles=found.cycles, **figures_of(found.figures))
     return Outcome(YES, said, '\n'.join(passed_words(plant, found.weights, found.figures) + ['Found %s.' % after(found)]))
 
 
