@@ -9,6 +9,8 @@
  *     bench list REPS FILE MACHINE ROOM         above 50,000,000 entries the list is only reserved, not held in memory
  *     bench confirm REPS FILE SET
  *     bench write REPS LIST                     16-bit numbers; the buffer has room for every file
+ *     bench watch_open REPS FILE WEIGHTS        contents are 1,000
+ *     bench watch_row REPS FILE WEIGHTS EVENTS  a run of rows, 32-bit numbers, from an opening as above; watch_loss and watch_doubling: of types
  *     bench glpk REPS FILE WEIGHTS CYCLES       the inequalities (1) to (4) of CYCLES, solved by the library of GLPK
  *     bench process REPS FILE WEIGHTS COMMAND.. weighing against a process
  *     bench growth REPS WEIGHTS FILE..          weighing each file, against the first
@@ -18,6 +20,7 @@
 #include <dlfcn.h>
 #include <fcntl.h>
 #include <pthread.h>
+#include <stddef.h>
 #include <stdio.h>
 #include <stdlib.h>
 #include <string.h>
@@ -77,7 +80,7 @@ static uint32_t contents[64], machine, g = 1000;
 static uint16_t cycle_ours[64], cycle_peer[64], *out_ours, *out_peer;
 static uint8_t bytes_ours[HEMTALUQ_LONGEST_FILE + 8], bytes_peer[HEMTALUQ_LONGEST_FILE + 8];
 
-static union { hemtaluq_read_answer r; hemtaluq_weigh_answer w; peers_weigh_answer p; hemtaluq_quote_answer q; hemtaluq_list_answer l; hemtaluq_confirm_answer c; hemtaluq_write_answer f; } a, b;
+static union { hemtaluq_read_answer r; hemtaluq_weigh_answer w; peers_weigh_answer p; hemtaluq_quote_answer q; hemtaluq_list_answer l; hemtaluq_confirm_answer c; hemtaluq_write_answer f; hemtaluq_watch_answer e; } a, b;
 
 static void ours_read(void) { a.r = hemtaluq_read(file, file_length); }
 static void peers_read(void) { b.r = peer_read(file, file_length); }
@@ -100,6 +103,56 @@ static int same_quote(void) { return a.q.kind == b.q.kind && a.q.number == b.q.n
 static int same_list(void) { return a.l.kind == b.l.kind && a.l.number == b.l.number && a.l.place == b.l.place && a.l.entries == b.l.entries && (a.l.kind != HEMTALUQ_LISTED || !memcmp(out_ours, out_peer, 2 * room)); }
 static int same_confirm(void) { return a.c.kind == b.c.kind && a.c.number == b.c.number && a.c.place == b.c.place && a.c.message_type == b.c.message_type && a.c.sum == b.c.sum; }
 static int same_write(void) { return a.f.kind == b.f.kind && a.f.number == b.f.number && a.f.place == b.f.place && a.f.length == b.f.length && !memcmp(bytes_ours, bytes_peer, sizeof bytes_ours); }
+
+/* ---- watching: the lists of the struct; a run of events begins anew where the watcher was opened */
+
+static hemtaluq_watcher opened, watch_ours, watch_peer;
+static const uint32_t *events;
+static size_t event_count = 1;
+
+#define PEERS_LISTS watch_peer.states, watch_peer.contents, watch_peer.counts
+
+static void ours_watch_open(void) { a.e = hemtaluq_watch_open(&watch_ours, file, file_length, weights, weight_count, contents, weight_count); }
+static void peers_watch_open(void) {
+    b.e = peer_watch_open(watch_peer.copy, watch_peer.table, watch_peer.sizes, PEERS_LISTS, file, file_length, weights, weight_count, contents, weight_count);
+}
+
+static void our_row(uint32_t k) { a.e = hemtaluq_watch_row(&watch_ours, k); }
+static void our_loss(uint32_t t) { a.e = hemtaluq_watch_loss(&watch_ours, t); }
+static void our_doubling(uint32_t t) { a.e = hemtaluq_watch_doubling(&watch_ours, t); }
+static void peers_row(uint32_t k) { b.e = peer_watch_row(watch_peer.table, watch_peer.sizes, PEERS_LISTS, k); }
+static void peers_loss(uint32_t t) { b.e = peer_watch_loss(watch_peer.sizes, watch_peer.contents, watch_peer.counts, t); }
+static void peers_doubling(uint32_t t) { b.e = peer_watch_doubling(watch_peer.sizes, watch_peer.contents, watch_peer.counts, t); }
+
+/* The states, contents and counts as they were at opening; events change nothing else. */
+static void begin(hemtaluq_watcher *w) {
+    size_t at = offsetof(hemtaluq_watcher, states);
+    memcpy((uint8_t *)w + at, (const uint8_t *)&opened + at, sizeof opened - at);
+}
+
+/* A run of events; what is left and the kind of each answer are looked at, as a caller does, and their sum is that of the last answer then. */
+#define RUN(name, watcher, answer, call)                      \
+    static void name(void) {                                  \
+        uint64_t sum = 0;                                     \
+        begin(&watcher);                                      \
+        for (size_t i = 0; i < event_count; i++) {            \
+            hemtaluq_watch_answer e = call;                   \
+            sum += e.kind == HEMTALUQ_REMAINING ? e.left : 0; \
+        }                                                     \
+        answer.left = sum;                                    \
+    }
+
+RUN(ours_watch_row, watch_ours, a.e, hemtaluq_watch_row(&watch_ours, events[i]))
+RUN(ours_watch_loss, watch_ours, a.e, hemtaluq_watch_loss(&watch_ours, events[i]))
+RUN(ours_watch_doubling, watch_ours, a.e, hemtaluq_watch_doubling(&watch_ours, events[i]))
+RUN(peers_watch_row, watch_peer, b.e, peer_watch_row(watch_peer.table, watch_peer.sizes, PEERS_LISTS, events[i]))
+RUN(peers_watch_loss, watch_peer, b.e, peer_watch_loss(watch_peer.sizes, watch_peer.contents, watch_peer.counts, events[i]))
+RUN(peers_watch_doubling, watch_peer, b.e, peer_watch_doubling(watch_peer.sizes, watch_peer.contents, watch_peer.counts, events[i]))
+
+static int same_watch(void) {
+    return a.e.kind == b.e.kind && a.e.number == b.e.number && a.e.place == b.e.place && a.e.left == b.e.left
+        && !memcmp(&watch_ours, &watch_peer, sizeof watch_ours);
+}
 
 /* ---- measuring */
 
@@ -145,7 +198,7 @@ static void checked(int reps, void (*ours)(void), void (*theirs)(void), int (*sa
     ours();
     theirs();
     if (!same()) die("the peer's answer differs");
-    printf("{\"kind\": %d, \"number\": %d, ", a.r.kind, a.r.number);
+    printf("{\"kind\": %d, \"number\": %d, \"events\": %zu, ", a.r.kind, a.r.number, event_count);
     compare(reps, ours, theirs, 0);
 }
 
@@ -308,11 +361,28 @@ static void differ_on_list(void) {
 static uint32_t amount(void) { return below(40) ? below(PICK(5, 1000001)) : PICK(1000000, 1000001, 4294967295u); }
 
 /* How often an answer of each kind was met, and with a row that takes and sends in what was given. */
-static long kinds[9], with_both[9];
+static long kinds[10], with_both[10];
 
 static void count(unsigned kind) {
     kinds[kind]++;
     with_both[kind] += takes_and_sends;
+}
+
+/* A watcher of the plant that was drawn, and events of which half cannot happen; how often each number was met. */
+static void check_watcher(long *refusals) {
+    void (*const ours[3])(uint32_t) = {our_row, our_loss, our_doubling}, (*const theirs[3])(uint32_t) = {peers_row, peers_loss, peers_doubling};
+    memset(&watch_ours, 0x5A, sizeof watch_ours);
+    memset(&watch_peer, 0xA5, sizeof watch_peer);
+    ours_watch_open(), peers_watch_open();
+    if (!same_watch()) differ("opening a watcher");
+    count(a.e.kind);
+    if (!below(8)) watch_ours.counts[1] = watch_peer.counts[1] = watch_ours.counts[2] = watch_peer.counts[2] = 999999;
+    for (int i = 0; i < 40; i++) {
+        unsigned kind = PICK(0, 0, 0, 1, 2), number = below((unsigned)watch_ours.sizes[kind ? 2 : 1] + 1);
+        ours[kind](number), theirs[kind](number);
+        if (!same_watch()) differ("an event of a watcher");
+        refusals[a.e.number]++;
+    }
 }
 
 static void check(long cases) {
@@ -320,7 +390,7 @@ static void check(long cases) {
     static uint16_t w[65], before[64];
     static uint32_t s[300 * 70];
     static uint16_t n[2 + 16 * (2 + ROW_NUMBERS * 256) + 1];
-    long read_with[27] = {0}, refusals[27] = {0}, above_limit[2] = {0};
+    long read_with[27] = {0}, refusals[27] = {0}, above_limit[2] = {0}, event_refusals[30] = {0};
     file = plant;
     numbers = n;
     weights = w;
@@ -354,6 +424,7 @@ static void check(long cases) {
         if (!same_quote()) differ("quote");
         count(a.q.kind);
         for (size_t k = 0; k < 2; k++) above_limit[k] += a.q.number == HEMTALUQ_AMOUNT_LIMIT && a.q.place == weight_count + k;
+        check_watcher(event_refusals);
         set_length = random_set(s, r.kind == HEMTALUQ_COUNTS ? (unsigned)r.machines : 1);
         ours_confirm(), peers_confirm();
         if (!same_confirm()) differ("confirm");
@@ -373,13 +444,15 @@ static void check(long cases) {
         count(a.f.kind);
         refusals[a.f.number]++;
     }
-    for (int k = 0; k < 9; k++)
+    for (int k = HEMTALUQ_ROW_IMPOSSIBLE; k <= HEMTALUQ_EVENT_LIMIT; k++)
+        if (event_refusals[k] < cases / 100) die("a refusal of an event was met too seldom");
+    for (int k = 0; k < 10; k++)
         if (with_both[k] < cases / 100) die("an answer was met too seldom with rows that take and send");
     if (read_with[0] < cases / 2 || read_with[HEMTALUQ_TWIN_ROW] < cases / 100) die("files that read, or twin rows in files, were met too seldom");
     if (above_limit[0] < cases / 200 || above_limit[1] < cases / 200) die("g or d above its limit was met too seldom");
     for (int k = HEMTALUQ_LIST_LENGTH; k <= HEMTALUQ_TWIN_ROW; k++)
         if (refusals[k] < cases / 100) die("a refusal of write was met too seldom");
-    printf("{\"cases\": %ld, \"refused\": %ld, \"counts\": %ld, \"passed\": %ld, \"cycle\": %ld, \"ceiling\": %ld, \"listed\": %ld, \"confirmed\": %ld, \"negative\": %ld, \"wrote\": %ld}\n", cases, kinds[0], kinds[1], kinds[2], kinds[3], kinds[4], kinds[5], kinds[6], kinds[7], kinds[8]);
+    printf("{\"cases\": %ld, \"refused\": %ld, \"counts\": %ld, \"passed\": %ld, \"cycle\": %ld, \"ceiling\": %ld, \"listed\": %ld, \"confirmed\": %ld, \"negative\": %ld, \"wrote\": %ld, \"remaining\": %ld}\n", cases, kinds[0], kinds[1], kinds[2], kinds[3], kinds[4], kinds[5], kinds[6], kinds[7], kinds[8], kinds[9]);
 }
 
 /* ---- GLPK, by its shared library; no header is needed */
@@ -567,6 +640,19 @@ static void lend(void) {
     }
 }
 
+/* Opens a watcher on both sides and goes through the events once: all are accepted, with the same answers. */
+static void follow(const char *list, void (*ours)(uint32_t), void (*theirs)(uint32_t)) {
+    events = load(list, &event_count);
+    event_count /= 4;
+    ours_watch_open(), peers_watch_open();
+    if (a.e.kind != HEMTALUQ_REMAINING || !same_watch()) die("the watcher does not open, or the peer's answer differs");
+    opened = watch_ours;
+    for (size_t i = 0; i < event_count; i++) {
+        ours(events[i]), theirs(events[i]);
+        if (a.e.kind != HEMTALUQ_REMAINING || !same_watch()) die("an event is refused, or the peer's answer differs");
+    }
+}
+
 int main(int argc, char **argv) {
     if (argc < 3) die("too few arguments");
     const char *mode = argv[1];
@@ -612,6 +698,12 @@ int main(int argc, char **argv) {
         numbers = (const uint16_t *)file;
         number_count = file_length / 2;
         ours = ours_write, theirs = peers_write, same = same_write;
+    }
+    if (!strncmp(call, "watch_", 6)) {
+        ours = ours_watch_open, theirs = peers_watch_open, same = same_watch;
+        if (!strcmp(call, "watch_row")) follow(argv[5], our_row, peers_row), ours = ours_watch_row, theirs = peers_watch_row;
+        if (!strcmp(call, "watch_loss")) follow(argv[5], our_loss, peers_loss), ours = ours_watch_loss, theirs = peers_watch_loss;
+        if (!strcmp(call, "watch_doubling")) follow(argv[5], our_doubling, peers_doubling), ours = ours_watch_doubling, theirs = peers_watch_doubling;
     }
     if (!strcmp(call, "glpk")) {
         read_cycles(argv[5]);

@@ -1,4 +1,4 @@
-"""The inputs of the benchmarks: plants, weights, cycle sets, lists of numbers, and the small plants as Promela models and linear programs.
+"""The inputs of the benchmarks: plants, weights, cycle sets, lists of numbers, runs of events, and the small plants as Promela models and linear programs.
 
 A machine is a count of states and a list of rows; a row is (state left, state entered, type sent or None, type taken or
 None, progress). Every row is written with both states. No machine has a row twice, for a twin row is refused.
@@ -212,6 +212,35 @@ def full_set():
     return (64, machines), entries
 
 
+# ---- runs of events; the contents at opening are 1,000 of each type
+
+RUN = 4096  # rows of a run
+# Plant A's four rows in turn: the panel asks, the probe answers.
+RUN_OF_A = [0, 2, 3, 1] * (RUN // 4)
+
+
+def rings():
+    """16 rings of 64 rows that take one type and send another, and of which the last has progress: the longest file. In a round of a ring as many
+    messages of each type are sent as taken, and any weights pass."""
+    return 64, [(64, [takes_and_sends(s, (s + 1) % 64, (s + m) % 64, (3 * s + m) % 64, s == 63) for s in range(64)]) for m in range(16)]
+
+
+def run_of_rings():
+    """Rows of the rings: in no regular order of the machines, each moves on by one."""
+    rng, at, rows = random.Random(1024), [0] * 16, []
+    for _ in range(RUN):
+        m = rng.randrange(16)
+        rows.append(64 * m + at[m])
+        at[m] = (at[m] + 1) % 64
+    return rows
+
+
+def run_of_types():
+    """Types in no regular order, none more than 1,000 times."""
+    rng = random.Random(64)
+    return [rng.randrange(64) for _ in range(RUN)]
+
+
 def weight_bytes(weights):
     return struct.pack('<%dH' % len(weights), *weights)
 
@@ -221,6 +250,7 @@ def list_bytes(numbers):
 
 
 def set_bytes(numbers):
+    """Of a cycle set, and of a run of events."""
     return struct.pack('<%dI' % len(numbers), *numbers)
 
 

@@ -1,8 +1,11 @@
-/* The six calls in plain C, with the best algorithms we know: what the proved calls are measured against.
+/* The calls in plain C, with the best algorithms we know: what the proved calls are measured against.
  *
  * Nothing here is proved. Tables are filled in place and never copied, and but for the numbers of rows between states never
  * cleared; heights are relaxed in place in 32 bits; states that were left are bits of a word; the price class is a count of
- * leading zeros. */
+ * leading zeros; a watcher's event looks at one row of the table that opening made.
+ *
+ * With ANY_BYTES the calls on a watcher also judge what only a struct that no call handed back can have, and no sum wraps, as the
+ * library's do; the benchmarks leave it out. */
 #include <string.h>
 #include "peer.h"
 
@@ -605,4 +608,119 @@ hemtaluq_write_answer peer_write(const uint16_t *numbers, size_t count, uint8_t 
     a.kind = HEMTALUQ_WROTE;
     a.length = length;
     return a;
+}
+
+/* ---- watching */
+
+#ifdef ANY_BYTES
+#define ALSO(condition) (condition)
+INLINE uint64_t sum(uint64_t x, uint64_t y) { return x + y < x ? UINT64_MAX : x + y; }
+INLINE uint64_t one_less(uint64_t x) { return x - (x > 0); }
+INLINE int is_type(unsigned type) { return type < NO_TYPE; }
+#else
+#define ALSO(condition) 0
+INLINE uint64_t sum(uint64_t x, uint64_t y) { return x + y; }
+INLINE uint64_t one_less(uint64_t x) { return x - 1; }
+INLINE int is_type(unsigned type) { return type != NO_TYPE; }
+#endif
+
+INLINE hemtaluq_watch_answer watch_refused(struct fault fault) {
+    return (hemtaluq_watch_answer){HEMTALUQ_REFUSED, (uint8_t)fault.number, fault.place, 0};
+}
+
+INLINE hemtaluq_watch_answer refused_event(unsigned number) {
+    return watch_refused((struct fault){number, 0});
+}
+
+INLINE hemtaluq_watch_answer remaining(uint64_t left) {
+    return (hemtaluq_watch_answer){HEMTALUQ_REMAINING, 0, 0, left};
+}
+
+/* The rows, eight bytes each, and zeros behind them. */
+static void fill_rows(const struct table *t, uint8_t table[8192]) {
+    for (unsigned m = 0; m < t->machines; m++)
+        for (unsigned k = t->first[m]; k < t->first[m + 1]; k++) {
+            const uint8_t row[8] = {(uint8_t)m, t->left[k], t->entered[k], t->sent[k], t->taken[k], t->progress[k], 0, 0};
+            memcpy(table + 8 * k, row, 8);
+        }
+    memset(table + 8 * t->rows, 0, 8192 - 8 * t->rows);
+}
+
+hemtaluq_watch_answer peer_watch_open(uint8_t copy[8192], uint8_t table[8192], uint64_t sizes[5], uint8_t states[16], uint64_t contents[64],
+                                      uint64_t counts[3], const uint8_t *file, size_t length, const uint16_t *weights, size_t weight_count,
+                                      const uint32_t *opening, size_t opening_count) {
+    struct table t;
+    int32_t laid[NO_TYPE + 1];
+    hemtaluq_weigh_answer w = {0};
+    struct fault fault = decode_table(file, length, &t);
+    if (!fault.number) fault = lay_out(&t, weights, weight_count, laid);
+    if (!fault.number) fault = amounts(&t, opening, opening_count, 0, 0);
+    if (!fault.number) {
+        w = weigh_table(&t, laid, 0, 0);
+        if (w.kind != HEMTALUQ_PASSED) fault.number = 22;
+    }
+    memset(states, 0, 16);
+    memset(contents, 0, 64 * sizeof *contents);
+    memset(counts, 0, 3 * sizeof *counts);
+    if (fault.number) {
+        memset(copy, 0, 8192);
+        memset(table, 0, 8192);
+        memset(sizes, 0, 5 * sizeof *sizes);
+        return watch_refused(fault);
+    }
+    memcpy(copy, file, length);
+    memset(copy + length, 0, 8192 - length);
+    fill_rows(&t, table);
+    const uint64_t kept[5] = {length, t.rows, t.types, w.per_progress, w.per_doubling};
+    memcpy(sizes, kept, sizeof kept);
+    uint64_t opening_weight = 0;
+    for (unsigned i = 0; i < t.types; i++) {
+        contents[i] = opening[i];
+        opening_weight += (uint64_t)weights[i] * opening[i];
+    }
+    counts[0] = w.base + w.most_states * opening_weight;
+    return remaining(counts[0]);
+}
+
+/* The lists do not overlap, so what was read of one stays as it is when another is written. */
+hemtaluq_watch_answer peer_watch_row(const uint8_t table[restrict 8192], const uint64_t sizes[restrict 5], uint8_t states[restrict 16],
+                                     uint64_t contents[restrict 64], uint64_t counts[restrict 3], uint32_t row) {
+    if (row >= sizes[1] || ALSO(row >= 1024)) return refused_event(27);
+    const uint8_t *r = table + 8 * row;
+    unsigned machine = r[0], sent = r[3], taken = r[4];
+    if (ALSO(machine >= 16) || states[machine] != r[1]) return refused_event(27);
+    if (is_type(taken) && !contents[taken]) return refused_event(27);
+    if (r[5]) {
+        if (counts[1] >= 1000000) return refused_event(29);
+        counts[0] = sum(counts[0], sizes[3]);
+        counts[1]++;
+    } else {
+        counts[0] = one_less(counts[0]);
+    }
+    states[machine] = r[2];
+    if (is_type(taken)) contents[taken]--;
+    if (is_type(sent)) contents[sent] = sum(contents[sent], 1);
+    return remaining(counts[0]);
+}
+
+/* Whether a message of this type is there. */
+INLINE int is_present(const uint64_t sizes[5], const uint64_t contents[64], uint32_t type) {
+    return type < sizes[2] && !ALSO(type >= 64) && contents[type];
+}
+
+hemtaluq_watch_answer peer_watch_loss(const uint64_t sizes[restrict 5], uint64_t contents[restrict 64], const uint64_t counts[restrict 3],
+                                      uint32_t type) {
+    if (!is_present(sizes, contents, type)) return refused_event(28);
+    contents[type]--;
+    return remaining(counts[0]);
+}
+
+hemtaluq_watch_answer peer_watch_doubling(const uint64_t sizes[restrict 5], uint64_t contents[restrict 64], uint64_t counts[restrict 3],
+                                          uint32_t type) {
+    if (!is_present(sizes, contents, type)) return refused_event(28);
+    if (counts[2] >= 1000000) return refused_event(29);
+    contents[type] = sum(contents[type], 1);
+    counts[0] = sum(counts[0], sizes[4]);
+    counts[2]++;
+    return remaining(counts[0]);
 }

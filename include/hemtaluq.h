@@ -2,12 +2,14 @@
  *
  * A plant is given as the bytes of a plant file, which hemtaluq_write makes from a list of numbers. Every call reads what it
  * is given anew, judges every length and every number of it, and keeps nothing. No call allocates, blocks, or keeps a pointer.
+ * What a watcher keeps is a struct that the caller lends to each call on it.
  *
- * The caller's part: every pointer is aligned and valid for its length, and a list that a call may write to (cycle, out)
- * overlaps nothing else that the call is given. The pointer of a list of length 0 may be null.
+ * The caller's part: every pointer is aligned and valid for its length, and a list that a call may write to (cycle, out, a
+ * watcher) overlaps nothing else that the call is given. The pointer of a list of length 0 may be null.
  *
  * Every answer has a kind. With HEMTALUQ_REFUSED, number and place say which fault was met first and where. Fields that
- * an answer does not use are 0, and a list that was lent keeps its contents unless the kind says that it was written.
+ * an answer does not use are 0, and a list that was lent keeps its contents unless the kind says that it was written; a
+ * refused opening alone clears the watcher that it was lent.
  *
  * A row sends a message, takes one, does both or neither. A row that does both can happen when the type taken is present; it
  * takes first, then sends. Where both types are one, it needs one such message and leaves as many as it found.
@@ -27,7 +29,7 @@
  * files and lists with a twin row were accepted before. 5: a row can take and send; a row of write's list has six numbers,
  * with kind 3; the longest file and the longest list are longer; files with such rows were refused with 4 before. 6: weigh
  * hands back per_doubling and quote takes d, the most doublings; the largest ceiling is larger; quotes of before are those
- * with d 0.
+ * with d 0. 7: the calls on a watcher, with kind 9 and numbers 27 to 29.
  */
 #ifndef HEMTALUQ_H
 #define HEMTALUQ_H
@@ -35,7 +37,7 @@
 #include <stddef.h>
 #include <stdint.h>
 
-#define HEMTALUQ_VERSION 6
+#define HEMTALUQ_VERSION 7
 
 #define hemtaluq_read hemtaluq_read_v1
 #define hemtaluq_weigh hemtaluq_weigh_v2
@@ -61,7 +63,8 @@ enum hemtaluq_kind {
     HEMTALUQ_LISTED = 5,    /* list: the simple cycles were written to the lent list */
     HEMTALUQ_CONFIRMED = 6, /* confirm: the set is balanced */
     HEMTALUQ_NEGATIVE = 7,  /* confirm: a type's sum is below zero */
-    HEMTALUQ_WROTE = 8      /* write: the shortest file of the plant was written to the lent buffer */
+    HEMTALUQ_WROTE = 8,     /* write: the shortest file of the plant was written to the lent buffer */
+    HEMTALUQ_REMAINING = 9  /* a call on a watcher: opened, or the event was accepted; how many quiet rows are left */
 };
 
 /* The number of a refusal, and what its place is. */
@@ -90,7 +93,10 @@ enum hemtaluq_fault {
     HEMTALUQ_LIST_LENGTH = 23,      /* the list of numbers ends early, or goes on; the index of the missing or first extra number */
     HEMTALUQ_LIST_NUMBER = 24,      /* a number of the list outside its values or the limits; its index */
     HEMTALUQ_OUTPUT_ROOM = 25,      /* the lent buffer is shorter than the file; 0 */
-    HEMTALUQ_TWIN_ROW = 26          /* a row equal to an earlier row of its machine; the row's map byte; in the writer's list the row's first number */
+    HEMTALUQ_TWIN_ROW = 26,         /* a row equal to an earlier row of its machine; the row's map byte; in the writer's list the row's first number */
+    HEMTALUQ_ROW_IMPOSSIBLE = 27,   /* a row that the plant lacks, or that cannot happen now; 0 */
+    HEMTALUQ_MESSAGE_ABSENT = 28,   /* a loss or doubling of a type that the plant lacks, or of which no message is present; 0 */
+    HEMTALUQ_EVENT_LIMIT = 29       /* a progress row that can happen, or a doubling, after 1,000,000 of its own sort; 0 */
 };
 
 /* Limits. */
@@ -107,6 +113,8 @@ enum hemtaluq_fault {
 #define HEMTALUQ_LISTED_ROWS 48         /* the most rows of a machine that is listed */
 #define HEMTALUQ_MOST_ENTRIES 256       /* of a cycle set */
 #define HEMTALUQ_LARGEST_CEILING UINT64_C(8256127513008)
+#define HEMTALUQ_PROGRESS_ROWS 1000000  /* the most progress rows that a watcher accepts */
+#define HEMTALUQ_DOUBLINGS 1000000      /* the most doublings that a watcher accepts */
 
 /* The counts of machines, types and rows of a plant file. */
 typedef struct {
@@ -196,6 +204,69 @@ typedef struct {
 } hemtaluq_write_answer;
 
 hemtaluq_write_answer hemtaluq_write(const uint16_t *numbers, size_t number_count, uint8_t *out, size_t out_length);
+
+/* A watcher follows a run of a plant event by event and says how many quiet rows are left: the ceiling for the progress rows
+ * and doublings so far, less the quiet rows so far. It is this struct, which the caller keeps and lends to each call on it: a
+ * copy of the plant file and the table of its rows, then what the run has come to. There is no heap, and no call gets the
+ * file again. A copy of the struct is a second watcher.
+ * Only these calls may write to it. Zeros alone stand for a watcher whose opening was refused. Of any other struct that no
+ * call handed back an answer means nothing; but no call leaves the struct, no sum of it wraps, and a refusal changes nothing. */
+typedef struct {
+    uint8_t copy[8192];    /* the bytes of the plant file */
+    uint8_t table[8192];   /* its rows, eight bytes each: machine, state left, state entered, type sent, type taken (64: none), progress */
+    uint64_t sizes[5];     /* the file's length, the counts of rows and of types, G, and n * w */
+    uint8_t states[16];    /* the state of each machine */
+    uint64_t contents[64]; /* the messages of each type */
+    uint64_t counts[3];    /* the quiet rows left, and the progress rows and doublings so far */
+} hemtaluq_watcher;
+
+typedef struct {
+    uint8_t kind;   /* HEMTALUQ_REMAINING or HEMTALUQ_REFUSED */
+    uint8_t number; /* refused: the number of the fault */
+    size_t place;   /* refused: where it was met; of an event 0 */
+    uint64_t left;  /* remaining: how many quiet rows are left, at most HEMTALUQ_LARGEST_CEILING */
+} hemtaluq_watch_answer;
+
+/* The exports behind the calls on a watcher: its lists one by one, each of the length that stands there. */
+hemtaluq_watch_answer hemtaluq_watch_open_v1(uint8_t copy[8192], uint8_t table[8192], uint64_t sizes[5], uint8_t states[16],
+                                             uint64_t contents[64], uint64_t counts[3], const uint8_t *file, size_t file_length,
+                                             const uint16_t *weights, size_t weight_count, const uint32_t *opening,
+                                             size_t opening_count);
+hemtaluq_watch_answer hemtaluq_watch_row_v1(const uint8_t table[8192], const uint64_t sizes[5], uint8_t states[16],
+                                            uint64_t contents[64], uint64_t counts[3], uint32_t row);
+hemtaluq_watch_answer hemtaluq_watch_loss_v1(const uint64_t sizes[5], uint64_t contents[64], const uint64_t counts[3],
+                                             uint32_t message_type);
+hemtaluq_watch_answer hemtaluq_watch_doubling_v1(const uint64_t sizes[5], uint64_t contents[64], uint64_t counts[3],
+                                                 uint32_t message_type);
+
+/* Opens a watcher on a plant file, weights and the contents with which the run opens, all machines in state 0, whatever the
+ * struct held. Remaining: the ceiling of hemtaluq_quote with g 0 and d 0. Refused: with the numbers and places of hemtaluq_quote,
+ * and the struct is zeros alone: rows get 27 then, losses and doublings 28. */
+static inline hemtaluq_watch_answer hemtaluq_watch_open(hemtaluq_watcher *watcher, const uint8_t *file, size_t file_length,
+                                                        const uint16_t *weights, size_t weight_count,
+                                                        const uint32_t *contents, size_t content_count) {
+    return hemtaluq_watch_open_v1(watcher->copy, watcher->table, watcher->sizes, watcher->states, watcher->contents,
+                                  watcher->counts, file, file_length, weights, weight_count, contents, content_count);
+}
+
+/* A row happened. A progress row adds G to what is left, another one takes 1 away. Refused with 27 where the plant has no such
+ * row, its machine is in another state, or no message of the type taken is present; with 29 where it could happen but is
+ * a progress row after 1,000,000 of them. A refused event changes nothing. */
+static inline hemtaluq_watch_answer hemtaluq_watch_row(hemtaluq_watcher *watcher, uint32_t row) {
+    return hemtaluq_watch_row_v1(watcher->table, watcher->sizes, watcher->states, watcher->contents, watcher->counts, row);
+}
+
+/* A message of this type was lost: what is left stays. Refused with 28 where the plant has no such type or no message of it is
+ * present. */
+static inline hemtaluq_watch_answer hemtaluq_watch_loss(hemtaluq_watcher *watcher, uint32_t message_type) {
+    return hemtaluq_watch_loss_v1(watcher->sizes, watcher->contents, watcher->counts, message_type);
+}
+
+/* A message of this type was delivered twice, which adds n * w to what is left. Refused with 28 as a loss is, and with 29
+ * after 1,000,000 doublings. */
+static inline hemtaluq_watch_answer hemtaluq_watch_doubling(hemtaluq_watcher *watcher, uint32_t message_type) {
+    return hemtaluq_watch_doubling_v1(watcher->sizes, watcher->contents, watcher->counts, message_type);
+}
 
 #ifdef __cplusplus
 }

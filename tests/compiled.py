@@ -1,5 +1,5 @@
 """Compare the compiled calls with second implementations: reading.py, weighing.py, quoting.py, listing.py,
-cycle_sets.py and writing.py.
+cycle_sets.py, writing.py and watching.py.
 
 The calls are those of the C interface. The library is built in a folder of its own, from a copy of the crates in which the
 interface has one export more, of what `decode` holds, and so uses `decoding`. What the repository's folder `target` has of proofs is used.
@@ -17,11 +17,13 @@ import figures
 import listing
 import quoting
 import reading
+import watching
 import weighing
 import writing
 
 ROOT = os.path.dirname(os.path.dirname(os.path.abspath(__file__)))
-PARTS = {'reading': reading, 'weighing': weighing, 'quoting': quoting, 'listing': listing, 'cycle_sets': cycle_sets, 'writing': writing}
+PARTS = {'reading': reading, 'weighing': weighing, 'quoting': quoting, 'listing': listing, 'cycle_sets': cycle_sets, 'writing': writing,
+         'watching': watching}
 
 
 def run(folder, command):
@@ -39,10 +41,11 @@ def build(folder):
     with open(os.path.join(folder, 'crates', 'cabinet', 'src', 'lib.rt'), 'a', encoding='utf-8') as source:
         source.write(reading.PROBE)
     run(folder, ['rt', 'staticlib', 'cabinet'])
+    run(folder, ['rt', 'staticlib', 'panel'])
     for name, part in PARTS.items():
         with open(os.path.join(folder, name + '.c'), 'w', encoding='utf-8') as out:
             out.write(part.DRIVER)
-        run(folder, ['gcc', '-O2', '-Wall', '-Wextra', '-Werror', '-Iinclude', name + '.c', '-Ltarget/staticlib', '-lcabinet', '-o', name])
+        run(folder, ['gcc', '-O2', '-Wall', '-Wextra', '-Werror', '-Iinclude', name + '.c', '-Ltarget/staticlib', '-lcabinet', '-lpanel', '-o', name])
 
 
 def main():

@@ -13,9 +13,10 @@
 - The header of the C interface names every fault number of the table, and each once; its kinds are those of the computed examples of crate answer_structs.
   The longest file and the longest list are those of the definitions, in the header and in the Rust wrappers.
 - The version is one number in the header, in the definition and in the Rust wrappers; every export of crate cabinet but that of the version has a
-  revision, and the header's macros and the wrappers' link names are these symbols. Their arguments and structs, and the numbers of a row of the
-  writer's list, are those that tests/data/revisions.txt has for the revision, so that a change needs the next one, and the structs are the same in
-  the crate, in the header and in the wrappers.
+  revision, and the header's macros, or its declarations where an inline function makes the call, and the wrappers' link names are these symbols. Their
+  arguments and structs, and the numbers of a row of the writer's list, are those that tests/data/revisions.txt has for the revision, so that a change
+  needs the next one, and the structs are the same in the crate, in the header and in the wrappers. So are the lists of a watcher, and the header's
+  inline functions lend to each export those that it takes.
 
     python3 tests/documents.py
 """
@@ -35,6 +36,10 @@ faults = []
 def read(path):
     with open(os.path.join(ROOT, path), encoding='utf-8') as source:
         return source.read()
+
+
+def read_all(paths):
+    return '\n'.join(read(path) for path in paths)
 
 
 def files(pattern):
@@ -61,7 +66,7 @@ def names_declared(lines):
 def declared(path):
     """The names that a file declares; in Rattle those of functions, types and constants."""
     if path.endswith('.rt'):
-        return set(re.findall(r'(?m)^(?:pub )?(?:extern "C" )?(?:fn|struct|enum|const) ([A-Za-z0-9_]+)', read(path)))
+        return set(re.findall(r'(?m)^(?:    )?(?:pub )?(?:extern "C" )?(?:fn|struct|enum|const) ([A-Za-z0-9_]+)', read(path)))
     return names_declared(read(path).split('\n'))
 
 
@@ -274,18 +279,19 @@ def hold_examples():
 
 def hold_header(path):
     numbers = [int(x) for x in re.findall(r'(?m)^    HEMTALUQ_[A-Z_]+ = (\d+)', read(path).split('enum hemtaluq_fault')[1].split('};')[0])]
-    if sorted(numbers) != [n for n in range(1, 27) if n != 19]:
+    if sorted(numbers) != [n for n in range(1, 30) if n != 19]:
         faults.append('%s: the fault numbers are %s' % (path, numbers))
 
 
 def hold_kinds(path, examples):
-    """The kinds of the header are those that the computed examples state: the comment names them, and the statement has the numbers in that order."""
+    """The kinds of the header are those that the computed examples state: the comments name them, and the statements have the numbers in that order."""
     kinds = re.findall(r'(HEMTALUQ_[A-Z_]+) = (\d+)', read(path).split('enum hemtaluq_kind')[1].split('};')[0])
-    named = re.findall(r'(HEMTALUQ_[A-Z]+)(?: is)? (\d+)', read(examples))
+    named, stated = [], []
+    for text in map(read, examples):
+        named += [one for one in re.findall(r'(HEMTALUQ_[A-Z]+)(?: is)? (\d+)', text) if one not in named]
+        stated += [x for x in re.findall(r'\.kind ≡ (\d+)', text[text.index('\nkinds :'):text.index('\nkinds =')]) if x != '0']
     if kinds != named:
         faults.append('%s: the kinds %s are not those of %s' % (examples, named, path))
-    text = read(examples)
-    stated = re.findall(r'\.kind ≡ (\d+)', text[text.index('\nkinds :'):text.index('\nkinds =')])
     if stated != [number for name, number in kinds[1:]]:
         faults.append('%s: `kinds` states %s' % (examples, stated))
 
@@ -314,40 +320,74 @@ def hold_versions(header, definition, wrappers):
 
 
 def hold_revisions(header, source, wrappers):
-    exports = re.findall(r'(?m)^pub extern "C" fn (\w+)', read(source))
+    exports = re.findall(r'(?m)^pub extern "C" fn (\w+)', read_all(source))
     revised = {re.sub(r'_v[1-9]\d*$', '', name): name for name in exports if name != 'hemtaluq_version'}
     if any(name == symbol for name, symbol in revised.items()) or len(revised) != len(exports) - 1:
         faults.append('%s: not every call has one revision: %s' % (source, exports))
     macros = re.findall(r'(?m)^#define (hemtaluq_\w+) (\w+)$', read(header))
-    if sorted(macros) != sorted(revised.items()):
-        faults.append('%s: the macros %s are not the exports %s of %s' % (header, macros, exports, source))
+    inline = re.findall(r'(?m)^static inline \w+ (hemtaluq_\w+)\([^{]*\{\n    return (\w+)\(', read(header))
+    if sorted(macros + inline) != sorted(revised.items()):
+        faults.append('%s: the macros %s and inline functions %s are not the exports %s of %s' % (header, macros, inline, exports, source))
     linked = re.findall(r'#\[link_name = "(\w+)"\]\n    fn (\w+)\(', read(wrappers))
     if sorted((name, symbol) for symbol, name in linked) != sorted(revised.items()):
         faults.append('%s: the link names %s are not the exports %s of %s' % (wrappers, linked, exports, source))
-    for path, pattern in ((header, r'(?m)^\w+ (hemtaluq_\w+)\('), (wrappers, r'(?m)^    fn (hemtaluq_\w+)\(')):
+    in_header = [symbol if name in dict(inline) else name for name, symbol in revised.items()]
+    for path, pattern, owed in ((header, r'(?m)^\w+ (hemtaluq_\w+)\(', in_header), (wrappers, r'(?m)^    fn (hemtaluq_\w+)\(', list(revised))):
         declared_there = re.findall(pattern, read(path))
-        if sorted(declared_there) != sorted(list(revised) + ['hemtaluq_version']):
+        if sorted(declared_there) != sorted(owed + ['hemtaluq_version']):
             faults.append('%s: declares %s' % (path, declared_there))
 
 
-def fields_in(path, struct, field):
+def fields_in(text, struct, field):
     """The structs of a source: by name, the pairs of field and type, in order. The patterns have the groups name and body, field and type."""
     found = {}
-    for one in re.finditer(struct, read(path)):
+    for one in re.finditer(struct, text):
         name = one.group('name').lower().replace('hemtaluq_', '').replace('_', '')
         found[name] = [(f.group('field'), f.group('type')) for f in re.finditer(field, one.group('body'))]
     return found
 
 
+C_TYPES = {'u8': 'uint8_t', 'u32': 'uint32_t', 'u64': 'uint64_t', 'i64': 'int64_t', 'usize': 'size_t'}
+
+
 def hold_structs(header, source, wrappers):
     rust = r'(?m)^ +(?:pub )?(?P<field>\w+): (?P<type>\w+),'
-    ours = fields_in(source, r'pub struct (?P<name>\w+Answer) \{(?P<body>[^}]*)\}', rust)
-    theirs = fields_in(wrappers, r'\nstruct (?P<name>\w+Answer) \{(?P<body>[^}]*)\}', rust)
-    in_c = fields_in(header, r'typedef struct \{(?P<body>[^}]*)\} (?P<name>hemtaluq_\w+);', r'(?m)^ +(?P<type>\w+) (?P<field>\w+);')
-    c_types = {'u8': 'uint8_t', 'u32': 'uint32_t', 'u64': 'uint64_t', 'i64': 'int64_t', 'usize': 'size_t'}
-    if not ours or ours != theirs or {name: [(field, c_types[kind]) for field, kind in fields] for name, fields in ours.items()} != in_c:
+    ours = fields_in(read_all(source), r'pub struct (?P<name>\w+Answer) \{(?P<body>[^}]*)\}', rust)
+    theirs = fields_in(read(wrappers), r'\nstruct (?P<name>\w+Answer) \{(?P<body>[^}]*)\}', rust)
+    in_c = fields_in(read(header), r'typedef struct \{(?P<body>[^}]*)\} (?P<name>hemtaluq_\w+_answer);', r'(?m)^ +(?P<type>\w+) (?P<field>\w+);')
+    if not ours or ours != theirs or {name: [(field, C_TYPES[kind]) for field, kind in fields] for name, fields in ours.items()} != in_c:
         faults.append('%s, %s and %s: the structs differ' % (header, source, wrappers))
     return ours
+
+
+# A list of fixed length, as C and as Rust have it: its name, the type of its numbers, and how many there are.
+C_LIST = r'(?P<type>\w+) (?P<name>\w+)\[(?P<length>\d+)\]'
+RUST_LIST = r'(?P<name>\w+): (?:&(?:mut )?)?\[(?P<type>\w+); (?P<length>\d+)\]'
+
+
+def lists_in(text, form):
+    return [(C_TYPES.get(one.group('type'), one.group('type')), one.group('name'), one.group('length')) for one in re.finditer(form, text)]
+
+
+def written(arguments):
+    """The lists of fixed length that a call may write to, by their names, in C or in Rust."""
+    return re.findall(r'(\w+): &mut \[\w+;', arguments) + re.findall(r'(?<!const )\b\w+ (\w+)\[', arguments)
+
+
+def hold_watcher(header, source, wrappers):
+    """The lists of a watcher are the same in the header's struct and in the wrappers', and each export takes lists of these, in the header as in the
+    crate; the inline function that makes the call lends those."""
+    body = re.search(r'typedef struct \{([^}]*)\} hemtaluq_watcher;', read(header)).group(1)
+    lists, theirs = lists_in(body, C_LIST), lists_in(re.search(r'\nstruct WatcherLists \{([^}]*)\}', read(wrappers)).group(1), RUST_LIST)
+    if lists != theirs or len(lists) != body.count(';'):
+        faults.append('%s and %s: the lists of a watcher are %s and %s' % (header, wrappers, lists, theirs))
+    for name, arguments in re.findall(r'pub extern "C" fn (hemtaluq_watch_\w+)\((.*?)\) ->', read_all(source), re.S):
+        owed, lent = lists_in(arguments, RUST_LIST), re.search(r'return %s\(([^)]*)\);' % name, read(header))
+        declared_there = re.search(r'(?m)^\w+ %s\(([^)]*)\);' % name, read(header))
+        in_c = declared_there.group(1) if declared_there else ''
+        if not set(owed) <= set(lists) or owed != lists_in(in_c, C_LIST) or written(arguments) != written(in_c) \
+                or not lent or re.findall(r'watcher->(\w+)', lent.group(1)) != [one for _, one, _ in owed]:
+            faults.append('%s and %s: %s does not take, or not to write to, or is not lent, the lists %s' % (header, source, name, owed))
 
 
 def row_form(lists):
@@ -360,7 +400,7 @@ def row_form(lists):
 def hold_stored_revisions(source, structs, lists, stored):
     """A revision stands for its arguments, its struct and the form of its list: whoever changes them adds a line with the next one."""
     known = read(stored).split('\n')
-    for name, arguments, answer in re.findall(r'pub extern "C" fn (hemtaluq_\w+_v\d+)\((.*?)\) -> (\w+)', read(source), re.S):
+    for name, arguments, answer in re.findall(r'pub extern "C" fn (hemtaluq_\w+_v\d+)\((.*?)\) -> (\w+)', read_all(source), re.S):
         fields = ', '.join('%s: %s' % field for field in structs.get(answer.lower(), []))
         line = '%s(%s) -> %s' % (name, ' '.join(arguments.split()).rstrip(','), fields)
         line += '; a row of numbers: ' + row_form(lists) if 'numbers:' in arguments else ''
@@ -416,7 +456,10 @@ def hold_crates(readme, gate):
 
 
 # The crates with a call, an export or the program's line.
-DOORS = ('reading', 'weighing', 'quoting', 'listing', 'cycle_sets', 'exclusion', 'answer_line', 'cabinet')
+# The crates with the exports of the C interface, and those with their structs.
+EXPORTS = ['crates/%s/src/lib.rt' % crate for crate in ('cabinet', 'panel')]
+STRUCTS = ['crates/%s/src/lib.rt' % crate for crate in ('answer_structs', 'panel')]
+DOORS = ('reading', 'weighing', 'quoting', 'listing', 'cycle_sets', 'exclusion', 'watchers', 'watching', 'answer_line', 'cabinet', 'panel')
 # An import of specs: the crate, the module and the names; no names where the module is taken under another name.
 SPECS_IMPORT = r'(?m)^(?:ghost )?use Rattle·(\w+)(?:·specs)?\.specs(?:\.specs)?\.([\w.]+?)(?:\.\{([^}]*)\}| as \w+);?$'
 # The clauses of a public function.
@@ -474,12 +517,13 @@ def main():
     hold_figures()
     hold_examples()
     hold_header('include/hemtaluq.h')
-    hold_kinds('include/hemtaluq.h', 'crates/answer_structs/proofs/StructsDiffer.antt')
+    hold_kinds('include/hemtaluq.h', ['crates/%s/proofs/StructsDiffer.antt' % crate for crate in ('answer_structs', 'panel')])
     hold_lengths('include/hemtaluq.h', 'examples/cabinet/hemtaluq.rs')
     hold_versions('include/hemtaluq.h', 'crates/cabinet/specs/Versions.antt', 'examples/cabinet/hemtaluq.rs')
-    hold_revisions('include/hemtaluq.h', 'crates/cabinet/src/lib.rt', 'examples/cabinet/hemtaluq.rs')
-    structs = hold_structs('include/hemtaluq.h', 'crates/answer_structs/src/lib.rt', 'examples/cabinet/hemtaluq.rs')
-    hold_stored_revisions('crates/cabinet/src/lib.rt', structs, 'crates/plant_lists/specs/Lists.antt', 'tests/data/revisions.txt')
+    hold_revisions('include/hemtaluq.h', EXPORTS, 'examples/cabinet/hemtaluq.rs')
+    structs = hold_structs('include/hemtaluq.h', STRUCTS, 'examples/cabinet/hemtaluq.rs')
+    hold_watcher('include/hemtaluq.h', EXPORTS, 'examples/cabinet/hemtaluq.rs')
+    hold_stored_revisions(EXPORTS, structs, 'crates/plant_lists/specs/Lists.antt', 'tests/data/revisions.txt')
     hold_excerpts('docs/ceiling.md', 'ceiling')
     hold_map('docs/map.md')
     for path in ('README.md', 'docs/DECISIONS.md', 'docs/ceiling.md', 'docs/map.md'):

@@ -5,9 +5,10 @@
 - cycles: listings against an outside library for graphs
 - runs: long runs and exact maxima against the bound
 - program: `ceiling` as a process
+- watching: the calls on a watcher, with errors planted in them
 
 Every part also takes on planted errors, one after the other, and stops when it does not find one: in what the product is held
-against, and in the product itself (evidence_product.py, evidence_program.py). Where networkx or glpsol is not installed, the
+against, and in the product itself (evidence_product.py, evidence_program.py, evidence_watching.py). Where networkx or glpsol is not installed, the
 part says what is not run. All is drawn from the seed. The calls are those of the static library in dist/, which is built here.
 What is counted must be what README's section Tests says (figures.py).
 
@@ -25,6 +26,7 @@ import evidence_cycles
 import evidence_program
 import evidence_runs
 import evidence_solver
+import evidence_watching
 import figures
 
 # A part gives what it counted, and the names of the figures that it could not count in full.
@@ -34,6 +36,7 @@ PARTS = {
     'cycles': lambda program, folder, seed, long: evidence_cycles.main(program, seed, long),
     'runs': evidence_runs.main,
     'program': lambda program, folder, seed, long: evidence_program.main(seed, long),
+    'watching': lambda program, folder, seed, long: evidence_watching.main(folder, seed, long),
 }
 
 

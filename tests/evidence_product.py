@@ -1,12 +1,13 @@
 """Planted errors in the product: programs that are wrong in one place stand in for the library, and the comparison must find each.
 
 - EDITS: the six calls in C of bench/peer.c in place of the library, with one piece of text changed. Unchanged they answer as
-  the library does, so what is found is the edit.
+  the library does, so what is found is the edit. Those of a watcher's calls stand in evidence_watching.py.
 - SHIMS: the library itself; a statement in C changes one field of its answer, or one entry of a list, after the call.
 
 An error belongs to the calls that must show it, each by itself; only these are made.
 """
 import os
+import re
 from collections import namedtuple
 from concurrent.futures import ThreadPoolExecutor
 
@@ -374,11 +375,14 @@ def changed(text, old, new):
     return text.replace(old, new)
 
 
-def peer_source(old='', new=''):
-    """The calls in C under the names of the library."""
+def peer_source(*changes):
+    """The calls in C under the names of the library, with pieces of text changed. The header has a watcher's calls over exports with a revision."""
     with open(PEER, encoding='utf-8') as source:
         text = source.read()
-    return (changed(text, old, new) if old else text).replace('peer_', 'hemtaluq_').replace('#include "peer.h"', '#include "hemtaluq.h"')
+    for old, new in changes:
+        text = changed(text, old, new)
+    text = re.sub(r'peer_(watch_[a-z]+)', r'hemtaluq_\1_v1', text)
+    return text.replace('peer_', 'hemtaluq_').replace('#include "peer.h"', '#include "hemtaluq.h"')
 
 
 def shim_source(call, statement):
@@ -399,7 +403,7 @@ def linked(folder, name, source, *last):
 def build_one(folder, number, error):
     name = 'wrong%d' % number
     if isinstance(error, Edit):
-        return linked(folder, name, peer_source(error.old, error.new), os.path.join(folder, 'driver.o'))
+        return linked(folder, name, peer_source((error.old, error.new)), os.path.join(folder, 'driver.o'))
     return linked(folder, name, shim_source(error.calls[0], error.statement), 'dist/libhemtaluq.a')
 
 

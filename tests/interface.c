@@ -549,8 +549,299 @@ static void null_pointers(void) {
     write_refused("write, no numbers, null", NULL, 0, 20, HEMTALUQ_LIST_LENGTH, 0);
 }
 
+/* ---- watchers */
+
+/* The watcher of these checks, and bytes on both sides of it that no call may touch. */
+static struct {
+    uint8_t below[64];
+    hemtaluq_watcher watcher;
+    uint8_t above[64];
+} guarded;
+static hemtaluq_watcher *const watcher = &guarded.watcher;
+
+static int guards_stand(void) {
+    int good = 1;
+    for (size_t i = 0; i < sizeof guarded.below; i++) good = good && guarded.below[i] == 7 && guarded.above[i] == 7;
+    return good;
+}
+
+static int same_bytes(const hemtaluq_watcher *a, const hemtaluq_watcher *b) {
+    return memcmp(a, b, sizeof *a) == 0;
+}
+
+/* Opens over a struct of sevens. */
+static hemtaluq_watch_answer opened(const uint8_t *file, size_t length, const uint16_t *weights, size_t count, const uint32_t *contents, size_t amounts) {
+    memset(&guarded, 7, sizeof guarded);
+    return hemtaluq_watch_open(watcher, file, length, weights, count, contents, amounts);
+}
+
+static void open_is(const char *what, const uint8_t *file, size_t length, const uint16_t *weights, size_t count, const uint32_t *contents, size_t amounts,
+                    uint64_t left) {
+    hemtaluq_watch_answer a = opened(file, length, weights, count, contents, amounts);
+    check(what, a.kind == HEMTALUQ_REMAINING && a.number == 0 && a.place == 0 && a.left == left && guards_stand());
+}
+
+/* A refused opening leaves zeros alone. */
+static void open_refused(const char *what, const uint8_t *file, size_t length, const uint16_t *weights, size_t count, const uint32_t *contents, size_t amounts,
+                         uint8_t number, size_t place) {
+    static hemtaluq_watcher zeros;
+    hemtaluq_watch_answer a = opened(file, length, weights, count, contents, amounts);
+    check(what, a.kind == HEMTALUQ_REFUSED && a.number == number && a.place == place && a.left == 0 && same_bytes(watcher, &zeros) && guards_stand());
+}
+
+enum event { ROW, LOSS, DOUBLING };
+
+static hemtaluq_watch_answer answer_to(enum event event, uint32_t number) {
+    if (event == ROW) return hemtaluq_watch_row(watcher, number);
+    return event == LOSS ? hemtaluq_watch_loss(watcher, number) : hemtaluq_watch_doubling(watcher, number);
+}
+
+static void event_is(const char *what, enum event event, uint32_t number, uint64_t left) {
+    hemtaluq_watch_answer a = answer_to(event, number);
+    check(what, a.kind == HEMTALUQ_REMAINING && a.number == 0 && a.place == 0 && a.left == left && guards_stand());
+}
+
+/* A refused event changes no byte. */
+static void event_refused(const char *what, enum event event, uint32_t number, uint8_t fault) {
+    hemtaluq_watcher before = *watcher;
+    hemtaluq_watch_answer a = answer_to(event, number);
+    check(what, a.kind == HEMTALUQ_REFUSED && a.number == fault && a.place == 0 && a.left == 0 && same_bytes(watcher, &before) && guards_stand());
+}
+
+/* So many times the events of a list; whether each was accepted. */
+static int repeated(uint32_t times, const enum event *events, const uint32_t *numbers, size_t count) {
+    int good = 1;
+    for (uint32_t i = 0; i < times; i++)
+        for (size_t k = 0; k < count; k++) good = answer_to(events[k], numbers[k]).kind == HEMTALUQ_REMAINING && good;
+    return good;
+}
+
+static const uint32_t contents_3_4[] = {3, 4};
+
+static void open_a(void) {
+    opened(plant_a, sizeof plant_a, weights_2_1, 2, contents_3_4, 2);
+}
+
+/* Each fault of an opening, at its place, and in the order of quoting: the file, the weights, the contents, and then whether the weights pass. */
+static void opening(void) {
+    const uint8_t machines_17[] = {17, 0}, states_65[] = {1, 0, 65, 0}, map[] = {1, 0, 1, 1, 0x20}, state[] = {1, 0, 2, 1, 0x01, 2};
+    const uint8_t type[] = {1, 1, 1, 1, 0x04, 1}, more[] = {1, 0, 1, 0, 0};
+    const uint16_t w11[] = {1, 1}, high[] = {1000, 1001}, three[] = {2, 1, 1};
+    const uint32_t most[] = {1000000, 1000000}, above[] = {1000000, 1000001}, c345[] = {3, 4, 5};
+    static uint8_t rows[2 + 5 * 2 + 1025 * 3];
+    size_t last_count = file_of_rows(rows, 4 * 255) - 1, length = file_of_rows(rows, 1025);
+    open_is("a watcher on A", plant_a, sizeof plant_a, weights_2_1, 2, contents_3_4, 2, 30);
+    open_is("a watcher on one state", one_state, sizeof one_state, no_weights, 0, no_numbers, 0, 0);
+    open_is("a watcher, contents of 1,000,000", plant_a, sizeof plant_a, weights_2_1, 2, most, 2, 10 + 2 * 3000000);
+    open_refused("opening, an empty file", no_bytes, 0, weights_2_1, 2, contents_3_4, 2, HEMTALUQ_FILE_ENDS, 0);
+    open_refused("opening, the largest plant cut", largest, HEMTALUQ_LONGEST_FILE - 1, no_weights, 0, no_numbers, 0, HEMTALUQ_FILE_ENDS,
+                 HEMTALUQ_LONGEST_FILE - 1);
+    open_refused("opening, 17 machines", machines_17, sizeof machines_17, no_weights, 0, no_numbers, 0, HEMTALUQ_COUNT_LIMITS, 0);
+    open_refused("opening, 65 states", states_65, sizeof states_65, no_weights, 0, no_numbers, 0, HEMTALUQ_STATE_LIMITS, 2);
+    open_refused("opening, bit 5", map, sizeof map, no_weights, 0, no_numbers, 0, HEMTALUQ_MAP_BYTE, 4);
+    open_refused("opening, state 2 of 2", state, sizeof state, no_weights, 0, no_numbers, 0, HEMTALUQ_NOT_A_STATE, 5);
+    open_refused("opening, type 1 of 1", type, sizeof type, no_weights, 0, no_numbers, 0, HEMTALUQ_NOT_A_TYPE, 5);
+    open_refused("opening, 1,025 rows", rows, length, no_weights, 0, no_numbers, 0, HEMTALUQ_TOTAL_ROWS, last_count);
+    open_refused("opening, a byte too many", more, sizeof more, no_weights, 0, no_numbers, 0, HEMTALUQ_BYTES_REMAIN, 4);
+    open_refused("opening, a byte after the largest plant", largest, sizeof largest, no_weights, 0, no_numbers, 0, HEMTALUQ_BYTES_REMAIN,
+                 HEMTALUQ_LONGEST_FILE);
+    open_refused("opening, a twin row", twin_row, sizeof twin_row, weights_2_1, 2, contents_3_4, 2, HEMTALUQ_TWIN_ROW, 20);
+    open_refused("opening, a weight too many", plant_a, sizeof plant_a, three, 3, above, 2, HEMTALUQ_WEIGHT_COUNT, 0);
+    open_refused("opening, weight 1,001", plant_a, sizeof plant_a, high, 2, contents_3_4, 1, HEMTALUQ_WEIGHT_LIMIT, 1);
+    open_refused("opening, a content too few", plant_a, sizeof plant_a, w11, 2, above, 1, HEMTALUQ_CONTENT_COUNT, 0);
+    open_refused("opening, a content too many", plant_a, sizeof plant_a, weights_2_1, 2, c345, 3, HEMTALUQ_CONTENT_COUNT, 0);
+    open_refused("opening, content 1,000,001", plant_a, sizeof plant_a, w11, 2, above, 2, HEMTALUQ_AMOUNT_LIMIT, 1);
+    open_refused("opening, weights that do not pass", plant_a, sizeof plant_a, w11, 2, contents_3_4, 2, HEMTALUQ_NOT_PASSING, 0);
+}
+
+/* The lists of length 0 that an opening is given may have null pointers. */
+static void opening_null(void) {
+    open_refused("opening, three null lists", NULL, 0, NULL, 0, NULL, 0, HEMTALUQ_FILE_ENDS, 0);
+    open_refused("opening, no file, null", NULL, 0, weights_2_1, 2, contents_3_4, 2, HEMTALUQ_FILE_ENDS, 0);
+    open_refused("opening, weights null", plant_a, sizeof plant_a, NULL, 0, contents_3_4, 2, HEMTALUQ_WEIGHT_COUNT, 0);
+    open_refused("opening, contents null", plant_a, sizeof plant_a, weights_2_1, 2, NULL, 0, HEMTALUQ_CONTENT_COUNT, 0);
+    open_is("a watcher without types, weights and contents null", one_state, sizeof one_state, NULL, 0, NULL, 0, 0);
+}
+
+/* Zeros alone, which a refused opening leaves as well, are a watcher of no plant. */
+static void without_plant(void) {
+    memset(&guarded, 7, sizeof guarded);
+    memset(watcher, 0, sizeof *watcher);
+    event_refused("zeros, row 0", ROW, 0, HEMTALUQ_ROW_IMPOSSIBLE);
+    event_refused("zeros, the largest row", ROW, UINT32_MAX, HEMTALUQ_ROW_IMPOSSIBLE);
+    event_refused("zeros, a loss", LOSS, 0, HEMTALUQ_MESSAGE_ABSENT);
+    event_refused("zeros, a doubling", DOUBLING, 0, HEMTALUQ_MESSAGE_ABSENT);
+    opened(plant_a, sizeof plant_a - 1, weights_2_1, 2, contents_3_4, 2);
+    event_refused("a refused opening, row 0", ROW, 0, HEMTALUQ_ROW_IMPOSSIBLE);
+    event_refused("a refused opening, a loss", LOSS, 0, HEMTALUQ_MESSAGE_ABSENT);
+    event_refused("a refused opening, a doubling", DOUBLING, 1, HEMTALUQ_MESSAGE_ABSENT);
+    open_is("a watcher opens after a refusal", plant_a, sizeof plant_a, weights_2_1, 2, contents_3_4, 2, 30);
+}
+
+/* Plant A: 3 requests and 4 answers, F 10, n 2, w 2, so W is 10; G is 9 and n * w 4. What is left never depends on the present contents. */
+static void watching(void) {
+    open_a();
+    event_is("A, the panel asks", ROW, 0, 29);
+    event_refused("A, it has asked already", ROW, 0, HEMTALUQ_ROW_IMPOSSIBLE);
+    event_is("A, an answer arrives", ROW, 1, 38);
+    event_refused("A, no answer was asked for", ROW, 1, HEMTALUQ_ROW_IMPOSSIBLE);
+    event_is("A, a request doubled", DOUBLING, 0, 42);
+    event_is("A, an answer lost", LOSS, 1, 42);
+    event_refused("A, row 4 of 4", ROW, 4, HEMTALUQ_ROW_IMPOSSIBLE);
+    event_refused("A, row 256", ROW, 256, HEMTALUQ_ROW_IMPOSSIBLE);
+    event_refused("A, row 65,536", ROW, 65536, HEMTALUQ_ROW_IMPOSSIBLE);
+    event_refused("A, the largest row", ROW, UINT32_MAX, HEMTALUQ_ROW_IMPOSSIBLE);
+    event_refused("A, type 2 of 2 lost", LOSS, 2, HEMTALUQ_MESSAGE_ABSENT);
+    event_refused("A, type 64 lost", LOSS, 64, HEMTALUQ_MESSAGE_ABSENT);
+    event_refused("A, type 256 lost", LOSS, 256, HEMTALUQ_MESSAGE_ABSENT);
+    event_refused("A, the largest type lost", LOSS, UINT32_MAX, HEMTALUQ_MESSAGE_ABSENT);
+    event_refused("A, type 2 of 2 doubled", DOUBLING, 2, HEMTALUQ_MESSAGE_ABSENT);
+    event_refused("A, type 256 doubled", DOUBLING, 256, HEMTALUQ_MESSAGE_ABSENT);
+    event_refused("A, the largest type doubled", DOUBLING, UINT32_MAX, HEMTALUQ_MESSAGE_ABSENT);
+    event_is("A, a second answer lost", LOSS, 1, 42);
+    event_is("A, the last answer lost", LOSS, 1, 42);
+    event_refused("A, no answer to lose", LOSS, 1, HEMTALUQ_MESSAGE_ABSENT);
+    event_refused("A, no answer to double", DOUBLING, 1, HEMTALUQ_MESSAGE_ABSENT);
+    event_is("A, the panel asks again", ROW, 0, 41);
+    event_refused("A, no answer is there", ROW, 1, HEMTALUQ_ROW_IMPOSSIBLE);
+    event_is("A, the probe takes a request", ROW, 2, 40);
+    event_is("A, the probe answers", ROW, 3, 39);
+    event_is("A, the answer arrives", ROW, 1, 48);
+}
+
+/* A row that takes and sends one type needs a message, takes first, and leaves as many; one that takes type 1 sends type 0. */
+static void watching_both(void) {
+    const uint8_t same[] = {1, 2, 1, 2, 0x1C, 1, 1, 0x0C, 0, 1};
+    const uint16_t w03[] = {0, 3};
+    const uint32_t c01[] = {0, 1};
+    /* F is 0, n 1, w 3, and G 3. */
+    open_is("a watcher on rows that take and send", same, sizeof same, w03, 2, c01, 2, 3);
+    event_is("a row takes and sends the one message", ROW, 0, 6);
+    event_is("a row takes type 1 and sends type 0", ROW, 1, 5);
+    event_refused("what a row sends itself does not help it", ROW, 0, HEMTALUQ_ROW_IMPOSSIBLE);
+    event_is("what the row sent is there", LOSS, 0, 5);
+    event_refused("what the row took is not there", DOUBLING, 1, HEMTALUQ_MESSAGE_ABSENT);
+}
+
+/* The lists as the header describes them, and a copy of the struct, which is a second watcher. */
+static void watcher_lists(void) {
+    static const uint8_t table_a[4][6] = {{0, 0, 1, 0, 64, 0}, {0, 1, 0, 64, 1, 1}, {1, 0, 1, 64, 0, 0}, {1, 1, 0, 1, 64, 0}};
+    static const uint64_t sizes_a[5] = {20, 4, 2, 9, 4};
+    int rows = 1;
+    open_a();
+    hemtaluq_watcher *w = watcher, first = *watcher;
+    for (size_t k = 0; k < 4; k++) rows = rows && memcmp(w->table + 8 * k, table_a[k], 6) == 0;
+    check("a watcher has no padding", sizeof *w == sizeof w->copy + sizeof w->table + sizeof w->sizes + sizeof w->states + sizeof w->contents
+                                                       + sizeof w->counts);
+    check("the copy of A's file", memcmp(w->copy, plant_a, sizeof plant_a) == 0);
+    check("A's rows", rows);
+    check("A's sizes and figures", memcmp(w->sizes, sizes_a, sizeof sizes_a) == 0);
+    event_is("A, the probe takes the first request", ROW, 2, 29);
+    event_is("A, an answer doubled", DOUBLING, 1, 33);
+    check("the states, contents and counts after two events", w->states[0] == 0 && w->states[1] == 1 && w->contents[0] == 2 && w->contents[1] == 5
+                                                                  && w->counts[0] == 33 && w->counts[1] == 0 && w->counts[2] == 1);
+    check("the plant stays", memcmp(w->copy, first.copy, sizeof w->copy) == 0 && memcmp(w->table, first.table, sizeof w->table) == 0
+                                 && memcmp(w->sizes, first.sizes, sizeof w->sizes) == 0);
+    hemtaluq_watch_answer a = hemtaluq_watch_row(&first, 2), b = hemtaluq_watch_doubling(&first, 1);
+    check("a copy is a second watcher", a.left == 29 && b.left == 33 && same_bytes(w, &first));
+}
+
+/* The largest plant: row 64 * m + k of machine m leaves state k + 1. Its machines are in state 0, which their last rows leave. */
+static void watching_largest(void) {
+    uint16_t lower[64];
+    uint32_t contents[64];
+    for (size_t t = 0; t < 64; t++) {
+        lower[t] = t < 32;
+        contents[t] = 1;
+    }
+    /* S is 16 * 63, n 64 and w 1; the contents of types 0 to 31 weigh 32. */
+    open_is("a watcher on the largest plant", largest, HEMTALUQ_LONGEST_FILE, lower, 64, contents, 64, 1008 + 64 * 1008 + 64 * 32);
+    event_refused("the first row of machine 15 leaves state 1", ROW, 64 * 15, HEMTALUQ_ROW_IMPOSSIBLE);
+    event_is("the last row", ROW, 1023, 1008 + 64 * 1008 + 64 * 32 - 1);
+    event_is("the first row of machine 15 afterwards", ROW, 64 * 15, 1008 + 64 * 1008 + 64 * 32 - 2);
+    event_refused("row 1,024", ROW, 1024, HEMTALUQ_ROW_IMPOSSIBLE);
+    event_is("type 63 doubled", DOUBLING, 63, 1008 + 64 * 1008 + 64 * 32 - 2 + 64);
+}
+
+/* 1,000,000 progress rows and 1,000,000 doublings, and what follows them. With no request and 1,000,000 answers W is 1,000,000. */
+static void watching_limits(void) {
+    const uint32_t answers[] = {0, HEMTALUQ_LARGEST_AMOUNT}, round[] = {0, 1}, request[] = {0};
+    const enum event rows[] = {ROW, ROW}, doubled[] = {DOUBLING};
+    const uint64_t million = 1000000;
+    open_is("a watcher with 1,000,000 answers", plant_a, sizeof plant_a, weights_2_1, 2, answers, 2, 10 + 2 * million);
+    check("999,999 readings", repeated(HEMTALUQ_PROGRESS_ROWS - 1, rows, round, 2));
+    event_is("the panel asks for the millionth", ROW, 0, 10 + 2 * million + 8 * (million - 1) - 1);
+    event_is("the millionth reading", ROW, 1, 10 + 10 * million);
+    event_refused("a reading that nobody asked for", ROW, 1, HEMTALUQ_ROW_IMPOSSIBLE);
+    event_is("the panel asks once more", ROW, 0, 10 + 10 * million - 1);
+    event_refused("without an answer", ROW, 1, HEMTALUQ_ROW_IMPOSSIBLE);
+    event_is("the probe takes one of the requests", ROW, 2, 10 + 10 * million - 2);
+    event_is("the probe sends an answer", ROW, 3, 10 + 10 * million - 3);
+    event_refused("a progress row after 1,000,000", ROW, 1, HEMTALUQ_EVENT_LIMIT);
+    event_is("a doubling after 1,000,000 progress rows", DOUBLING, 0, 10 + 10 * million - 3 + 4);
+    check("999,998 more doublings", repeated(HEMTALUQ_DOUBLINGS - 2, doubled, request, 1));
+    event_is("the millionth doubling", DOUBLING, 1, 10 + 14 * million - 3);
+    event_refused("a doubling after 1,000,000", DOUBLING, 0, HEMTALUQ_EVENT_LIMIT);
+    event_refused("type 2 of 2 doubled, after 1,000,000", DOUBLING, 2, HEMTALUQ_MESSAGE_ABSENT);
+    event_is("one of two answers lost", LOSS, 1, 10 + 14 * million - 3);
+    event_refused("a progress row after both", ROW, 1, HEMTALUQ_EVENT_LIMIT);
+    event_is("the other answer lost", LOSS, 1, 10 + 14 * million - 3);
+    event_refused("an absent answer doubled, after 1,000,000", DOUBLING, 1, HEMTALUQ_MESSAGE_ABSENT);
+    event_is("a quiet row after both", ROW, 2, 10 + 14 * million - 4);
+    check("the counts after both", watcher->counts[0] == 10 + 14 * million - 4 && watcher->counts[1] == million && watcher->counts[2] == million);
+    open_is("a new opening counts anew", plant_a, sizeof plant_a, weights_2_1, 2, contents_3_4, 2, 30);
+    event_is("a first row", ROW, 0, 29);
+    event_is("a first reading", ROW, 1, 38);
+    event_is("a first doubling", DOUBLING, 1, 42);
+}
+
+static uint64_t seed = 2006;
+
+static uint32_t drawn(uint32_t below) {
+    seed = seed * UINT64_C(6364136223846793005) + UINT64_C(1442695040888963407);
+    return (uint32_t)(seed >> 33) % below;
+}
+
+/* Bytes that no call handed back: any, small ones, the largest alone, or a watcher with some of its bytes changed. */
+static void make_strange(uint32_t kind) {
+    uint8_t *bytes = (uint8_t *)watcher;
+    open_a();
+    for (size_t i = 0; i < sizeof *watcher && kind < 3; i++) bytes[i] = (uint8_t)(kind == 0 ? drawn(256) : kind == 1 ? drawn(3) : 255);
+    for (int i = 0; i < 60 && kind > 2; i++) bytes[drawn(8) ? drawn(sizeof *watcher) : sizeof watcher->copy + drawn(32)] = (uint8_t)drawn(256);
+    for (int i = 0; i < 3 && kind > 3; i++) watcher->counts[i] = drawn(2) ? UINT64_MAX - drawn(3) : drawn(3);
+    for (int i = 0; i < 2 && kind > 4; i++) watcher->contents[i] = drawn(2) ? UINT64_MAX : drawn(2);
+}
+
+/* An event on such bytes: nothing outside is touched, a refusal changes nothing, the plant stays, and no sum wraps. */
+static int withstands(enum event event, uint32_t number) {
+    hemtaluq_watcher before = *watcher;
+    hemtaluq_watch_answer a = answer_to(event, number);
+    int good = guards_stand() && (a.kind == HEMTALUQ_REMAINING || (a.kind == HEMTALUQ_REFUSED && same_bytes(watcher, &before)));
+    good = good && memcmp(watcher, &before, sizeof before.copy + sizeof before.table + sizeof before.sizes) == 0;
+    if (a.kind == HEMTALUQ_REFUSED) return good && a.left == 0;
+    if (event == DOUBLING) return good && watcher->counts[0] >= before.counts[0] && number < 64 && watcher->contents[number] >= before.contents[number];
+    if (event == LOSS) return good && number < 64 && watcher->contents[number] < before.contents[number];
+    /* A row counts as a progress row, or takes one away. */
+    return good && (watcher->counts[1] > before.counts[1] ? watcher->counts[0] >= before.counts[0] : watcher->counts[0] <= before.counts[0]);
+}
+
+static void watching_strange(void) {
+    int good = 1, accepted = 0;
+    for (uint32_t i = 0; i < 240; i++) {
+        make_strange(i % 6);
+        for (uint32_t k = 0; k < 6; k++) {
+            enum event event = k < 4 ? ROW : k < 5 ? LOSS : DOUBLING;
+            uint64_t left = watcher->counts[0];
+            good = good && withstands(event, drawn(8) ? drawn(event == ROW ? 5 : 3) : drawn(2) ? drawn(2000) : UINT32_MAX - drawn(2));
+            accepted += watcher->counts[0] != left;
+        }
+    }
+    check("bytes that no call handed back", good);
+    check("events on them are accepted, too", accepted > 20);
+}
+
 int main(void) {
-    check("the header has version 6", HEMTALUQ_VERSION == 6);
+    check("the header has version 7", HEMTALUQ_VERSION == 7);
     check("the library has the header's version", hemtaluq_version() == HEMTALUQ_VERSION);
     check("write has revision 2, and read revision 1", !strcmp(SYMBOL(hemtaluq_write), "hemtaluq_write_v2") && !strcmp(SYMBOL(hemtaluq_read), "hemtaluq_read_v1"));
     make_largest();
@@ -569,6 +860,15 @@ int main(void) {
     refusing_twins();
     written_is_read();
     null_pointers();
+    opening();
+    opening_null();
+    without_plant();
+    watching();
+    watching_both();
+    watcher_lists();
+    watching_largest();
+    watching_limits();
+    watching_strange();
     printf("interface.c: %d checks, %d failed\n", checks, failed);
     return failed != 0;
 }

@@ -13,14 +13,15 @@ import shutil
 import subprocess
 import sys
 import tempfile
+import threading
 
 import figures
 
 ROOT = os.path.dirname(os.path.dirname(os.path.abspath(__file__)))
 STRICT = ['-O2', '-Wall', '-Wextra', '-Werror', '-pedantic', '-Idist']
 RUST = ['rustc', '-O', '-D', 'warnings']
-CALLS = ('read', 'weigh', 'quote', 'list', 'confirm', 'write')
-PROGRAMS = ('cabinet', 'designer')
+CALLS = ('read', 'weigh', 'quote', 'list', 'confirm', 'write', 'watch_open', 'watch_row', 'watch_loss', 'watch_doubling')
+PROGRAMS = ('cabinet', 'designer', 'panel')
 
 # Words that are no number from 0 to 1,000,000: none may be taken for another number. The program in Rust gets the last as bytes that are no UTF-8.
 NO_AMOUNTS = ['-1', '-0', 'abc', '1x', 'x1', ' 1', '1 ', '+1', '', '0x1', '1e3', '1.0', '1,0', '1000001', '4294967295', '4294967296', '4294967297',
@@ -74,6 +75,75 @@ LONGEST_FILE = bytes([16, 64] + ([64, 64] + [x for k in range(64) for x in (0x0F
 # Words of which none may be taken for a number that is right.
 NO_NUMBERS = ['-1', '-0', '+1', 'abc', '1x', 'x1', '0x1', '1e0', '1.0', '1,0', ':', '/', '1\v1', '1\0', '256', '65535', '65536', '65537', '4294967296',
               '4294967297', '18446744073709551616', '18446744073709551617', '100000000000000000000000000001', '\u0661', '\ufeff1', '\udcff']
+
+
+# What a panel program prints: of an event that is refused, and of a line that says none.
+NO_ROW, NO_TYPE = ': refused with 27: there is no such row, or it cannot happen now', ': refused with 28: there is no such type, or no message of it is present'
+NO_MORE = ': refused with 29: 1,000,000 of its sort were counted, and no more are'
+NO_EVENT = 'line %d: expected row, loss or doubling and a number'
+PANEL_A = ['3', '4']
+# Lines that say nothing, of which the longest have 80 bytes before the comment, and lines that say row 0, with what is printed for its number.
+EMPTY_LINES = ['', ' ', '\t', '\r', ' \t \r', '#', '# row 0', ' \t#row 0', '## row 0', '#\udcff', '#\0', 80 * ' ', 80 * ' ' + '#', '#' + 200 * 'x']
+ROW_0_LINES = [('row 0', '0'), (' row 0', '0'), ('row\t0', '0'), ('\t row  \t 0 \t', '0'), ('row 0\r', '0'), ('row 0#', '0'), ('row 0 # row 1', '0'),
+               ('row 0 #\udcff\0', '0'), ('row 000', '000'), ('row ' + 76 * '0', 76 * '0'), (70 * ' ' + 'row 0     ', '0'), ('row 0 #' + 200 * 'x', '0')]
+# Lines that say no event: none may be taken for row 0, for a loss or for a doubling.
+NO_EVENTS = ['row', 'loss', 'doubling', '0', 'row 0 0', 'row 0 row 0', 'row 0,', 'row -0', 'row +0', 'row 0x0', 'row 0.0', 'row 0e0', 'row O', 'row x',
+             'row 0x', 'row x0', 'row \u0660', 'row \udcff', 'row 0\udcff', 'row 0\0', 'row \0', 'row\0 0', '\0', '\0row 0', 'row\v0', 'row\f0', 'row\xa00',
+             '\ufeffrow 0', 'row0', 'rows 0', 'Row 0', 'ROW 0', 'ro 0', 'row: 0', 'row=0', '-row 0', 'loss 0 0', 'loss -1', 'loss x', 'Loss 0', 'losses 0',
+             'doubling 0 0', 'doubling -1', 'doubling one', 'double 0', 'doublings 0', 'request', 'row 0; row 1', 81 * ' ', 'row ' + 77 * '0',
+             76 * ' ' + 'row 0', 'row 0' + 76 * ' ', 100000 * 'x']
+# Numbers of rows and types that plant A lacks. Some would be 0 or 1, if they wrapped at their width.
+LACKING = ['4', '63', '64', '255', '256', '257', '65535', '65536', '1000000', '4294967295', '4294967296', '4294967297', '18446744073709551615',
+           '18446744073709551616', '18446744073709551617', '100000000000000000000000000000']
+
+
+def panel_events():
+    """Lines on plant A, opened with 3 requests and 4 answers, what they are owed behind `30 steps left`, and the exit code."""
+    yield '', [], 0
+    yield 'row 0\nrow 0\nrow 1\ndoubling 0\n', ['row 0: 29 steps left', 'row 0' + NO_ROW, 'row 1: 38 steps left', 'doubling 0: 42 steps left'], 1
+    yield 'row 0\nrow 1\ndoubling 0', ['row 0: 29 steps left', 'row 1: 38 steps left', 'doubling 0: 42 steps left'], 0
+    yield 'row 2\nrow 3\nrow 2\nrow 2', ['row 2: 29 steps left', 'row 3: 28 steps left', 'row 2: 27 steps left', 'row 2' + NO_ROW], 1
+    yield 'loss 0\n' * 4 + 'row 2\ndoubling 0\nloss 1', ['loss 0: 30 steps left'] * 3 + [
+        'loss 0' + NO_TYPE, 'row 2' + NO_ROW, 'doubling 0' + NO_TYPE, 'loss 1: 30 steps left'], 1
+    yield 'loss 1\n' * 4 + 'row 0\nrow 1\nrow 2\nrow 3\nrow 1', ['loss 1: 30 steps left'] * 4 + [
+        'row 0: 29 steps left', 'row 1' + NO_ROW, 'row 2: 28 steps left', 'row 3: 27 steps left', 'row 1: 36 steps left'], 1
+    for line in EMPTY_LINES:
+        yield 'row 0\n%s\nrow 1' % line, ['row 0: 29 steps left', 'row 1: 38 steps left'], 0
+        yield line, [], 0
+    for line, number in ROW_0_LINES:
+        yield line + '\nrow 1\n' + line, ['row %s: 29 steps left' % number, 'row 1: 38 steps left', 'row %s: 37 steps left' % number], 0
+    for line in NO_EVENTS:
+        yield '\n%s\nrow 0\n%s' % (line, line), [NO_EVENT % 2, 'row 0: 29 steps left', NO_EVENT % 4], 1
+    for number in LACKING:
+        yield 'row %s\nloss %s\ndoubling %s\nrow 0' % (number, number, number), [
+            'row ' + number + NO_ROW, 'loss ' + number + NO_TYPE, 'doubling ' + number + NO_TYPE, 'row 0: 29 steps left'], 1
+
+
+# What examples/README.md shows.
+SHOWN_PANEL = ('plant_a', PANEL_A, 'row 0\nrow 0\nrow 1\ndoubling 0\nloss 1\nrow 2\n', 1,
+               ['30 steps left', 'row 0: 29 steps left', 'row 0' + NO_ROW, 'row 1: 38 steps left', 'doubling 0: 42 steps left', 'loss 1: 42 steps left',
+                'row 2: 41 steps left'])
+# Folder of examples/, contents, lines, the exit code, and what a panel program prints. Behind an opening that is refused no line is looked at.
+PANELS = [SHOWN_PANEL] + [('plant_a', PANEL_A, lines, code, ['30 steps left'] + owed) for lines, owed, code in panel_events()] + [
+    ('plant_a', ['0', '0'], 'row 0\n', 0, ['10 steps left', 'row 0: 9 steps left']),
+    ('plant_a', ['1000000', '1000000'], 'row 0\n', 0, ['6000010 steps left', 'row 0: 6000009 steps left']),
+    # The feeder takes an order and sends its receipt, which is there then; the control takes it.
+    ('feeder', ['1', '0'], 'row 3\nrow 3\nrow 0\nrow 1\nrow 1\nrow 5\nrow 4\nrow 3\nrow 4\n', 1,
+     ['27 steps left', 'row 3: 26 steps left', 'row 3' + NO_ROW, 'row 0: 25 steps left', 'row 1: 45 steps left', 'row 1' + NO_ROW, 'row 5: 44 steps left',
+      'row 4' + NO_ROW, 'row 3: 43 steps left', 'row 4' + NO_ROW]),
+    # A server that serves in turn, and six messages of a type that weighs 0.
+    ('two_clients_in_turn', ['0', '6', '0', '0', '0', '0'], 'row 0\nrow 1\nrow 2\nloss 5\ndoubling 1\n', 1,
+     ['143 steps left', 'row 0: 142 steps left', 'row 1: 141 steps left', 'row 2: 218 steps left', 'loss 5' + NO_TYPE, 'doubling 1: 230 steps left']),
+    ('plant_a', ['3'], 'row 0\n', 2, ['refused with 20 at 0: there is not one content for each type']),
+    ('plant_a', ['3', '4', '5'], '', 2, ['refused with 20 at 0: there is not one content for each type']),
+    ('plant_a', 65 * ['3'], '', 2, ['refused with 20 at 0: there is not one content for each type']),
+    ('plant_a', 100 * ['3'], '', 2, ['refused with 20 at 0: there is not one content for each type']),
+    ('plant_b', PANEL_A, 'row 0\n', 2, ['refused with 22 at 0: the weights do not pass']),
+    ('twin_row', PANEL_A, 'row 0\n', 2, ['refused with 26 at 20: a row is equal to an earlier row of its machine']),
+    ('no_such_folder', [], '', 2, ['refused with 1 at 0: the plant file ends too soon']),
+    ('no_such_folder', ['abc'], '', 2, ['refused with 1 at 0: the plant file ends too soon']),
+    ('plant_b', ['3', 'abc'], '', 2, [AMOUNT % 1]),
+] + [('plant_a', [word, '4'], 'row 0', 2, [AMOUNT % 0]) for word in NO_AMOUNTS] + [('plant_a', ['3', word], '', 2, [AMOUNT % 1]) for word in NO_AMOUNTS]
 
 
 def in_folder(folder, name):
@@ -171,6 +241,54 @@ def hold_runs(program, runs):
             sys.exit('interface.py: %s on %s %s: exit code %d, %s' % (program, folder, numbers, done.returncode, done.stdout + done.stderr))
 
 
+def panel_command(program, folder, contents):
+    return [program] + [os.path.join('examples', folder, name) for name in ('plant.bin', 'weights.bin')] + contents
+
+
+def hold_panels(program, cases):
+    for folder, contents, lines, code, owed in cases:
+        done = subprocess.run(panel_command(program, folder, contents), cwd=ROOT, input=lines.encode(errors='surrogateescape'), capture_output=True)
+        if (done.returncode, done.stdout.decode().split('\n'), done.stderr) != (code, owed + [''], b''):
+            sys.exit('interface.py: %s on %s %s with the lines %r: exit code %d, %s, where this is owed: %s'
+                     % (program, folder, contents, lines[:300], done.returncode, done.stdout + done.stderr, owed))
+
+
+def hold_at_once(program):
+    """A panel program answers each line as it comes, before the next. One that kept its answers would be ended here, and all of them be missing."""
+    with subprocess.Popen(panel_command(program, 'plant_a', PANEL_A), cwd=ROOT, stdin=subprocess.PIPE, stdout=subprocess.PIPE) as panel:
+        waiting = threading.Timer(20, panel.kill)
+        waiting.start()
+        got = [panel.stdout.readline()]
+        for line in (b'row 0\n', b'row 0\n', b'\nrow\n', b'loss 1\n'):
+            panel.stdin.write(line)
+            panel.stdin.flush()
+            got.append(panel.stdout.readline())
+        panel.stdin.close()
+        waiting.cancel()
+    owed = ['30 steps left', 'row 0: 29 steps left', 'row 0' + NO_ROW, NO_EVENT % 4, 'loss 1: 29 steps left']
+    if b''.join(got).decode().split('\n') != owed + [''] or panel.returncode != 1:
+        sys.exit('interface.py: %s does not answer line by line: %s, exit code %d' % (program, got, panel.returncode))
+
+
+def hold_unprinted(program):
+    """A panel program that cannot print ends with 2."""
+    if os.path.exists('/dev/full'):
+        with open('/dev/full', 'wb') as full:
+            done = subprocess.run(panel_command(program, 'plant_a', PANEL_A), cwd=ROOT, input=b'row 0\n', stdout=full)
+        if done.returncode != 2:
+            sys.exit('interface.py: %s that cannot print ends with %d' % (program, done.returncode))
+
+
+def hold_panel_limits(program, folder):
+    """A panel program after 1,000,000 progress rows."""
+    plant, weights = [os.path.join(folder, name) for name in ('million.bin', 'million_weights.bin')]
+    put(plant, bytes([1, 1, 1, 1, 0x10]))
+    put(weights, bytes([0, 0]))
+    done = subprocess.run([program, plant, weights, '1'], input=1000001 * b'row 0\n', capture_output=True)
+    if done.returncode != 1 or not done.stdout.endswith(b'\nrow 0: 0 steps left\nrow 0%s\n' % NO_MORE.encode()) or done.stdout.count(b'\n') != 1000002:
+        sys.exit('interface.py: %s after 1,000,000 progress rows: exit code %d, %s' % (program, done.returncode, done.stdout[-200:]))
+
+
 def put(path, data):
     """Make a file, or see to it that there is none."""
     if os.path.exists(path):
@@ -222,8 +340,9 @@ def hold_shown():
     """The lines that examples/README.md shows are those of runs."""
     with open(os.path.join(ROOT, 'examples', 'README.md'), encoding='utf-8') as source:
         shown = re.findall(r'(?m)^    (.*)$', source.read())
-    if shown != [line for _, _, line in SHOWN]:
-        sys.exit('interface.py: examples/README.md shows %s, where the program prints %s' % (shown, [line for _, _, line in SHOWN]))
+    owed = [SHOWN[0][2], *SHOWN_PANEL[4], SHOWN[1][2]]
+    if shown != owed:
+        sys.exit('interface.py: examples/README.md shows %s, where the programs print %s' % (shown, owed))
 
 
 def built(folder, name):
@@ -244,6 +363,19 @@ def hold_programs(folder):
     for program in built(folder, 'designer'):
         hold_lists(program, folder, LISTS)
         hold_unwritten(program, folder)
+    for i, program in enumerate(built(folder, 'panel')):
+        hold_panels(program, PANELS)
+        hold_at_once(program)
+        hold_unprinted(program)
+        if i == 0:    # A million lines take seconds; that the program in Rust has the words, interface.rs holds.
+            hold_panel_limits(program, folder)
+    hold_build_lines(folder)
+
+
+def hold_build_lines(folder):
+    """README.md has the lines that compile each program, and they do."""
+    first = {'cabinet': lambda program: hold_runs(program, RUNS[:2]), 'designer': lambda program: hold_lists(program, folder, LISTS[:2]),
+             'panel': lambda program: hold_panels(program, PANELS[:2])}
     with open(os.path.join(ROOT, 'README.md'), encoding='utf-8') as source:
         lines = re.findall(r'(?m)^    ((?:gcc|rustc) .*)$', source.read())
     named = [(line.split()[0], program) for line in lines for program in re.findall(r' examples/(\w+)/', line)]
@@ -252,11 +384,7 @@ def hold_programs(folder):
     for line, (compiler, name) in zip(lines, named):
         if shutil.which(compiler):
             run(line, shell=True)
-            program = os.path.join(ROOT, line.split(' -o ')[1])
-            if name == 'cabinet':
-                hold_runs(program, RUNS[:2])
-            else:
-                hold_lists(program, folder, LISTS[:2])
+            first[name](os.path.join(ROOT, line.split(' -o ')[1]))
 
 
 def must_not_link(command, symbol):
@@ -291,25 +419,26 @@ def header():
 
 
 def revisions():
-    """The revision of each call, as the header's macros have them."""
+    """The revision of each call, as the header's macros have them, or where an inline function makes the call, its declarations."""
     found = {call: int(number) for call, named, number in re.findall(r'(?m)^#define hemtaluq_(\w+) hemtaluq_(\w+)_v(\d+)$', header()) if call == named}
+    found.update({call: int(number) for call, number in re.findall(r'(?m)^\w+ hemtaluq_(\w+)_v(\d+)\(', header())})
     if sorted(found) != sorted(CALLS):
         sys.exit('interface.py: the header has revisions of %s' % sorted(found))
     return found
 
 
-def compiled_with(folder, call, earlier):
-    """interface.c, compiled with a header in which one call has an earlier revision."""
-    place, test = os.path.join(folder, symbol(call, earlier)), os.path.join(folder, 'earlier.o')
+def compiled_with(folder, call, other):
+    """interface.c, compiled with a header in which one call has another revision."""
+    place, test = os.path.join(folder, 'header', symbol(call, other)), os.path.join(folder, 'other.o')
     os.makedirs(place)
-    put(os.path.join(place, 'hemtaluq.h'), header().replace(symbol(call, revisions()[call]), symbol(call, earlier)).encode())
-    run(['gcc', '-std=c99', '-I' + place] + STRICT + ['-c', 'tests/interface.c', '-o', test])
+    put(os.path.join(place, 'hemtaluq.h'), header().replace(symbol(call, revisions()[call]), symbol(call, other)).encode())
+    run(['gcc', '-std=c99', '-I' + place] + STRICT + ['-O0', '-c', 'tests/interface.c', '-o', test])
     return test
 
 
 def hold_revisions(folder):
     """With the revision of one call raised, the library does not link with an object compiled with the header, or with the wrappers in Rust. An
-    object compiled with a header in which a call has an earlier revision does not link with the library."""
+    object compiled with a header in which a call has an earlier revision, or the next one, does not link with the library."""
     test, program = os.path.join(folder, 'interface.o'), os.path.join(folder, 'program')
     run(['gcc', '-std=c99'] + STRICT + ['-c', 'tests/interface.c', '-o', test])
     run(['gcc', test, 'dist/libhemtaluq.a', '-o', program])
@@ -318,8 +447,8 @@ def hold_revisions(folder):
         must_not_link(['gcc', test, os.path.join(raised, 'libhemtaluq.a'), '-o', program], symbol(call, revision))
         if shutil.which('rustc'):
             must_not_link(RUST + ['tests/interface.rs', '-L' + raised, '-o', program], symbol(call, revision))
-        for earlier in range(1, revision):
-            must_not_link(['gcc', compiled_with(folder, call, earlier), 'dist/libhemtaluq.a', '-o', program], symbol(call, earlier))
+        for other in [*range(1, revision), revision + 1]:
+            must_not_link(['gcc', compiled_with(folder, call, other), 'dist/libhemtaluq.a', '-o', program], symbol(call, other))
 
 
 def hold_other_version(folder):
@@ -327,7 +456,8 @@ def hold_other_version(folder):
     other, program, plant = [os.path.join(folder, name) for name in ('other.o', 'program', 'unwritten.bin')]
     library = renamed(folder, 'hemtaluq_version', 'hemtaluq_version_of_before')
     run(['gcc', '-x', 'c', '-', '-c', '-o', other], input='unsigned hemtaluq_version(void) { return 1; }\n')
-    given = {'cabinet': ['examples/plant_a/plant.bin', 'examples/plant_a/weights.bin', '1', '0', '3', '4'], 'designer': ['examples/plant_a/plant.list.txt', plant]}
+    files = ['examples/plant_a/plant.bin', 'examples/plant_a/weights.bin']
+    given = {'cabinet': files + ['1', '0', '3', '4'], 'designer': ['examples/plant_a/plant.list.txt', plant], 'panel': files + PANEL_A}
     for name in PROGRAMS:
         source = 'examples/%s/%s' % (name, name)
         commands = [['gcc', '-Idist', source + '.c', other, os.path.join(library, 'libhemtaluq.a'), '-o', program]]
@@ -335,7 +465,7 @@ def hold_other_version(folder):
             commands.append(RUST + [source + '.rs', '-L' + library, '-C', 'link-arg=' + other, '-o', program])
         for command in commands:
             run(command)
-            done = subprocess.run([program] + given[name], cwd=ROOT, capture_output=True, text=True)
+            done = subprocess.run([program] + given[name], cwd=ROOT, input='', capture_output=True, text=True)
             if done.returncode != 3 or done.stdout or not done.stderr.startswith(name + ': the library has version 1, ') or os.path.exists(plant):
                 sys.exit('interface.py: %s with a library of version 1: exit code %d, %s' % (source, done.returncode, done.stdout + done.stderr))
 
@@ -367,9 +497,10 @@ def main():
         if shutil.which('size'):
             hold_no_tables(folder)
     missing = [tool for tool in ('valgrind', 'rustc', 'objcopy', 'size') if not shutil.which(tool)]
-    figures.hold(cabinet_runs=len(RUNS), designer_runs=len(LISTS))
-    print('interface.py: C99 and C++, %d runs of each cabinet program, %d of each designer program, revisions%s'
-          % (len(RUNS), len(LISTS), '; missing, and so not tried: ' + ', '.join(missing) if missing else ', valgrind, rustc, objcopy and size all there'))
+    figures.hold(cabinet_runs=len(RUNS), designer_runs=len(LISTS), panel_runs=len(PANELS))
+    print('interface.py: C99 and C++, %d runs of each cabinet program, %d of each designer program, %d of each panel program, revisions%s'
+          % (len(RUNS), len(LISTS), len(PANELS),
+             '; missing, and so not tried: ' + ', '.join(missing) if missing else ', valgrind, rustc, objcopy and size all there'))
 
 
 if __name__ == '__main__':

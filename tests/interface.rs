@@ -2,7 +2,7 @@
 #[path = "../examples/cabinet/hemtaluq.rs"]
 mod hemtaluq;
 
-use hemtaluq::{Confirmed, Counts, Fault, Quote, Weighed};
+use hemtaluq::{Confirmed, Counts, Fault, Quote, Watcher, Weighed};
 
 const PLANT_A: [u8; 20] = [2, 2, 2, 2, 0x06, 1, 0, 0x1B, 1, 0, 1, 2, 2, 0x0A, 1, 0, 0x07, 1, 0, 1];
 const PLANT_B: [u8; 20] = [2, 2, 2, 2, 0x06, 1, 0, 0x0B, 1, 0, 1, 2, 2, 0x0A, 1, 0, 0x07, 1, 0, 1];
@@ -51,11 +51,61 @@ fn writing() {
     assert_eq!(hemtaluq::read(&file), Ok(Counts { machines: 16, types: 64, rows: 1024 }));
 }
 
+fn watching() {
+    let mut watcher = Watcher::open(&PLANT_A, &[2, 1], &[3, 4]).expect("weights 2, 1 pass");
+    assert_eq!(watcher.left(), 30);
+    assert_eq!(watcher.row(0), Ok(29));
+    assert_eq!(watcher.row(0), Err(fault(27, 0)));
+    assert_eq!(watcher.row(4), Err(fault(27, 0)));
+    assert_eq!(watcher.row(u32::MAX), Err(fault(27, 0)));
+    assert_eq!(watcher.left(), 29);
+    assert_eq!(watcher.row(1), Ok(38));
+    assert_eq!(watcher.doubling(0), Ok(42));
+    assert_eq!(watcher.loss(2), Err(fault(28, 0)));
+    assert_eq!(watcher.doubling(2), Err(fault(28, 0)));
+    // A clone goes its own way.
+    let mut second = watcher.clone();
+    (0..3).for_each(|_| assert_eq!(second.loss(1), Ok(42)));
+    assert_eq!(second.loss(1), Err(fault(28, 0)));
+    assert_eq!(second.doubling(1), Err(fault(28, 0)));
+    assert_eq!(second.row(0), Ok(41));
+    assert_eq!(second.row(1), Err(fault(27, 0)));
+    assert_eq!((watcher.left(), second.left()), (42, 41));
+    assert_eq!(watcher.row(0), Ok(41));
+    assert_eq!(watcher.row(1), Ok(50));
+    assert_eq!(format!("{watcher:?}"), "Watcher { left: 50, .. }");
+}
+
+/// The faults of an opening are those of a quote.
+fn opening() {
+    let refused = |file: &[u8], weights: &[u16], contents: &[u32]| Watcher::open(file, weights, contents).expect_err("it is refused");
+    assert_eq!(refused(&[], &[], &[]), fault(1, 0));
+    assert_eq!(refused(&PLANT_A[..19], &[2, 1], &[3, 4]), fault(1, 19));
+    assert_eq!(refused(&PLANT_A, &[2], &[3, 4]), fault(9, 0));
+    assert_eq!(refused(&PLANT_A, &[2, 1001], &[3, 4]), fault(10, 1));
+    assert_eq!(refused(&PLANT_A, &[2, 1], &[3, 4, 5]), fault(20, 0));
+    assert_eq!(refused(&PLANT_A, &[2, 1], &[1_000_001, 4]), fault(21, 0));
+    assert_eq!(refused(&PLANT_A, &[1, 1], &[3, 4]), fault(22, 0));
+    assert_eq!(Watcher::open(&[1, 0, 1, 0], &[], &[]).expect("nothing is quiet").left(), 0);
+}
+
+/// 1,000,000 progress rows of one state, and 1,000,000 doublings.
+fn watching_limits() {
+    let mut watcher = Watcher::open(&[1, 1, 1, 1, 0x10], &[2], &[1]).expect("no row is quiet");
+    // F is 0, n 1, w 2 and W 2; G is 2.
+    (1..=1_000_000).for_each(|k| assert_eq!(watcher.row(0), Ok(2 + 2 * k)));
+    assert_eq!(watcher.row(0), Err(fault(29, 0)));
+    (1..=1_000_000).for_each(|k| assert_eq!(watcher.doubling(0), Ok(2_000_002 + 2 * k)));
+    assert_eq!(watcher.doubling(0), Err(fault(29, 0)));
+    assert_eq!(watcher.loss(0), Ok(4_000_002));
+}
+
 fn main() {
-    assert_eq!(hemtaluq::VERSION, 6);
+    assert_eq!(hemtaluq::VERSION, 7);
     assert_eq!(hemtaluq::version(), hemtaluq::VERSION);
     assert_eq!(fault(22, 0).in_words(), "the weights do not pass");
     assert_eq!(fault(26, 0).in_words(), "a row is equal to an earlier row of its machine");
+    assert_eq!(fault(29, 0).in_words(), "1,000,000 of its sort were counted, and no more are");
     assert_eq!(hemtaluq::read(&[1, 3, 1, 2, 0, 16]), Ok(Counts { machines: 1, types: 3, rows: 2 }));
     assert_eq!(hemtaluq::read(&[1, 3, 1, 3, 0, 16, 1, 0]), Err(fault(26, 6)));
     assert_eq!(hemtaluq::read(&PLANT_A[..7]), Err(fault(1, 7)));
@@ -81,4 +131,7 @@ fn main() {
     assert_eq!(hemtaluq::confirm(&PLANT_B, &both[..5]), Ok(Confirmed::Negative { message_type: 1, sum: -1 }));
     assert_eq!(hemtaluq::confirm(&PLANT_B, &both[..4]), Err(fault(15, 4)));
     writing();
+    watching();
+    opening();
+    watching_limits();
 }

@@ -211,7 +211,7 @@ def hold_times(driver):
             sys.exit('listing.py: %s: %.1f ms of CPU time, more than %d' % (name, each, MOST_MILLISECONDS))
     for name, old, new, owed_slow in UNMARKED:
         with open(driver + '_peer.c', 'w', encoding='utf-8') as out:
-            out.write(evidence_product.peer_source(old, new))
+            out.write(evidence_product.peer_source((old, new)))
         command = ['gcc', '-O2', '-w', '-I' + os.path.join(figures.ROOT, 'include'), driver + '.c', driver + '_peer.c', '-o', driver + '_peer']
         subprocess.run(command, check=True)
         if [i for i, each in enumerate(milliseconds(driver + '_peer', 1)) if each > MOST_MILLISECONDS] != owed_slow:

@@ -2,7 +2,7 @@
 //!
 //!     cabinet PLANT WEIGHTS G D CONTENT...
 
-// The program makes two of the six calls.
+// The program makes two of the calls.
 #[allow(dead_code)]
 mod hemtaluq;
 

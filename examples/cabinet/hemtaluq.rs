@@ -1,7 +1,7 @@
 //! Safe wrappers around the C interface of Hemtaluq: slices in, enums out.
 
 /// The version of the interface that these wrappers are written for.
-pub const VERSION: u32 = 6;
+pub const VERSION: u32 = 7;
 
 /// Bytes of the longest plant file.
 pub const LONGEST_FILE: usize = 5154;
@@ -45,6 +45,9 @@ impl Fault {
             24 => "a number of the list is outside its values or the limits",
             25 => "the buffer is too short for the file",
             26 => "a row is equal to an earlier row of its machine",
+            27 => "there is no such row, or it cannot happen now",
+            28 => "there is no such type, or no message of it is present",
+            29 => "1,000,000 of its sort were counted, and no more are",
             _ => "unknown",
         }
     }
@@ -135,6 +138,25 @@ struct WriteAnswer {
     length: usize,
 }
 
+#[repr(C)]
+struct WatchAnswer {
+    kind: u8,
+    number: u8,
+    place: usize,
+    left: u64,
+}
+
+/// The lists of a watcher. Only the calls write to them.
+#[derive(Clone)]
+struct WatcherLists {
+    copy: [u8; 8192],
+    table: [u8; 8192],
+    sizes: [u64; 5],
+    states: [u8; 16],
+    contents: [u64; 64],
+    counts: [u64; 3],
+}
+
 const REFUSED: u8 = 0;
 const CYCLE: u8 = 3;
 const NEGATIVE: u8 = 7;
@@ -156,6 +178,17 @@ extern "C" {
     fn hemtaluq_confirm(file: *const u8, file_length: usize, set: *const u32, set_length: usize) -> ConfirmAnswer;
     #[link_name = "hemtaluq_write_v2"]
     fn hemtaluq_write(numbers: *const u16, number_count: usize, out: *mut u8, out_length: usize) -> WriteAnswer;
+    #[link_name = "hemtaluq_watch_open_v1"]
+    fn hemtaluq_watch_open(copy: &mut [u8; 8192], table: &mut [u8; 8192], sizes: &mut [u64; 5], states: &mut [u8; 16], contents: &mut [u64; 64],
+                           counts: &mut [u64; 3], file: *const u8, file_length: usize, weights: *const u16, weight_count: usize,
+                           opening: *const u32, opening_count: usize) -> WatchAnswer;
+    #[link_name = "hemtaluq_watch_row_v1"]
+    fn hemtaluq_watch_row(table: &[u8; 8192], sizes: &[u64; 5], states: &mut [u8; 16], contents: &mut [u64; 64], counts: &mut [u64; 3], row: u32)
+                          -> WatchAnswer;
+    #[link_name = "hemtaluq_watch_loss_v1"]
+    fn hemtaluq_watch_loss(sizes: &[u64; 5], contents: &mut [u64; 64], counts: &[u64; 3], message_type: u32) -> WatchAnswer;
+    #[link_name = "hemtaluq_watch_doubling_v1"]
+    fn hemtaluq_watch_doubling(sizes: &[u64; 5], contents: &mut [u64; 64], counts: &mut [u64; 3], message_type: u32) -> WatchAnswer;
 }
 
 /// The version of the library that was linked. These wrappers are for it where it is `VERSION`.
@@ -230,4 +263,73 @@ pub fn write(numbers: &[u16]) -> Result<Vec<u8>, Fault> {
     let length = write_into(numbers, &mut file)?;
     file.truncate(length);
     Ok(file)
+}
+
+/// Follows a run of a plant event by event, and says how many quiet rows are left: the ceiling for the progress rows and doublings so far, less the
+/// quiet rows so far. It keeps the plant, on no heap. An event that is refused changes nothing. A clone is a second watcher, of the run up to there.
+#[derive(Clone)]
+pub struct Watcher {
+    lists: WatcherLists,
+    left: u64,
+}
+
+impl Watcher {
+    /// Opens on a plant file, weights and the contents with which the run opens, all machines in state 0. What is left is then the ceiling of `quote`
+    /// with g 0 and d 0, and the faults are those of `quote`.
+    pub fn open(file: &[u8], weights: &[u16], contents: &[u32]) -> Result<Watcher, Fault> {
+        let mut watcher = Watcher {
+            lists: WatcherLists { copy: [0; 8192], table: [0; 8192], sizes: [0; 5], states: [0; 16], contents: [0; 64], counts: [0; 3] },
+            left: 0,
+        };
+        let l = &mut watcher.lists;
+        let answer = unsafe {
+            hemtaluq_watch_open(&mut l.copy, &mut l.table, &mut l.sizes, &mut l.states, &mut l.contents, &mut l.counts,
+                                file.as_ptr(), file.len(), weights.as_ptr(), weights.len(), contents.as_ptr(), contents.len())
+        };
+        watcher.answered(answer)?;
+        Ok(watcher)
+    }
+
+    /// How many quiet rows are left.
+    pub fn left(&self) -> u64 {
+        self.left
+    }
+
+    /// A row happened; how many quiet rows are left. A progress row adds G, another one takes 1 away. The fault is 27 where the row does not exist or
+    /// cannot happen now, and 29 for a progress row after 1,000,000 of them.
+    pub fn row(&mut self, row: u32) -> Result<u64, Fault> {
+        let l = &mut self.lists;
+        let answer = unsafe { hemtaluq_watch_row(&l.table, &l.sizes, &mut l.states, &mut l.contents, &mut l.counts, row) };
+        self.answered(answer)
+    }
+
+    /// A message of this type was lost; how many quiet rows are left, which does not change. The fault is 28 where there is no such type, or no message
+    /// of it is present.
+    pub fn loss(&mut self, message_type: u32) -> Result<u64, Fault> {
+        let l = &mut self.lists;
+        let answer = unsafe { hemtaluq_watch_loss(&l.sizes, &mut l.contents, &l.counts, message_type) };
+        self.answered(answer)
+    }
+
+    /// A message of this type was delivered twice, which adds n * w; how many quiet rows are left. The fault is 28 as for a loss, and 29 after 1,000,000
+    /// doublings.
+    pub fn doubling(&mut self, message_type: u32) -> Result<u64, Fault> {
+        let l = &mut self.lists;
+        let answer = unsafe { hemtaluq_watch_doubling(&l.sizes, &mut l.contents, &mut l.counts, message_type) };
+        self.answered(answer)
+    }
+
+    fn answered(&mut self, a: WatchAnswer) -> Result<u64, Fault> {
+        if a.kind == REFUSED {
+            return Err(Fault { number: a.number, place: a.place });
+        }
+        self.left = a.left;
+        Ok(a.left)
+    }
+}
+
+impl std::fmt::Debug for Watcher {
+    fn fmt(&self, out: &mut std::fmt::Formatter) -> std::fmt::Result {
+        out.debug_struct("Watcher").field("left", &self.left).finish_non_exhaustive()
+    }
 }

@@ -2,7 +2,7 @@
 //!
 //!     designer LIST PLANT
 
-// The program makes one of the six calls.
+// The program makes one of the calls.
 #[allow(dead_code)]
 #[path = "../cabinet/hemtaluq.rs"]
 mod hemtaluq;

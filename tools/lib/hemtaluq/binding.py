@@ -17,9 +17,12 @@ REPOSITORY, INSTALLED = ('../../../dist/libhemtaluq.so', '../../../dist/hemtaluq
 C_TYPES = {'uint8_t': ctypes.c_uint8, 'uint16_t': ctypes.c_uint16, 'uint32_t': ctypes.c_uint32, 'uint64_t': ctypes.c_uint64,
            'int64_t': ctypes.c_int64, 'size_t': ctypes.c_size_t}
 
-# A parameter of a call: its name, its C type, whether a list is lent, and whether the call may write to that list.
-Parameter = namedtuple('Parameter', 'name type lent written')
+# A parameter of a call: its name, its C type, whether a list is lent, whether the call may write to that list, and its length where the header fixes it:
+# a list of another length has its length behind it.
+Parameter = namedtuple('Parameter', 'name type lent written length')
 Call = namedtuple('Call', 'symbol answer parameters')
+# A field of a struct; one that is a list has a length.
+Field = namedtuple('Field', 'type name length')
 
 
 class NotUsable(NotDone):
@@ -38,7 +41,7 @@ class Header:
         self.faults = {int(value): words.strip() for value, words in self._constants(text, 'fault', r'= (\d+),?\s*/\* (.*?);')}
         self.structs = {name: self._fields(body) for body, name in re.findall(r'typedef struct \{(.*?)\} (\w+);', text, re.S)}
         symbols = dict(re.findall(r'(?m)^#define (hemtaluq_\w+) (hemtaluq_\w+)$', text))
-        self.calls = {name.removeprefix('hemtaluq_'): Call(symbols.get(name, name), answer, self._parameters(arguments))
+        self.calls = {self._plain(name): Call(symbols.get(name, name), answer, self._parameters(arguments))
                       for answer, name, arguments in re.findall(r'(?m)^(\w+) (hemtaluq_\w+)\(([^)]*)\);', text)}
 
     @staticmethod
@@ -46,17 +49,25 @@ class Header:
         return re.findall(pattern, text.split('enum hemtaluq_' + enum)[1].split('};')[0], re.S)
 
     @staticmethod
+    def _plain(name):
+        """A call's name without the revision, which a declaration has where no macro adds it: the header's inline functions, which are no symbols of
+        the library, have these names for C."""
+        return re.sub(r'_v\d+$', '', name.removeprefix('hemtaluq_'))
+
+    @staticmethod
     def _fields(body):
-        """The types and names of a struct's fields, every one of which must be understood: a field that is passed over would shift the others."""
+        """A struct's fields, every one of which must be understood: a field that is passed over would shift the others."""
         lines = [line.strip() for line in re.sub(r'/\*.*?\*/', '', body, flags=re.S).split('\n') if line.strip()]
-        return [re.fullmatch(r'(\w+) (\w+);', line).groups() for line in lines]
+        found = [re.fullmatch(r'(\w+) (\w+)(?:\[(\d+)\])?;', line).groups() for line in lines]
+        return [Field(kind, name, length and int(length)) for kind, name, length in found]
 
     @staticmethod
     def _parameters(arguments):
-        """The parameters, without the lengths: a list's length is the parameter behind it."""
-        found = [re.fullmatch(r'(const )?(\w+) (\*?)(\w+)', ' '.join(one.split())).groups() for one in arguments.split(',') if one.strip() != 'void']
-        return [Parameter(name, kind, bool(star), bool(star) and not const) for i, (const, kind, star, name) in enumerate(found)
-                if i == 0 or not found[i - 1][2]]
+        """The parameters, without the lengths: the length of a list that is a pointer is the parameter behind it."""
+        words = [' '.join(one.split()) for one in arguments.split(',') if one.strip() != 'void']
+        found = [re.fullmatch(r'(const )?(\w+) (\*?)(\w+)(?:\[(\d+)\])?', one).groups() for one in words]
+        return [Parameter(name, kind, bool(star or length), bool(star or length) and not const, length and int(length))
+                for i, (const, kind, star, name, length) in enumerate(found) if i == 0 or not found[i - 1][2]]
 
 
 def fitting(number, kind):
@@ -95,29 +106,40 @@ class Library:
         return functools.partial(self.call, name)
 
     @functools.lru_cache(maxsize=None)
+    def struct(self, name):
+        """The C type of a struct of the header."""
+        fields = [(field.name, C_TYPES[field.type] * field.length if field.length else C_TYPES[field.type]) for field in self.header.structs[name]]
+        return type(name, (ctypes.Structure,), {'_fields_': fields})
+
+    @functools.lru_cache(maxsize=None)
     def function(self, name):
         """The function of a call, with the type of its answer."""
         found = self.header.calls[name]
         function = getattr(self.shared, found.symbol)
-        fields = [(field, C_TYPES[kind]) for kind, field in self.header.structs.get(found.answer, [])]
-        function.restype = type(found.answer, (ctypes.Structure,), {'_fields_': fields}) if fields else C_TYPES[found.answer]
+        function.restype = self.struct(found.answer) if found.answer in self.header.structs else C_TYPES[found.answer]
         return function
+
+    @staticmethod
+    def arguments(name, parameter, value):
+        """What C gets for a parameter: a number; a list's pointer, with its length behind it unless the header fixes that."""
+        kind = C_TYPES[parameter.type]
+        if not parameter.lent:
+            return [kind(fitting(value, kind))]
+        if parameter.written and not isinstance(value, ctypes.Array):
+            raise TypeError('hemtaluq_%s writes to %s: lend it room' % (name, parameter.name))
+        held = lent_list(value, kind)
+        if parameter.length is None:
+            return [ctypes.byref(held), ctypes.c_size_t(len(held))]
+        if len(held) != parameter.length or held._type_ is not kind:
+            raise TypeError('hemtaluq_%s takes %d numbers of %s for %s' % (name, parameter.length, parameter.type, parameter.name))
+        return [ctypes.byref(held)]
 
     def call(self, name, *values):
         """Make a call. A list stands for its pointer and its length."""
-        parameters, arguments = self.header.calls[name].parameters, []
+        parameters = self.header.calls[name].parameters
         if len(values) != len(parameters):
             raise TypeError('hemtaluq_%s takes %s' % (name, ', '.join(p.name for p in parameters)))
-        for parameter, value in zip(parameters, values):
-            kind = C_TYPES[parameter.type]
-            if parameter.written and not isinstance(value, ctypes.Array):
-                raise TypeError('hemtaluq_%s writes to %s: lend it room' % (name, parameter.name))
-            if parameter.lent:
-                held = lent_list(value, kind)
-                arguments += [ctypes.byref(held), ctypes.c_size_t(len(held))]
-            else:
-                arguments.append(kind(fitting(value, kind)))
-        return self.function(name)(*arguments)
+        return self.function(name)(*(argument for parameter, value in zip(parameters, values) for argument in self.arguments(name, parameter, value)))
 
     def kind(self, answer):
         """What an answer is, by the header's name: 'PASSED'."""

@@ -1,14 +1,13 @@
 """The command line: finds the groups of commands, and prints what a command comes to."""
 import argparse
 import importlib
-import json
-import os
 import pkgutil
 import sys
 import traceback
 
 from . import binding, commands, plant_files
 from .outcomes import REFUSED, YES, BadInput, NotDone, Outcome
+from .printing import NotPrinted, prepare, printed, tell
 
 ABOUT = '''Plants on a message bus: how many steps can go by without a fresh reading?
 
@@ -16,7 +15,7 @@ A plant is a text with names, or a plant file. `hemtaluq write --help` shows the
 AFTER = '''Every verdict, figure, fault and plant file comes from a proved call of the library libhemtaluq. This command reads
 what you wrote, makes the calls and says their answers in your names; it decides nothing.
 
-Exit status: 0 yes, 1 no (a cycle, a negative sum, no weights), 2 refused, or the command cannot be used so.
+Exit status: 0 yes, 1 no (a cycle, a negative sum, no weights, a refused event), 2 refused, or the command cannot be used so.
 `hemtaluq COMMAND --help` explains a command. With --json a command prints its answer for scripts.'''
 
 # As a shell has it for a program that Ctrl-C ended.
@@ -101,54 +100,27 @@ def failed(words):
     return Outcome(REFUSED, {'answer': 'bad input', 'words': words}, '', words)
 
 
-def printed(stream, text):
-    """Whether a text could be printed."""
-    if stream is None:
-        return False
+def told(outcome, for_scripts):
+    """The exit status of an outcome, after it is printed."""
     try:
-        print(text, file=stream, flush=True)
-        return True
+        tell(outcome, for_scripts)
     except BrokenPipeError:
-        return True  # Whoever reads has enough.
-    except OSError:
-        return False
-    finally:
-        leave(stream)
-
-
-def leave(stream):
-    """After a failure nothing may be left to print when Python ends, where that would fail again."""
-    try:
-        stream.flush()
-    except OSError:
-        os.dup2(os.open(os.devnull, os.O_WRONLY), stream.fileno())
-
-
-def prepare(stream):
-    """What is no terminal gets UTF-8, as Graphviz and scripts expect it, and names of files as they are."""
-    if stream is not None and stream.isatty():
-        stream.reconfigure(errors='replace')
-    elif stream is not None:
-        stream.reconfigure(encoding='utf-8', errors='surrogateescape')
+        pass  # Whoever reads has enough.
+    return outcome.status
 
 
 def main(words=None):
-    """Answers go to standard output, refusals and notes to standard error, and JSON to standard output in any case."""
+    """The exit status of the command, after all is printed."""
     words = sys.argv[1:] if words is None else words
     prepare(sys.stdout)
     prepare(sys.stderr)
     try:
-        outcome = outcome_of(words)
+        return told(outcome_of(words), '--json' in words)
     except KeyboardInterrupt:
         return INTERRUPTED
+    except NotPrinted:
+        printed(sys.stderr, 'hemtaluq: the answer could not be printed')
+        return REFUSED
     except Exception:  # An error of this program. It must not end with 1, which says no.
         traceback.print_exc()
         return REFUSED
-    as_json = '--json' in words
-    text = json.dumps(outcome.answer, ensure_ascii=False) if as_json else outcome.text
-    good = printed(sys.stdout, text) if text else True
-    if outcome.refusal and not as_json:
-        printed(sys.stderr, outcome.refusal)
-    if not good:
-        printed(sys.stderr, 'hemtaluq: the answer could not be printed')
-    return outcome.status if good else REFUSED

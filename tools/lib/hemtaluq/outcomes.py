@@ -23,7 +23,7 @@ class BadText(BadInput):
 
     def __init__(self, path, line, expected):
         super().__init__('%s:%d: %s' % (path, line, expected))
-        self.line = line
+        self.line, self.expected = line, expected
 
     def answer(self):
         return dict(super().answer(), line=self.line)

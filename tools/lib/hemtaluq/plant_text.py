@@ -107,12 +107,17 @@ class Reader:
     def row(self, words):
         if not self.machines:
             raise self.wrong('expected `machine NAME` before the first row')
-        if len(words) < 3 or words[1] != '->' or '->' in words[2:]:
-            raise self.wrong('expected %s' % ROW_FORM)
-        left = self.state(words[0])
-        row = Row(left, self.state(words[2]), *self.marks(words[3:]))
+        left, entered, marks = self.row_parts(words)
+        left = self.state(left)
+        row = Row(left, self.state(entered), *self.marks(marks))
         self.machines[-1].rows.append(row)
         self.machines[-1].row_lines.append(self.line)
+
+    def row_parts(self, words):
+        """The two states of a row and its marks, as words."""
+        if len(words) < 3 or words[1] != '->' or '->' in words[2:]:
+            raise self.wrong('expected %s' % ROW_FORM)
+        return words[0], words[2], words[3:]
 
     def marks(self, words):
         """The type sent, the type taken and progress."""
@@ -140,11 +145,16 @@ def stray_states(machine):
             yield 'state %s of machine %s is never entered' % (name, machine.name)
 
 
+def words_of(line):
+    """The words of a line. An arrow stands between words also where no blank does."""
+    return line.replace('→', '->').replace('->', ' -> ').split()
+
+
 def parsed(path, text):
     """The plant that a text says."""
     reader = Reader(path)
     for reader.line, line in lines_of(text):
-        reader.read(line.replace('→', '->').replace('->', ' -> ').split())
+        reader.read(words_of(line))
     reader.end_machine()
     return Plant(path, reader.types, reader.machines, reader.types_line, notes=reader.notes)
 

@@ -28,6 +28,10 @@ class Plant:
         names = [machine.name for machine in self.machines]
         return int(word) if word not in names and is_number(word) else known(word, names, 'machine')
 
+    def type_number(self, word):
+        """The number of a type that is named, or given by its number."""
+        return int(word) if is_number(word) else known(word, self.types, 'type')
+
 
 def known(word, names, what):
     """The number of a name."""

@@ -13,8 +13,8 @@ def grouped(number):
 
 
 def counted(number, noun):
-    """`1 row`, `1,024 rows`."""
-    return '%s %s%s' % (grouped(number), noun, '' if number == 1 else 's')
+    """`1 row`, `1,024 rows`, `2 losses`."""
+    return '%s %s%s' % (grouped(number), noun, '' if number == 1 else 'es' if noun.endswith('s') else 's')
 
 
 def is_number(word):
@@ -22,14 +22,17 @@ def is_number(word):
     return word.isascii() and word.isdigit() and len(word) <= LONGEST_NUMBER
 
 
+def opened(path):
+    """A file to read, or standard input for -. That can be read once."""
+    if path != '-':
+        return open(path, 'rb')
+    if sys.stdin is None or sys.stdin.closed:
+        raise BadInput('standard input is closed, or was read already')
+    return sys.stdin.buffer
+
+
 def bytes_of(path):
-    """The bytes of a file, or of standard input for -. That can be read once."""
-    if path == '-':
-        if sys.stdin is None or sys.stdin.closed:
-            raise BadInput('standard input is closed, or was read already')
-        with sys.stdin:
-            return sys.stdin.buffer.read()
-    with open(path, 'rb') as source:
+    with opened(path) as source:
         return source.read()
 
 
@@ -52,6 +55,19 @@ def lines_of(text):
     """The lines that say something, without their comments, and their numbers."""
     lines = ((number, line.split('#')[0].strip()) for number, line in enumerate(text.splitlines(), 1))
     return [(number, line) for number, line in lines if line]
+
+
+def arriving(path, source):
+    """The lines of a source that say something, without their comments, and their numbers, as they come: what is written to a pipe is read line by
+    line. In the place of a line that is no text stands what is wrong with it."""
+    with source:
+        for number, line in enumerate((line for data in source for line in data.splitlines()), 1):
+            try:
+                said = decoded(path, line).split('#')[0].strip()
+            except BadText as wrong:
+                said = BadText(path, number, wrong.expected)
+            if said:
+                yield number, said
 
 
 def in_line(path, line, function, *arguments):

@@ -1,0 +1,3 @@
+-- Laws of configurations in lists.
+pub mod StoreLaws
+pub mod RowLaws

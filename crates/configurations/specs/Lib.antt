@@ -1,0 +1,2 @@
+-- A configuration in lists.
+pub mod Configurations

@@ -1,0 +1,2 @@
+-- The answers of the watcher as structs.
+pub mod Structs

@@ -1,0 +1,3 @@
+-- Laws of counting.
+pub mod CountLaws
+pub mod StepLaws

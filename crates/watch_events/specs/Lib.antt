@@ -1,0 +1,2 @@
+-- What counting an event gives. Only private functions cite it.
+pub mod Counting

@@ -1,0 +1,3 @@
+-- What the lists of a watcher are.
+pub mod Watchers
+pub mod Inner
