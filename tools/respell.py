@@ -38,7 +38,7 @@ CHOSEN_IN = {"plant_files/proofs/PlantParts.antt": {"rows_in": "rows_in_lem"}, "
 # A module that Rattle now makes itself: the crate, its old name and its new one.
 MODULES = [("watched_runs", "Contracts", "Owed")]
 
-TOKEN = re.compile(r"[A-Za-zμ_][A-Za-z0-9_'₀-₉-]*")
+TOKEN = re.compile(r"(?<![A-Za-z0-9_'₀-₉\\-])[A-Za-zμ_][A-Za-z0-9_'₀-₉-]*")
 DECLARED = re.compile(r"^(?:  )?(?:abbrev |unfoldable |data |record |ruleset )*(?:pub )?(?:abbrev |unfoldable |data |record |ruleset )*(?:pub )?([A-Za-z][A-Za-z0-9_'₀-₉-]*)(?: [^:=]*)? :(?= |$)", re.M)
 
 

@@ -22,12 +22,12 @@ answer P set = set_answer P (read_set P set)
 -- ---- from the bytes of plant B
 
 -- ★ Both cycles once are confirmed.
-both_once : owed (read_plant (panel_and_probe_file 0x0_b)) (0 ∷ 1 ∷ 2 ∷ 0 ∷ 1 ∷ 1 ∷ 1 ∷ 2 ∷ 2 ∷ 3 ∷ []) ≡ confirmed
+both_once : owed (read_plant (panel_and_probe_file 0x0B)) (0 ∷ 1 ∷ 2 ∷ 0 ∷ 1 ∷ 1 ∷ 1 ∷ 2 ∷ 2 ∷ 3 ∷ []) ≡ confirmed
 unfolding panel_and_probe below sum sumℤ every is_distinct is_walk has_progress number_in rows_at entry_ends entry_at entry_begins entries_at set_effect lowest_negative panel_and_probe_file byte_at byte_that byte_in map_byte state_field type_field read_row read_rows rows_byte read_machine read_machines read_plant
 both_once = refl
 
 -- ★ The panel's cycle alone: type 1, sum −1.
-panel_alone : owed (read_plant (panel_and_probe_file 0x0_b)) (0 ∷ 1 ∷ 2 ∷ 0 ∷ 1 ∷ []) ≡ negative 1 (negsuc 0)
+panel_alone : owed (read_plant (panel_and_probe_file 0x0B)) (0 ∷ 1 ∷ 2 ∷ 0 ∷ 1 ∷ []) ≡ negative 1 (negsuc 0)
 unfolding panel_and_probe below sum sumℤ every is_distinct is_walk has_progress number_in rows_at entry_ends entry_at entry_begins entries_at set_effect lowest_negative panel_and_probe_file byte_at byte_that byte_in map_byte state_field type_field read_row read_rows rows_byte read_machine read_machines read_plant
 panel_alone = refl
 

@@ -13,32 +13,32 @@ use Rattle.listing.specs.Listing.{checked_room, checked_size, checked, judged, f
 -- ---- plant A of document 01
 
 -- Listing A's machine 1: 2, 2, 3.
-probe : judged (panel_and_probe_file 0x1_b) 1 3 ≡ found (2 ∷ 2 ∷ 3 ∷ []) 20
+probe : judged (panel_and_probe_file 0x1B) 1 3 ≡ found (2 ∷ 2 ∷ 3 ∷ []) 20
 unfolding panel_and_probe_file byte_at byte_that byte_in map_byte state_field type_field read_row read_rows rows_byte read_machine read_machines read_plant checked checked_size checked_room below sum selected unleft joined paths cycles_through flattened
 probe = refl
 
 -- They are put in front, and the rest is kept.
-probe_filled : filled (judged (panel_and_probe_file 0x1_b) 1 5) (9 ∷ 8 ∷ 7 ∷ 6 ∷ 5 ∷ []) ≡ 2 ∷ 2 ∷ 3 ∷ 6 ∷ 5 ∷ []
+probe_filled : filled (judged (panel_and_probe_file 0x1B) 1 5) (9 ∷ 8 ∷ 7 ∷ 6 ∷ 5 ∷ []) ≡ 2 ∷ 2 ∷ 3 ∷ 6 ∷ 5 ∷ []
 unfolding panel_and_probe_file byte_at byte_that byte_in map_byte state_field type_field read_row read_rows rows_byte read_machine read_machines read_plant checked checked_size checked_room below sum selected unleft joined paths cycles_through flattened
 probe_filled = refl
 
 -- A cycle with a progress row is listed too.
-panel : judged (panel_and_probe_file 0x1_b) 0 3 ≡ found (2 ∷ 0 ∷ 1 ∷ []) 20
+panel : judged (panel_and_probe_file 0x1B) 0 3 ≡ found (2 ∷ 0 ∷ 1 ∷ []) 20
 unfolding panel_and_probe_file byte_at byte_that byte_in map_byte state_field type_field read_row read_rows rows_byte read_machine read_machines read_plant checked checked_size checked_room below sum selected unleft joined paths cycles_through flattened
 panel = refl
 
 -- Number 14: a list of 2 entries is too short,
-short_list : judged (panel_and_probe_file 0x1_b) 1 2 ≡ fault 14 0
+short_list : judged (panel_and_probe_file 0x1B) 1 2 ≡ fault 14 0
 unfolding panel_and_probe_file byte_at byte_that byte_in map_byte state_field type_field read_row read_rows rows_byte read_machine read_machines read_plant checked checked_size checked_room below sum selected unleft joined paths cycles_through flattened
 short_list = refl
 
 -- and keeps its contents.
-short_kept : filled (judged (panel_and_probe_file 0x1_b) 1 2) (9 ∷ 8 ∷ []) ≡ 9 ∷ 8 ∷ []
+short_kept : filled (judged (panel_and_probe_file 0x1B) 1 2) (9 ∷ 8 ∷ []) ≡ 9 ∷ 8 ∷ []
 unfolding panel_and_probe_file byte_at byte_that byte_in map_byte state_field type_field read_row read_rows rows_byte read_machine read_machines read_plant checked checked_size checked_room below sum selected unleft joined paths cycles_through flattened
 short_kept = refl
 
 -- Number 12: there is no machine 2.
-no_machine : judged (panel_and_probe_file 0x1_b) 2 3 ≡ fault 12 0
+no_machine : judged (panel_and_probe_file 0x1B) 2 3 ≡ fault 12 0
 unfolding panel_and_probe_file byte_at byte_that byte_in map_byte state_field type_field read_row read_rows rows_byte read_machine read_machines read_plant checked checked_size checked_room below sum selected unleft joined paths cycles_through flattened
 no_machine = refl
 

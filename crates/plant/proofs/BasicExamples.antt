@@ -21,15 +21,15 @@ panel_and_probe_file map =
     ∷ 0x06 ∷ 0x01 ∷ 0x00
     ∷ map ∷ 0x01 ∷ 0x00 ∷ 0x01
     ∷ 0x02 ∷ 0x02
-    ∷ 0x0_a ∷ 0x01 ∷ 0x00
+    ∷ 0x0A ∷ 0x01 ∷ 0x00
     ∷ 0x07 ∷ 0x01 ∷ 0x00 ∷ 0x01
     ∷ []
 
-reads_A : read_plant (panel_and_probe_file 0x1_b) ≡ found plant_a 20
+reads_A : read_plant (panel_and_probe_file 0x1B) ≡ found plant_a 20
 unfolding panel_and_probe_file panel_and_probe byte_at byte_that byte_in map_byte state_field type_field read_row read_rows rows_byte read_machine read_machines read_plant
 reads_A = refl
 
-reads_B : read_plant (panel_and_probe_file 0x0_b) ≡ found plant_b 20
+reads_B : read_plant (panel_and_probe_file 0x0B) ≡ found plant_b 20
 unfolding panel_and_probe_file panel_and_probe byte_at byte_that byte_in map_byte state_field type_field read_row read_rows rows_byte read_machine read_machines read_plant
 reads_B = refl
 
@@ -129,7 +129,7 @@ unfolding byte_at byte_that rows_byte
 rows_left = (refl, refl)
 
 -- and 255 while there is room for them.
-most_rows : (rows_byte 769 (0x_fF ∷ []) 0 ≡ found 255 1) × (rows_byte 770 (0x_fF ∷ []) 0 ≡ fault 7 0)
+most_rows : (rows_byte 769 (0xFF ∷ []) 0 ≡ found 255 1) × (rows_byte 770 (0xFF ∷ []) 0 ≡ fault 7 0)
 unfolding byte_at byte_that rows_byte
 most_rows = (refl, refl)
 
@@ -153,7 +153,7 @@ fields_first = (refl, refl)
 
 -- Whatever follows comes later: a missing byte, a wrong map byte, and a byte that remains.
 twin_before_next : (read_plant (0x01 ∷ 0x00 ∷ 0x01 ∷ 0x03 ∷ 0x10 ∷ 0x10 ∷ []) ≡ fault 26 5)
-    × (read_plant (0x01 ∷ 0x00 ∷ 0x01 ∷ 0x03 ∷ 0x10 ∷ 0x10 ∷ 0x_fF ∷ []) ≡ fault 26 5)
+    × (read_plant (0x01 ∷ 0x00 ∷ 0x01 ∷ 0x03 ∷ 0x10 ∷ 0x10 ∷ 0xFF ∷ []) ≡ fault 26 5)
     × (read_plant (0x01 ∷ 0x00 ∷ 0x01 ∷ 0x02 ∷ 0x10 ∷ 0x10 ∷ 0x00 ∷ []) ≡ fault 26 5)
 unfolding byte_at byte_that byte_in map_byte state_field type_field read_row read_rows rows_byte read_machine read_machines read_plant
 twin_before_next = (refl, refl, refl)
@@ -166,7 +166,7 @@ same_in_both = refl
 
 -- Nor is a row that differs in one field: the first leaves state 0, enters state 1 and sends type 0, and each of the others differs from it in
 -- the state left, the state entered, the type sent, that it takes the type, that it has none, and progress.
-one_field_differs : read_plant (0x01 ∷ 0x02 ∷ 0x02 ∷ 0x07 ∷ 0x06 ∷ 0x01 ∷ 0x00 ∷ 0x05 ∷ 0x01 ∷ 0x00 ∷ 0x05 ∷ 0x00 ∷ 0x00 ∷ 0x06 ∷ 0x01 ∷ 0x01 ∷ 0x0_a ∷ 0x01 ∷ 0x00 ∷ 0x02 ∷ 0x01 ∷ 0x16 ∷ 0x01 ∷ 0x00 ∷ [])
+one_field_differs : read_plant (0x01 ∷ 0x02 ∷ 0x02 ∷ 0x07 ∷ 0x06 ∷ 0x01 ∷ 0x00 ∷ 0x05 ∷ 0x01 ∷ 0x00 ∷ 0x05 ∷ 0x00 ∷ 0x00 ∷ 0x06 ∷ 0x01 ∷ 0x01 ∷ 0x0A ∷ 0x01 ∷ 0x00 ∷ 0x02 ∷ 0x01 ∷ 0x16 ∷ 0x01 ∷ 0x00 ∷ [])
     ≡ found
     (record {
       types = 2;
@@ -188,23 +188,23 @@ one_field_differs = refl
 -- ---- rows that take and send (document 02, L5)
 
 -- Bits 2 and 3 together: the type sent stands first. All fields: five bytes.
-takes_and_sends : (read_plant (0x01 ∷ 0x02 ∷ 0x01 ∷ 0x01 ∷ 0x0_c ∷ 0x01 ∷ 0x00 ∷ []) ≡ found (record { types = 2; states = 1 ∷ []; rows = row_with 0 0 0 (some 1) (some 0) false ∷ [] }) 7)
-    × (read_plant (0x01 ∷ 0x03 ∷ 0x02 ∷ 0x01 ∷ 0x1_f ∷ 0x01 ∷ 0x00 ∷ 0x02 ∷ 0x01 ∷ []) ≡ found (record { types = 3; states = 2 ∷ []; rows = row_with 0 1 0 (some 2) (some 1) true ∷ [] }) 9)
+takes_and_sends : (read_plant (0x01 ∷ 0x02 ∷ 0x01 ∷ 0x01 ∷ 0x0C ∷ 0x01 ∷ 0x00 ∷ []) ≡ found (record { types = 2; states = 1 ∷ []; rows = row_with 0 0 0 (some 1) (some 0) false ∷ [] }) 7)
+    × (read_plant (0x01 ∷ 0x03 ∷ 0x02 ∷ 0x01 ∷ 0x1F ∷ 0x01 ∷ 0x00 ∷ 0x02 ∷ 0x01 ∷ []) ≡ found (record { types = 3; states = 2 ∷ []; rows = row_with 0 1 0 (some 2) (some 1) true ∷ [] }) 9)
 unfolding byte_at byte_that byte_in map_byte state_field type_field read_row read_rows rows_byte read_machine read_machines read_plant
 takes_and_sends = (refl, refl)
 
 -- No row has more bytes: these are two counts, two bytes of the machine and the row.
-row_of_most_bytes : length {A = ℕ} (0x01 ∷ 0x03 ∷ 0x02 ∷ 0x01 ∷ 0x1_f ∷ 0x01 ∷ 0x00 ∷ 0x02 ∷ 0x01 ∷ []) ≡ 2 + 2 + most_row_bytes
+row_of_most_bytes : length {A = ℕ} (0x01 ∷ 0x03 ∷ 0x02 ∷ 0x01 ∷ 0x1F ∷ 0x01 ∷ 0x00 ∷ 0x02 ∷ 0x01 ∷ []) ≡ 2 + 2 + most_row_bytes
 row_of_most_bytes = refl
 
 -- The type sent is judged first, before the type taken is missed; then the type taken is missed, and judged.
-sent_first : (read_plant (0x01 ∷ 0x01 ∷ 0x01 ∷ 0x01 ∷ 0x0_c ∷ 0x01 ∷ 0x01 ∷ []) ≡ fault 6 5) × (read_plant (0x01 ∷ 0x01 ∷ 0x01 ∷ 0x01 ∷ 0x0_c ∷ 0x01 ∷ []) ≡ fault 6 5)
-    × (read_plant (0x01 ∷ 0x01 ∷ 0x01 ∷ 0x01 ∷ 0x0_c ∷ 0x00 ∷ []) ≡ fault 1 6) × (read_plant (0x01 ∷ 0x01 ∷ 0x01 ∷ 0x01 ∷ 0x0_c ∷ 0x00 ∷ 0x01 ∷ []) ≡ fault 6 6)
+sent_first : (read_plant (0x01 ∷ 0x01 ∷ 0x01 ∷ 0x01 ∷ 0x0C ∷ 0x01 ∷ 0x01 ∷ []) ≡ fault 6 5) × (read_plant (0x01 ∷ 0x01 ∷ 0x01 ∷ 0x01 ∷ 0x0C ∷ 0x01 ∷ []) ≡ fault 6 5)
+    × (read_plant (0x01 ∷ 0x01 ∷ 0x01 ∷ 0x01 ∷ 0x0C ∷ 0x00 ∷ []) ≡ fault 1 6) × (read_plant (0x01 ∷ 0x01 ∷ 0x01 ∷ 0x01 ∷ 0x0C ∷ 0x00 ∷ 0x01 ∷ []) ≡ fault 6 6)
 unfolding byte_at byte_that byte_in map_byte state_field type_field read_row read_rows rows_byte read_machine read_machines read_plant
 sent_first = (refl, refl, refl, refl)
 
 -- Both types count for a twin: the types the other way round, one of them alone, and one type twice or none are other rows.
-both_types_differ : read_plant (0x01 ∷ 0x02 ∷ 0x01 ∷ 0x06 ∷ 0x0_c ∷ 0x00 ∷ 0x01 ∷ 0x0_c ∷ 0x01 ∷ 0x00 ∷ 0x04 ∷ 0x00 ∷ 0x08 ∷ 0x01 ∷ 0x0_c ∷ 0x00 ∷ 0x00 ∷ 0x00 ∷ [])
+both_types_differ : read_plant (0x01 ∷ 0x02 ∷ 0x01 ∷ 0x06 ∷ 0x0C ∷ 0x00 ∷ 0x01 ∷ 0x0C ∷ 0x01 ∷ 0x00 ∷ 0x04 ∷ 0x00 ∷ 0x08 ∷ 0x01 ∷ 0x0C ∷ 0x00 ∷ 0x00 ∷ 0x00 ∷ [])
     ≡ found
     (record {
       types = 2;
@@ -223,7 +223,7 @@ unfolding byte_at byte_that byte_in map_byte state_field type_field read_row rea
 both_types_differ = refl
 
 -- The same two types are a twin.
-both_types_same : read_plant (0x01 ∷ 0x02 ∷ 0x01 ∷ 0x02 ∷ 0x0_c ∷ 0x00 ∷ 0x01 ∷ 0x0_c ∷ 0x00 ∷ 0x01 ∷ []) ≡ fault 26 7
+both_types_same : read_plant (0x01 ∷ 0x02 ∷ 0x01 ∷ 0x02 ∷ 0x0C ∷ 0x00 ∷ 0x01 ∷ 0x0C ∷ 0x00 ∷ 0x01 ∷ []) ≡ fault 26 7
 unfolding byte_at byte_that byte_in map_byte state_field type_field read_row read_rows rows_byte read_machine read_machines read_plant
 both_types_same = refl
 

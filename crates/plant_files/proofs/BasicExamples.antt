@@ -11,11 +11,11 @@ use Rattle.plant.proofs.BasicExamples.{panel_and_probe_file}
 use Rattle.plant_files.specs.Files.{row_bytes, rows_bytes, machines_as, file_of}
 
 -- Plants A and B: the files of document 01 are the shortest.
-file_of_A : file_of plant_a ≡ panel_and_probe_file 0x1_b
+file_of_A : file_of plant_a ≡ panel_and_probe_file 0x1B
 unfolding panel_and_probe_file panel_and_probe row_bytes rows_bytes rows_in machines_as
 file_of_A = refl
 
-file_of_B : file_of plant_b ≡ panel_and_probe_file 0x0_b
+file_of_B : file_of plant_b ≡ panel_and_probe_file 0x0B
 unfolding panel_and_probe_file panel_and_probe row_bytes rows_bytes rows_in machines_as
 file_of_B = refl
 
@@ -40,7 +40,7 @@ file_of_implied : file_of implied
     ∷ 0x03 ∷ 0x03
     ∷ 0x03 ∷ 0x01 ∷ 0x02
     ∷ 0x15 ∷ 0x02 ∷ 0x00
-    ∷ 0x0_a ∷ 0x01 ∷ 0x00
+    ∷ 0x0A ∷ 0x01 ∷ 0x00
     ∷ 0x03 ∷ 0x02
     ∷ 0x00
     ∷ 0x01 ∷ 0x02
@@ -49,7 +49,7 @@ unfolding implied row_bytes rows_bytes rows_in machines_as
 file_of_implied = refl
 
 -- Rows that take and send: the type sent stands first; no row has more bytes than one with all fields.
-both_types : (row_bytes 1 (row_with 0 1 1 (some 7) (some 3) false) ≡ 0x0_c ∷ 0x07 ∷ 0x03 ∷ []) × (row_bytes 1 (row_with 0 1 1 (some 3) (some 3) true) ≡ 0x1_c ∷ 0x03 ∷ 0x03 ∷ [])
+both_types : (row_bytes 1 (row_with 0 1 1 (some 7) (some 3) false) ≡ 0x0C ∷ 0x07 ∷ 0x03 ∷ []) × (row_bytes 1 (row_with 0 1 1 (some 3) (some 3) true) ≡ 0x1C ∷ 0x03 ∷ 0x03 ∷ [])
     × (length (row_bytes 1 (row_with 0 0 1 (some 7) (some 3) false)) ≡ most_row_bytes)
 unfolding row_bytes
 both_types = (refl, refl, refl)

@@ -17,7 +17,7 @@ use Rattle.quoting.specs.Quoting.{judged, ceiling_for}
 -- ---- plant A of document 01
 
 -- Its 20 bytes, with weights 2, 1, contents 3, 4, g 1 and d 3: no fault,
-judged_A : judged (panel_and_probe_file 0x1_b) (2 ∷ 1 ∷ []) (3 ∷ 4 ∷ []) 1 3 ≡ found plant_a 20
+judged_A : judged (panel_and_probe_file 0x1B) (2 ∷ 1 ∷ []) (3 ∷ 4 ∷ []) 1 3 ≡ found plant_a 20
 unfolding panel_and_probe_file panel_and_probe byte_at byte_that byte_in map_byte state_field type_field read_row read_rows rows_byte read_machine read_machines read_plant first_above checked_sizes checked_weights checked_amounts checked_contents
 judged_A = refl
 

@@ -15,7 +15,7 @@ answers w [] = []
 answers w (e ∷ es) = answered w e ∷ answers (stepped w e) es
 
 unfoldable pub start : WatchedRun
-start = opened_on (panel_and_probe_file 0x1_b) (2 ∷ 1 ∷ []) (3 ∷ 4 ∷ [])
+start = opened_on (panel_and_probe_file 0x1B) (2 ∷ 1 ∷ []) (3 ∷ 4 ∷ [])
 
 -- Opened at F + n × W = 10 + 2 × 10. A quiet row takes one away, a loss nothing, a doubling adds n × w = 4 and a progress row G = 9; a row whose machine is in
 -- another state gets 27, and so does one that the plant lacks; a type that it lacks gets 28.
@@ -25,7 +25,7 @@ unfolding answers start panel_and_probe_file below sum greatest has_progress can
 rows_and_doublings = refl
 
 -- With one message of type 0: once it is lost, it can be lost and doubled no more, and the row that takes it cannot happen.
-last_message : answers (opened_on (panel_and_probe_file 0x1_b) (2 ∷ 1 ∷ []) (1 ∷ 0 ∷ [])) (loss 0 ∷ loss 0 ∷ doubling 0 ∷ row 2 ∷ loss 1 ∷ [])
+last_message : answers (opened_on (panel_and_probe_file 0x1B) (2 ∷ 1 ∷ []) (1 ∷ 0 ∷ [])) (loss 0 ∷ loss 0 ∷ doubling 0 ∷ row 2 ∷ loss 1 ∷ [])
     ≡ remaining 14 ∷ refused 28 0 ∷ refused 28 0 ∷ refused 27 0 ∷ refused 28 0 ∷ []
 unfolding answers panel_and_probe_file below sum greatest has_progress can_happen changed after after_all run is_quiet_row is_progress_row is_doubling byte_at byte_that byte_in map_byte state_field type_field read_row read_rows rows_byte read_machine read_machines read_plant is_spent judged_in
 last_message = refl

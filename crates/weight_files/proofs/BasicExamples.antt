@@ -4,6 +4,6 @@ use mathlib.Core.List.{[], ◌∷◌}
 use Rattle.weight_files.specs.WeightFiles.{weights_of}
 
 -- Low byte first, and a last single byte gives no weight.
-low_first : weights_of (1 ∷ 0 ∷ 0x_e8 ∷ 3 ∷ 7 ∷ []) ≡ 1 ∷ 1000 ∷ []
+low_first : weights_of (1 ∷ 0 ∷ 0xE8 ∷ 3 ∷ 7 ∷ []) ≡ 1 ∷ 1000 ∷ []
 unfolding weights_of
 low_first = refl
