@@ -34,12 +34,12 @@ CHOSEN = {
     "twoClientsInTurn": "two_clients_in_turn_file",
 }
 # The same, where the lemma's name stands already in the new spelling.
-CHOSEN_IN = {"plant_files/proofs/PlantParts.antt": {"rows_in": "rows_in_lem"}, "plant_files/proofs/Readers.antt": {"rows_in": "rows_in_lem"}}
+CHOSEN_IN = {"worked_examples/proofs/AnswerLaws.antt": {"figures-of": "figures_of_lem"}, "plant_files/proofs/PlantParts.antt": {"rows_in": "rows_in_lem"}, "plant_files/proofs/Readers.antt": {"rows_in": "rows_in_lem"}}
 # A module that Rattle now makes itself: the crate, its old name and its new one.
 MODULES = [("watched_runs", "Contracts", "Owed")]
 
 TOKEN = re.compile(r"(?<![A-Za-z0-9_'₀-₉\\-])[A-Za-zμ_][A-Za-z0-9_'₀-₉-]*")
-DECLARED = re.compile(r"^(?:  )?(?:abbrev |unfoldable |data |record |ruleset )*(?:pub )?(?:abbrev |unfoldable |data |record |ruleset )*(?:pub )?([A-Za-z][A-Za-z0-9_'₀-₉-]*)(?: [^:=]*)? :(?= |$)", re.M)
+DECLARED = re.compile(r"^ *(?:abbrev |unfoldable |data |record |ruleset )*(?:pub )?(?:abbrev |unfoldable |data |record |ruleset )*(?:pub )?([A-Za-z][A-Za-z0-9_'₀-₉-]*)(?: [^:=\n]*)? :(?= |$)", re.M)
 
 
 def snake(word):

@@ -11,10 +11,10 @@ use Rattle.answer_line.specs.Lines.{line_of}
 use Rattle.answer_line.specs.Files.{checked_bytes, judged_files}
 
 -- `passed 10 2 9 4`.
-line-passed : line_of (passed (record { base = 10; most_states = 2; per_progress = 9; per_doubling = 4 })) ([])
+line_passed : line_of (passed (record { base = 10; most_states = 2; per_progress = 9; per_doubling = 4 })) ([])
     ≡ 112 ∷ 97 ∷ 115 ∷ 115 ∷ 101 ∷ 100 ∷ 32 ∷ 49 ∷ 48 ∷ 32 ∷ 50 ∷ 32 ∷ 57 ∷ 32 ∷ 52 ∷ 10 ∷ []
 unfolding decimal_within decimal figure figures
-line-passed = refl
+line_passed = refl
 
 -- `cycle 3`, and later entries of the list do not show.
 line_cycle : line_of (cycle 1) (3 ∷ 0 ∷ []) ≡ 99 ∷ 121 ∷ 99 ∷ 108 ∷ 101 ∷ 32 ∷ 51 ∷ 10 ∷ []

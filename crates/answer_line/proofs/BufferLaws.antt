@@ -22,8 +22,8 @@ use Rattle.answer_line.specs.Files.{checked_bytes, judged_files, Printed, Printe
 use Rattle.answer_line.proofs.OwedLaws.{too_many, any_weights, both_refused, odd_checked, even_checked}
 
 -- No more bytes of a plant file matter than those of the longest file and one more.
-pub same-plant : (s : List ℕ) (n : ℕ) → longest_file < n → read_plant (take n s) ≡ read_plant s
-same-plant s n h = first_bytes (take n s) ∙ ap read_plant (take-take (longest_file + 1) n s h) ∙ sym (first_bytes s)
+pub same_plant : (s : List ℕ) (n : ℕ) → longest_file < n → read_plant (take n s) ≡ read_plant s
+same_plant s n h = first_bytes (take n s) ∙ ap read_plant (take-take (longest_file + 1) n s h) ∙ sym (first_bytes s)
 
 -- A weights file of 130 bytes or more has more weights than a plant has types, or an odd length.
 long_refused : (weights : List ℕ) (P : Plant) (end : ℕ) → P.types ≤ 64 → 130 ≤ length weights → checked_bytes weights P end ≡ fault 9 0
@@ -53,7 +53,7 @@ same_line plant weights line n k h room p =
     part =
         subst
         (λ (x : Found Plant). Owed (weights_of (take k weights)) (replicate 64 0) p.after p.answer (and_then x (checked_bytes (take k weights))))
-        (same-plant plant n h)
+        (same_plant plant n h)
         p.owed
 
     go : Dec (length weights ≤ k) → Owed (weights_of weights) (replicate 64 0) p.after p.answer (judged_files plant weights)

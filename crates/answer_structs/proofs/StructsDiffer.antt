@@ -19,9 +19,9 @@ use Rattle.answer_structs.specs.Structs.{read_struct, weigh_struct, quote_struct
 -- ---- the numbers of the header
 
 -- HEMTALUQ_REFUSED is 0, of each call.
-refused-0 : ((read_struct (Reading.refused 8 4)).kind ≡ 0) × ((weigh_struct (Weighing.refused 8 4)).kind ≡ 0) × ((quote_struct (Quoting.refused 8 4)).kind ≡ 0)
+refused_0 : ((read_struct (Reading.refused 8 4)).kind ≡ 0) × ((weigh_struct (Weighing.refused 8 4)).kind ≡ 0) × ((quote_struct (Quoting.refused 8 4)).kind ≡ 0)
     × ((list_struct (Listing.refused 8 4)).kind ≡ 0) × ((confirm_struct (Confirming.refused 8 4)).kind ≡ 0) × ((write_struct (Writing.refused 24 5)).kind ≡ 0)
-refused-0 = (refl, refl, refl, refl, refl, refl)
+refused_0 = (refl, refl, refl, refl, refl, refl)
 
 -- HEMTALUQ_COUNTS 1, HEMTALUQ_PASSED 2, HEMTALUQ_CYCLE 3, HEMTALUQ_CEILING 4, HEMTALUQ_LISTED 5, HEMTALUQ_CONFIRMED 6, HEMTALUQ_NEGATIVE 7,
 -- HEMTALUQ_WROTE 8.

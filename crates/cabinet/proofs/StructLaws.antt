@@ -26,9 +26,9 @@ use Rattle.answer_structs.specs.declared.WriteAnswer.{WriteAnswer}
 use Rattle.answer_structs.specs.Structs.{list_struct, confirm_struct, write_struct, Lists, Writes}
 
 -- Confirming.
-pub confirm-told : {r known : Confirmation} {a : ConfirmingAnswers.Answer} → ConfirmingAnswers.answer_of r ≡ a → r ≡ known
+pub confirm_told : {r known : Confirmation} {a : ConfirmingAnswers.Answer} → ConfirmingAnswers.answer_of r ≡ a → r ≡ known
     → confirm_struct (ConfirmingAnswers.answer_of known) ≡ confirm_struct a
-confirm-told owed e = ap (λ (x : Confirmation). confirm_struct (ConfirmingAnswers.answer_of x)) (sym e) ∙ ap confirm_struct owed
+confirm_told owed e = ap (λ (x : Confirmation). confirm_struct (ConfirmingAnswers.answer_of x)) (sym e) ∙ ap confirm_struct owed
 
 -- A sum that is handed back, once through the 64 bits of a local, is the same.
 pub negative_told : (file set : List ℕ) {r : Confirmation} (message : ℕ) (sum : ℤ) → ConfirmingAnswers.answer_of r ≡ owed (read_plant file) set → r ≡ Variants.Negative message sum

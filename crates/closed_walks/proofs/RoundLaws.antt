@@ -26,9 +26,9 @@ use Rattle.closed_walks.specs.Inner.Rounds.{Halves, Low, Zeros, Cleared, Round}
 -- ---- the two tables
 
 -- The two tables have no place in common,
-pub halves-apart : {old new : ℕ} → Halves old new → (s t : ℕ) → s < 64 → t < 64 → old + s ≢ new + t
-halves-apart (inl h) s t x y e = omega (arith, h.0, h.1)
-halves-apart (inr h) s t x y e = omega (arith, h.0, h.1)
+pub halves_apart : {old new : ℕ} → Halves old new → (s t : ℕ) → s < 64 → t < 64 → old + s ≢ new + t
+halves_apart (inl h) s t x y e = omega (arith, h.0, h.1)
+halves_apart (inr h) s t x y e = omega (arith, h.0, h.1)
 
 -- each ends within the list,
 pub halves_in : {old new : ℕ} → Halves old new → (old ≤ 64) × (new ≤ 64)
@@ -98,21 +98,21 @@ module _ (count states : ℕ) (list : List ℤ) (ok : EdgesIn states count list)
     along = (rise (edge_in list i).weight + entry after old (edge_in list i).to) - fall (edge_in list i).weight
 
     -- No number is above 2 ^ 42, since none of the old table is above 2 ^ 41.
-    pub round-low : Low states old before → (s : ℕ) → s < states → entry after new s ≤ 4398046511104
-    round-low low s l =
+    pub round_low : Low states old before → (s : ℕ) → s < states → entry after new s ≤ 4398046511104
+    round_low low s l =
         rw (r.relaxed s l)
         (greatest_bound (via g (entry before old) s) 4398046511104 (below i) (all_below _ i (λ e x. via_bound g (entry before old) s e 4398046511104 (λ c. let here : e < count = omega (arith, x) in omega (arith, ok.rise_in e here, low (edge_in list e).to (ok.to_in e here))))))
 
     -- Edge i from the state that it leaves,
-    via-here : via g (entry before old) a i ≡ along
-    via-here =
+    via_here : via g (entry before old) a i ≡ along
+    via_here =
         via_edge g (entry before old) a i refl refl
         ∙ ap (λ (x : ℕ). (rise (edge_in list i).weight + x) - fall (edge_in list i).weight) (sym (r.old_kept (edge_in list i).to (ok.to_in i there)))
 
     -- and from another.
-    via-elsewhere : (s : ℕ) → s ≢ a → via g (entry before old) s i ≡ 0
+    via_elsewhere : (s : ℕ) → s ≢ a → via g (entry before old) s i ≡ 0
     unfolding via
-    via-elsewhere s q = rw (ne_eqb a s (λ p. q (sym p)))
+    via_elsewhere s q = rw (ne_eqb a s (λ p. q (sym p)))
 
     -- The greatest number over the edges up to this one.
     more : (s : ℕ) → greatest (via g (entry before old) s) (below (i + 1)) ≡ max (greatest (via g (entry before old) s) (below i)) (via g (entry before old) s i)
@@ -133,8 +133,8 @@ module _ (count states : ℕ) (list : List ℤ) (ok : EdgesIn states count list)
         }
       where
         go : (s : ℕ) → s < states → Dec (s ≡ a) → entry after new s ≡ greatest (via g (entry before old) s) (below (i + 1))
-        go s l (yes e) = rw e (omega (arith, r.relaxed a (ok.from_in i there), more a, via-here, ltb-false (entry after new a) along test))
-        go s l (no e) = omega (arith, r.relaxed s l, more s, via-elsewhere s e)
+        go s l (yes e) = rw e (omega (arith, r.relaxed a (ok.from_in i there), more a, via_here, ltb-false (entry after new a) along test))
+        go s l (no e) = omega (arith, r.relaxed s l, more s, via_elsewhere s e)
 
     -- or it does: then v is stored for the state a that it leaves, and the edge is noted there. Nothing else changes: the old table has no place in
     -- common with the new one, another state keeps its number and its note, and from there this edge leads nowhere. At a the number of this edge is now
@@ -157,16 +157,16 @@ module _ (count states : ℕ) (list : List ℤ) (ok : EdgesIn states count list)
       at_a = get_or-set_same after (new + a) v 0 (omega (arith, r.same_length, a_in, ok.states_in, (halves_in halves).1)) ∙ omega (arith, is-raised, ltb-true (entry after new a) along test)
 
       -- and the edge is noted.
-      edge-at-a : entry noted (k * 64) a ≡ i
-      edge-at-a = get_or-set_same edges (k * 64 + a) i 0 (omega (arith, edge_room, few, r.same_edges, a_in, ok.states_in))
+      edge_at_a : entry noted (k * 64) a ≡ i
+      edge_at_a = get_or-set_same edges (k * 64 + a) i 0 (omega (arith, edge_room, few, r.same_edges, a_in, ok.states_in))
 
       -- Another state keeps its number
       elsewhere : (s : ℕ) → s ≢ a → entry walks new s ≡ entry after new s
       elsewhere s e = get_or-set_other after (new + a) (new + s) v 0 (λ q. e (omega arith))
 
       -- and its note.
-      edge-elsewhere : (s : ℕ) → s ≢ a → entry noted (k * 64) s ≡ entry edges (k * 64) s
-      edge-elsewhere s e = get_or-set_other edges (k * 64 + a) (k * 64 + s) i 0 (λ q. e (omega arith))
+      edge_elsewhere : (s : ℕ) → s ≢ a → entry noted (k * 64) s ≡ entry edges (k * 64) s
+      edge_elsewhere s e = get_or-set_other edges (k * 64 + a) (k * 64 + s) i 0 (λ q. e (omega arith))
 
       -- So the first i + 1 edges were gone along.
       pub edge_raises : Round (edge_graph count list) (i + 1) states old new k before (set after (new + (edge_in list i).from) v) edges-before (set edges (k * 64 + (edge_in list i).from) i)
@@ -174,21 +174,21 @@ module _ (count states : ℕ) (list : List ℤ) (ok : EdgesIn states count list)
           record {
             same_length = length-set after (new + a) v ∙ r.same_length;
             same_edges = length-set edges (k * 64 + a) i ∙ r.same_edges;
-            old_kept = λ s l. get_or-set_other after (new + a) (old + s) v 0 (halves-apart halves s a (omega (arith, ok.states_in)) (omega (arith, a_in, ok.states_in))) ∙ r.old_kept s l;
-            relaxed = λ s l. relaxed-at s l (ℕ_discrete s a);
-            noted_in = λ s l m. noted-at s l m (ℕ_discrete s a);
-            attained = λ s l m. attained-at s l m (ℕ_discrete s a);
+            old_kept = λ s l. get_or-set_other after (new + a) (old + s) v 0 (halves_apart halves s a (omega (arith, ok.states_in)) (omega (arith, a_in, ok.states_in))) ∙ r.old_kept s l;
+            relaxed = λ s l. relaxed_at s l (ℕ_discrete s a);
+            noted_in = λ s l m. noted_at s l m (ℕ_discrete s a);
+            attained = λ s l m. attained_at s l m (ℕ_discrete s a);
             edges_kept = λ j l. get_or-set_other edges (k * 64 + a) j i 0 (λ q. omega arith) ∙ r.edges_kept j l;
           }
         where
-          relaxed-at : (s : ℕ) → s < states → Dec (s ≡ a) → entry walks new s ≡ greatest (via g (entry before old) s) (below (i + 1))
-          relaxed-at s l (yes e) = rw e (omega (arith, at_a, r.relaxed a a_in, more a, via-here, ltb-true (entry after new a) along test))
-          relaxed-at s l (no e) = omega (arith, elsewhere s e, r.relaxed s l, more s, via-elsewhere s e)
+          relaxed_at : (s : ℕ) → s < states → Dec (s ≡ a) → entry walks new s ≡ greatest (via g (entry before old) s) (below (i + 1))
+          relaxed_at s l (yes e) = rw e (omega (arith, at_a, r.relaxed a a_in, more a, via_here, ltb-true (entry after new a) along test))
+          relaxed_at s l (no e) = omega (arith, elsewhere s e, r.relaxed s l, more s, via_elsewhere s e)
 
-          noted-at : (s : ℕ) → s < states → 0 < entry walks new s → Dec (s ≡ a) → entry noted (k * 64) s < i + 1
-          noted-at s l m (yes e) = rw e (omega (arith, edge-at-a))
-          noted-at s l m (no e) = omega (arith, edge-elsewhere s e, r.noted_in s l (omega (arith, elsewhere s e)))
+          noted_at : (s : ℕ) → s < states → 0 < entry walks new s → Dec (s ≡ a) → entry noted (k * 64) s < i + 1
+          noted_at s l m (yes e) = rw e (omega (arith, edge_at_a))
+          noted_at s l m (no e) = omega (arith, edge_elsewhere s e, r.noted_in s l (omega (arith, elsewhere s e)))
 
-          attained-at : (s : ℕ) → s < states → 0 < entry walks new s → Dec (s ≡ a) → entry walks new s ≡ via g (entry before old) s (entry noted (k * 64) s)
-          attained-at s l m (yes e) = rw (e, edge-at-a) (at_a ∙ sym via-here)
-          attained-at s l m (no e) = rw (edge-elsewhere s e) (elsewhere s e ∙ r.attained s l (omega (arith, elsewhere s e)))
+          attained_at : (s : ℕ) → s < states → 0 < entry walks new s → Dec (s ≡ a) → entry walks new s ≡ via g (entry before old) s (entry noted (k * 64) s)
+          attained_at s l m (yes e) = rw (e, edge_at_a) (at_a ∙ sym via_here)
+          attained_at s l m (no e) = rw (edge_elsewhere s e) (elsewhere s e ∙ r.attained s l (omega (arith, elsewhere s e)))

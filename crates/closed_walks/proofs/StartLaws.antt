@@ -24,19 +24,19 @@ use Rattle.livelock.specs.Differences.{Difference}
 use Rattle.livelock.proofs.Differences.{difference_minus, not_negative_iff}
 use Rattle.livelock.specs.Graphs.{Graph, via}
 use Rattle.livelock.proofs.Graphs.{Leads, via_leads}
-use Rattle.livelock.proofs.Rounds.{via-equal}
+use Rattle.livelock.proofs.Rounds.{via_equal}
 use Rattle.closed_walks.specs.ClosedWalks.{origin, heaviest, Closes, entry, NotedRoom, FirstEdge, FirstEdges, LeastFrom}
 use Rattle.closed_walks.specs.Inner.Rounds.{Halves, Low, Zeros, Cleared, Round, Exactly}
-use Rattle.closed_walks.proofs.WalkLaws.{Searchable, heaviest-bound}
+use Rattle.closed_walks.proofs.WalkLaws.{Searchable, heaviest_bound}
 use Rattle.closed_walks.proofs.RoundLaws.{halves_swap, cleared_other}
 
 -- ---- rounds
 
 -- The walks without edges, in a table that was cleared.
-exactly-none : (g : Graph) (states start : ℕ) (walks : List ℕ) → states ≤ 64 → start < states → length walks ≡ 128 → Zeros states 0 walks
+exactly_none : (g : Graph) (states start : ℕ) (walks : List ℕ) → states ≤ 64 → start < states → length walks ≡ 128 → Zeros states 0 walks
     → Exactly g states start 0 0 (set walks start origin)
 unfolding heaviest
-exactly-none g states start walks few h room zeros s l = go (ℕ_discrete s start)
+exactly_none g states start walks few h room zeros s l = go (ℕ_discrete s start)
   where
     go : Dec (s ≡ start) → get_or (set walks start origin) (0 + s) 0 ≡ cond (eqb s start) origin 0
     go (yes q) = rw (eq-eqb s start q, q, zero-add start) (get_or-set_same walks start origin 0 (omega (arith, room)))
@@ -45,13 +45,13 @@ exactly-none g states start walks few h room zeros s l = go (ℕ_discrete s star
 -- There is room for one edge more.
 exactly_low : {g : Graph} {states : ℕ} → Searchable g states → (start k at : ℕ) (walks : List ℕ) → Exactly g states start k at walks → k ≤ 64
     → Low states at walks
-exactly_low {g} ok start k at walks exact few s l = omega (arith, exact s l, heaviest-bound g start ok.light k s)
+exactly_low {g} ok start k at walks exact few s l = omega (arith, exact s l, heaviest_bound g start ok.light k s)
 
 module _ {g : Graph} {states k old new : ℕ} {before after edges-before edges : List ℕ} (ok : Searchable g states) (start : ℕ) (exact : Exactly g states start k old before)
     (r : Round g g.size states old new k before after edges-before edges) where
   -- One edge, and on as far as the table says: only its entries for the states matter.
   along_equal : (s e : ℕ) → e < g.size → via g (entry before old) s e ≡ via g (heaviest g start k) s e
-  along_equal s e l = via-equal g (entry before old) (heaviest g start k) s e (λ c. exact (g.dst e) (ok.within e (l, c)).1)
+  along_equal s e l = via_equal g (entry before old) (heaviest g start k) s e (λ c. exact (g.dst e) (ok.within e (l, c)).1)
 
   -- A round leads from the walks of k edges to those of k + 1,
   exactly_suc : Exactly g states start (suc k) new after
@@ -73,15 +73,15 @@ module _ {g : Graph} {states k old new : ℕ} {before after edges-before edges :
       some : 0 < entry after new s
       some = omega (arith, exactly_suc s l)
 
-      e-in : e < g.size
-      e-in = r.noted_in s l some
+      e_in : e < g.size
+      e_in = r.noted_in s l some
 
       worth : heaviest g start (suc k) s ≡ via g (heaviest g start k) s e
-      worth = sym (exactly_suc s l) ∙ r.attained s l some ∙ along_equal s e e-in
+      worth = sym (exactly_suc s l) ∙ r.attained s l some ∙ along_equal s e e_in
 
       go : (via g (heaviest g start k) s e ≡ 0) ⊎ Leads g (heaviest g start k) s e (via g (heaviest g start k) s e) → FirstEdge g start k s e
       go (inl z) = absurd (omega (arith, worth))
-      go (inr d) = record { there = (e-in, d.counted); leaves = d.from; worth = omega (arith, worth, d.long) }
+      go (inr d) = record { there = (e_in, d.counted); leaves = d.from; worth = omega (arith, worth, d.long) }
 
   -- So those of 1 to k + 1 edges are noted: this round's at places of their own, behind those of the rounds before, which it kept.
   first_edges_next : FirstEdges g states start k edges-before → FirstEdges g states start (k + 1) edges
@@ -107,7 +107,7 @@ searched_first g states start before walks noted few h long cleared room =
       halves = inl (refl, refl);
       room = length-set walks start origin ∙ cleared.same_length ∙ long;
       edge_room = room;
-      exact = exactly-none g states start walks few h (cleared.same_length ∙ long) cleared.zeros;
+      exact = exactly_none g states start walks few h (cleared.same_length ∙ long) cleared.zeros;
       first_edges = λ j s x l m. absurd (not-suc-le-zero x);
     }
 
@@ -123,8 +123,8 @@ module _ {g : Graph} {states start k old new : ℕ} {walks noted cleared : List 
 
   module _ {after edges : List ℕ} (r : Round g g.size states old new k cleared after noted edges) where
     -- One round more.
-    pub searched-next : Searched g states start (k + 1) new old after edges
-    searched-next =
+    pub searched_next : Searched g states start (k + 1) new old after edges
+    searched_next =
         record {
           halves = halves_swap h.halves;
           room = r.same_length ∙ c.same_length ∙ h.room;

@@ -16,7 +16,7 @@ use Rattle.livelock.proofs.SumLaws.{greatest_bound, greatest_attained, greatest_
 use Rattle.livelock.specs.Graphs.{Graph, IsEdge, via}
 use Rattle.livelock.proofs.Graphs.{Within, via_edge, Leads, via_leads, via_bound}
 use Rattle.deciding.specs.Rounds.{edge_graph, EdgesIn}
-use Rattle.deciding.proofs.DecisionLaws.{edges-within}
+use Rattle.deciding.proofs.DecisionLaws.{edges_within}
 use Rattle.closed_walks.specs.ClosedWalks.{ClosedWalk, origin, heaviest, Closes}
 
 -- What the search asks of a graph: at most 64 states, and no edge that weighs more than 65,535.
@@ -29,7 +29,7 @@ pub record Searchable (g : Graph) (states : ℕ) : Type 0 where
 pub edges_searchable : {count states : ℕ} {edges : List ℤ} → EdgesIn states count edges
     → Searchable (edge_graph count edges) states
 edges_searchable {count} {states} {edges} ok =
-    record { within = edges-within count states edges ok; states_in = ok.states_in; light = λ e u. ok.rise_in e u.0 }
+    record { within = edges_within count states edges ok; states_in = ok.states_in; light = λ e u. ok.rise_in e u.0 }
 
 -- ---- walks of exactly k edges
 
@@ -58,15 +58,15 @@ module _ (g : Graph) (start : ℕ) where
 
   module _ (light : (e : ℕ) → IsEdge g e → g.plus e ≤ 65535) where
     -- Each edge adds 65,535 at most.
-    pub heaviest-bound : (k s : ℕ) → heaviest g start k s ≤ origin + k * 65535
+    pub heaviest_bound : (k s : ℕ) → heaviest g start k s ≤ origin + k * 65535
     unfolding heaviest
-    heaviest-bound zero s = go (eqb s start)
+    heaviest_bound zero s = go (eqb s start)
       where
         go : (b : Bool) → cond b origin 0 ≤ origin + zero * 65535
         go true = omega arith
         go false = omega arith
-    heaviest-bound (suc k) s =
-        greatest_bound (via g (heaviest g start k) s) (origin + suc k * 65535) (below g.size) (all_below _ g.size (each (heaviest-bound k)))
+    heaviest_bound (suc k) s =
+        greatest_bound (via g (heaviest g start k) s) (origin + suc k * 65535) (below g.size) (all_below _ g.size (each (heaviest_bound k)))
       where
         each : ((t : ℕ) → heaviest g start k t ≤ origin + k * 65535) → (e : ℕ) → e < g.size → via g (heaviest g start k) s e ≤ origin + suc k * 65535
         each r e l = via_bound g (heaviest g start k) s e (origin + suc k * 65535) (λ c. omega (arith, light e (l, c), r (g.dst e)))
@@ -78,17 +78,17 @@ module _ (g : Graph) (start : ℕ) where
     -- By induction on k. With one edge more the number is 0, which is low, or that of going along some edge and on from its end.
     -- If the number at that end is low, so is this one, since the edge adds 65,535 at most;
     -- if a walk attains the number at that end, the edge and that walk attain this one.
-    low-or-attained : (k s : ℕ) → LowOrAttained k s
+    low_or_attained : (k s : ℕ) → LowOrAttained k s
     unfolding heaviest sum All Walk
-    low-or-attained zero s = go (eqb s start) refl
+    low_or_attained zero s = go (eqb s start) refl
       where
         go : (b : Bool) → eqb s start ≡ b → LowOrAttained zero s
         go true q = inr (record { walk = []; long = refl; edges = tt; joined = eqb-true s start q; worth = rw q (omega arith) })
         go false q = inl (rw q (omega arith))
-    low-or-attained (suc k) s =
+    low_or_attained (suc k) s =
         go
         (greatest_attained (λ e. e < g.size) (via g (heaviest g start k) s) (below g.size) (all_below _ g.size (λ e l. l)))
-        (λ e. low-or-attained k (g.dst e))
+        (λ e. low_or_attained k (g.dst e))
       where
         along : (e : ℕ) → e < g.size → heaviest g start (suc k) s ≡ via g (heaviest g start k) s e → LowOrAttained k (g.dst e)
             → (via g (heaviest g start k) s e ≡ 0) ⊎ Leads g (heaviest g start k) s e (via g (heaviest g start k) s e) → LowOrAttained (suc k) s
@@ -115,7 +115,7 @@ walk_closes {g} {a} {es} w = omega (arith, heaviest_upper g a a es w.edges w.clo
 -- So `Closes` says what it is meant to say.
 pub closes_iff : {g : Graph} {states : ℕ} → Searchable g states
     → (a k : ℕ) → k ≤ 64 → Closes g a k ↔ ((es : List ℕ) × (length es ≡ k) × ClosedWalk g a es)
-closes_iff {g} ok a k few = (λ h. go h (low-or-attained g a ok.light k a), λ w. subst (Closes g a) w.1 (walk_closes w.2))
+closes_iff {g} ok a k few = (λ h. go h (low_or_attained g a ok.light k a), λ w. subst (Closes g a) w.1 (walk_closes w.2))
   where
     go : Closes g a k → (heaviest g a k a ≤ k * 65535) ⊎ ExactWalk g a k a → (es : List ℕ) × (length es ≡ k) × ClosedWalk g a es
     go h (inl low) = absurd (omega arith)

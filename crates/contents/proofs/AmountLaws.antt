@@ -39,12 +39,12 @@ module _ (contents last : List ℕ) where
 
   module _ (i x : ℕ) (rest : i + first_above 1000000 (drop i (amounts contents last)) ≡ x) where
     -- A content above 1,000,000 is the first number above it,
-    pub content-stops : i < length contents → 1000000 < get_or contents i 0 → i ≡ x
-    content-stops l a = above_stops 1000000 (amounts contents last) i x rest (omega (arith, amounts-length)) (rw (content_at i l) a)
+    pub content_stops : i < length contents → 1000000 < get_or contents i 0 → i ≡ x
+    content_stops l a = above_stops 1000000 (amounts contents last) i x rest (omega (arith, amounts-length)) (rw (content_at i l) a)
 
     -- and one that is not is passed over.
-    pub content-goes-on : i < length contents → get_or contents i 0 ≤ 1000000 → i + 1 + first_above 1000000 (drop (i + 1) (amounts contents last)) ≡ x
-    content-goes-on l a = above_goes_on 1000000 (amounts contents last) i x rest (omega (arith, amounts-length)) (rw (content_at i l) a)
+    pub content_goes_on : i < length contents → get_or contents i 0 ≤ 1000000 → i + 1 + first_above 1000000 (drop (i + 1) (amounts contents last)) ≡ x
+    content_goes_on l a = above_goes_on 1000000 (amounts contents last) i x rest (omega (arith, amounts-length)) (rw (content_at i l) a)
 
 module _ (contents : List ℕ) (g d : ℕ) (i x : ℕ) (rest : i + first_above 1000000 (drop i (amounts contents (g ∷ d ∷ []))) ≡ x) (passed : i ≡ length contents) where
   abbrev given : List ℕ
@@ -65,17 +65,17 @@ module _ (contents : List ℕ) (g d : ℕ) (i x : ℕ) (rest : i + first_above 1
   g_stops a = sym passed ∙ above_stops 1000000 given i x rest (omega (arith, inside)) (rw (g_here) a)
 
   module _ (small : g ≤ 1000000) where
-    after-g : i + 1 + first_above 1000000 (drop (i + 1) given) ≡ x
-    after-g = above_goes_on 1000000 given i x rest (omega (arith, inside)) (rw (g_here) small)
+    after_g : i + 1 + first_above 1000000 (drop (i + 1) given) ≡ x
+    after_g = above_goes_on 1000000 given i x rest (omega (arith, inside)) (rw (g_here) small)
 
     -- behind g it is d,
-    pub d-stops : 1000000 < d → length contents + 1 ≡ x
-    d-stops a = omega (arith, passed, above_stops 1000000 given (i + 1) x after-g inside (rw (d_here) a))
+    pub d_stops : 1000000 < d → length contents + 1 ≡ x
+    d_stops a = omega (arith, passed, above_stops 1000000 given (i + 1) x after_g inside (rw (d_here) a))
 
     -- and else there is none.
-    pub none-stops : d ≤ 1000000 → i + 2 ≡ x
-    none-stops a =
-        let after-d = above_goes_on 1000000 given (i + 1) x after-g inside (rw (d_here) a) in
+    pub none_stops : d ≤ 1000000 → i + 2 ≡ x
+    none_stops a =
+        let after-d = above_goes_on 1000000 given (i + 1) x after_g inside (rw (d_here) a) in
         omega (arith, above_ends 1000000 given (i + 1 + 1) x after-d (omega (arith, amounts-length contents (g ∷ d ∷ []), passed)))
 
 -- ---- the checks
@@ -88,16 +88,16 @@ module _ (contents last : List ℕ) (passes : Bool) (P : Plant) (end : ℕ) wher
 
   module _ (one_each : length contents ≡ P.types) where
     -- A number above 1,000,000: fault 21 at the first.
-    pub refuse-21 : (i : ℕ) → i ≡ first_above 1000000 (amounts contents last) → i < length (amounts contents last) → fault 21 i ≡ checked_passing contents last passes P end
+    pub refuse_21 : (i : ℕ) → i ≡ first_above 1000000 (amounts contents last) → i < length (amounts contents last) → fault 21 i ≡ checked_passing contents last passes P end
     unfolding checked_contents checked_amounts
-    refuse-21 i q l =
+    refuse_21 i q l =
         rw (q, eq-eqb (length contents) P.types one_each, lt-ltb (first_above 1000000 (amounts contents last)) (length (amounts contents last)) (rw (← q) l))
 
     module _ (small : length (amounts contents last) ≤ first_above 1000000 (amounts contents last)) where
       -- Weights that do not pass: fault 22.
-      pub refuse-22 : passes ≡ false → fault 22 0 ≡ checked_passing contents last passes P end
+      pub refuse_22 : passes ≡ false → fault 22 0 ≡ checked_passing contents last passes P end
       unfolding checked_contents checked_amounts
-      refuse-22 q = rw (q, eq-eqb (length contents) P.types one_each, le-ltb (first_above 1000000 (amounts contents last)) (length (amounts contents last)) small)
+      refuse_22 q = rw (q, eq-eqb (length contents) P.types one_each, le-ltb (first_above 1000000 (amounts contents last)) (length (amounts contents last)) small)
 
       -- Otherwise a ceiling is quoted.
       pub refuse_none : passes ≡ true → found P end ≡ checked_passing contents last passes P end

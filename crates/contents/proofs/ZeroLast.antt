@@ -14,10 +14,10 @@ use Rattle.weight_checks.specs.Checks.{first_above}
 use Rattle.contents.specs.Contents.{amounts, checked_amounts, checked_contents}
 
 -- A 0 behind a list is above no limit. Where a number of the list is above it, the first that is stays the first,
-first-stays : (limit : ℕ) (xs : List ℕ) → first_above limit xs < length xs → first_above limit (xs ++ (0 ∷ [])) ≡ first_above limit xs
+first_stays : (limit : ℕ) (xs : List ℕ) → first_above limit xs < length xs → first_above limit (xs ++ (0 ∷ [])) ≡ first_above limit xs
 unfolding first_above
-first-stays limit [] l = absurd (not-suc-le-zero l)
-first-stays limit (x ∷ xs) l = go (ltb limit x) l (first-stays limit xs)
+first_stays limit [] l = absurd (not-suc-le-zero l)
+first_stays limit (x ∷ xs) l = go (ltb limit x) l (first_stays limit xs)
   where
     go : (b : Bool) → cond b 0 (suc (first_above limit xs)) < suc (length xs)
         → (first_above limit xs < length xs → first_above limit (xs ++ (0 ∷ [])) ≡ first_above limit xs)
@@ -51,7 +51,7 @@ module _ (contents last : List ℕ) (P : Plant) (end : ℕ) where
           ≡ cond b (fault 21 (first_above 1000000 given)) (found P end)
       go true e =
           let l = ltb-true _ _ e in
-          rw (first-stays 1000000 given l, lt-ltb (first_above 1000000 given) (length (given ++ (0 ∷ []))) (omega (arith, l, length-append given (0 ∷ [])))) refl
+          rw (first_stays 1000000 given l, lt-ltb (first_above 1000000 given) (length (given ++ (0 ∷ []))) (omega (arith, l, length-append given (0 ∷ [])))) refl
       go false e = rw (le-ltb (first_above 1000000 (given ++ (0 ∷ []))) (length (given ++ (0 ∷ []))) (none_still 1000000 given (ltb-false _ _ e))) refl
 
   -- and the checks of the contents say the same.

@@ -19,10 +19,10 @@ use Rattle.cycle_counts.specs.Pairs.{rows_between}
 -- ---- the table
 
 -- No more rows lead from one state to another than there are.
-pub between-few : (left entered : List ℕ) (s t k n : ℕ) → rows_between left entered s t k n ≤ n
+pub between_few : (left entered : List ℕ) (s t k n : ℕ) → rows_between left entered s t k n ≤ n
 unfolding rows_between
-between-few left entered s t k zero = omega arith
-between-few left entered s t k (suc n) = go (eqb (column left k) s) (eqb (column entered k) t) (between-few left entered s t (suc k) n)
+between_few left entered s t k zero = omega arith
+between_few left entered s t k (suc n) = go (eqb (column left k) s) (eqb (column entered k) t) (between_few left entered s t (suc k) n)
   where
     go : (a b : Bool) → rows_between left entered s t (suc k) n ≤ n → cond a (cond b 1 0) 0 + rows_between left entered s t (suc k) n ≤ suc n
     go true true h = omega arith

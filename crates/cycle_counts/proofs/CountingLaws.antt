@@ -146,50 +146,50 @@ module _ {entered next head into between : List ℕ} {last start : ℕ} {marks :
 
   module _ {k r : ℕ} (g : Counting entered next head into between last start marks depth low high room k r) where
     -- No room is left: all is counted.
-    pub counting-stops : r ≡ 0 → Counted entered next head into between last start marks depth low high room 0
-    counting-stops e rows d left first tables l = taking_stops (g.counts rows d left first tables l) e
+    pub counting_stops : r ≡ 0 → Counted entered next head into between last start marks depth low high room 0
+    counting_stops e rows d left first tables l = taking_stops (g.counts rows d left first tables l) e
 
     -- No row is left: all is counted.
-    pub counting-ends : high ≤ k → Counted entered next head into between last start marks depth low high room r
-    counting-ends h rows d left first tables l =
+    pub counting_ends : high ≤ k → Counted entered next head into between last start marks depth low high room r
+    counting_ends h rows d left first tables l =
         taking_ends (g.counts rows d left first tables l) (rest_none left entered first last start marks rows (column left low) high k h)
 
     module _ (low_in : low ≤ k) (inside : k < high) (high_in : high ≤ last) {step : Step} (step_is : step ≡ step_of entered start marks k) {n : ℕ} (next_is : n ≡ column next k) where
       -- For all rows that have these links, and every path, it is such a turn.
-      turn-of : (rows left : List ℕ) (first : ℕ) → Linked left next head first last → first ≤ low
+      turn_of : (rows left : List ℕ) (first : ℕ) → Linked left next head first last → first ≤ low
           → Turn left entered next head first last start marks rows (column left low) high k n step
-      turn-of rows left first links l =
+      turn_of rows left first links l =
           record { links = links; low_in = omega arith; inside = inside; high_in = high_in; leaves = g.leaves left first links l inside; step_is = step_is; next_is = next_is }
 
       -- A row that does nothing takes nothing,
-      pub counting-skip : step ≡ Steps.Skip → Counting entered next head into between last start marks depth low high room n r
-      counting-skip e =
+      pub counting_skip : step ≡ Steps.Skip → Counting entered next head into between last start marks depth low high room n r
+      counting_skip e =
           record {
-            leaves = λ left first links l. turn_leaves (turn-of [] left first links l);
+            leaves = λ left first links l. turn_leaves (turn_of [] left first links l);
             counts = λ rows d left first tables l.
-                taking_part (g.counts rows d left first tables l) [] _ (turn_skip (turn-of rows left first tables.links l) e) r (omega arith);
+                taking_part (g.counts rows d left first tables l) [] _ (turn_skip (turn_of rows left first tables.links l) e) r (omega arith);
           }
 
       -- one that closes the cycle takes its row count and its rows,
-      pub counting-close : step ≡ Steps.Close → (r' : ℕ) → r' ≡ r - (depth + 2) → Counting entered next head into between last start marks depth low high room n r'
-      counting-close e r' taken =
+      pub counting_close : step ≡ Steps.Close → (r' : ℕ) → r' ≡ r - (depth + 2) → Counting entered next head into between last start marks depth low high room n r'
+      counting_close e r' taken =
           record {
-            leaves = λ left first links l. turn_leaves (turn-of [] left first links l);
+            leaves = λ left first links l. turn_leaves (turn_of [] left first links l);
             counts = λ rows d left first tables l.
-                taking_part (g.counts rows d left first tables l) (entry_of rows k) _ (turn_close (turn-of rows left first tables.links l) e) r'
+                taking_part (g.counts rows d left first tables l) (entry_of rows k) _ (turn_close (turn_of rows left first tables.links l) e) r'
                 (omega (arith, taken, d, entry_length rows k));
           }
 
       -- and one that enters a state takes what the extensions from there need.
-      pub counting-enter : (s : ℕ) → step ≡ Steps.Enter s → s < 24 → unleft marks ≡ suc (unleft (set marks s 1)) → (r' : ℕ)
+      pub counting_enter : (s : ℕ) → step ≡ Steps.Enter s → s < 24 → unleft marks ≡ suc (unleft (set marks s 1)) → (r' : ℕ)
           → Onward entered next head into between last start marks depth s r r' → Counting entered next head into between last start marks depth low high room n r'
-      counting-enter s e b u r' f =
+      counting_enter s e b u r' f =
           record {
-            leaves = λ left first links l. turn_leaves (turn-of [] left first links l);
+            leaves = λ left first links l. turn_leaves (turn_of [] left first links l);
             counts = λ rows d left first tables l.
                 taking_part (g.counts rows d left first tables l)
                 (rest left entered first last start (set marks s 1) (longer rows k) (column left (column head s)) last (column head s)) _
-                (turn_enter (turn-of rows left first tables.links l) s e b u (roomy rows) (length rows) (take-append_seam rows (0 ∷ []))
+                (turn_enter (turn_of rows left first tables.links l) s e b u (roomy rows) (length rows) (take-append_seam rows (0 ∷ []))
                 (omega (arith, roomy-length rows)) (column head s) refl)
                 r'
                 (f.takes (longer rows k) (omega (arith, d, longer-length rows k)) left first tables);

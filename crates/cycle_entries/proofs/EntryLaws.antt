@@ -6,14 +6,14 @@ use native.Mathlib.Numerals.{add-one}
 use native.Mathlib.Omega.{arith}
 use lib.ListN.{length, set, take, length-append}
 use lib.Seq.{sets, length-take-le}
-use Rattle.livelock.proofs.StoreLaws.{sets-append}
+use Rattle.livelock.proofs.StoreLaws.{sets_append}
 use Rattle.cycle_entries.specs.Entries.{entry_of, Added}
 
 -- The row count, the rows of a path and one row more are a cycle's entry.
-pub sets-entry : (path l out : List ℕ) (pos depth row i : ℕ) → depth ≤ length path → i ≡ depth → out ≡ sets (set l pos (depth + 1)) (pos + 1) (take i path)
+pub sets_entry : (path l out : List ℕ) (pos depth row i : ℕ) → depth ≤ length path → i ≡ depth → out ≡ sets (set l pos (depth + 1)) (pos + 1) (take i path)
     → set out (pos + 1 + depth) row ≡ sets l pos (entry_of (take depth path) row)
-sets-entry path l out pos depth row i h g e =
-    rw (e, g, add-one pos, length-take-le depth path h, sets-append (take depth path) (row ∷ []) (set l pos (depth + 1)) (suc pos), length-take-le depth path h)
+sets_entry path l out pos depth row i h g e =
+    rw (e, g, add-one pos, length-take-le depth path h, sets_append (take depth path) (row ∷ []) (set l pos (depth + 1)) (suc pos), length-take-le depth path h)
 
 -- The length of a cycle's entry.
 entry_length : (path : List ℕ) (depth k : ℕ) → depth ≤ length path → length (entry_of (take depth path) k) ≡ depth + 2

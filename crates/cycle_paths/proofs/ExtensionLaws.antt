@@ -29,10 +29,10 @@ use Rattle.cycle_paths.specs.Extensions.{step_of, entries_with, extensions}
 use Rattle.cycle_paths.specs.Inner.Extending.{PathKept, Extended}
 use Rattle.cycle_paths.proofs.ElementLaws.{up_from_in, in_up_from}
 use Rattle.cycle_paths.proofs.OrderLaws.{increasing_up_from}
-use Rattle.state_marks.proofs.MarkLaws.{marks-length}
+use Rattle.state_marks.proofs.MarkLaws.{marks_length}
 use Rattle.cycle_paths.proofs.MarkLaws.{unleft_fewer, now_left, others_unleft, left-length}
-use Rattle.cycle_paths.proofs.PathLaws.{same-paths}
-use Rattle.cycle_paths.proofs.FillingLaws.{Adding, adding_begins, adding_named, adding-none, adding-part, adding-ends, adding-stops}
+use Rattle.cycle_paths.proofs.PathLaws.{same_paths}
+use Rattle.cycle_paths.proofs.FillingLaws.{Adding, adding_begins, adding_named, adding_none, adding_part, adding_ends, adding_stops}
 
 -- ---- entries
 
@@ -242,7 +242,7 @@ pub extensions_closed : (left entered into : List ℕ) (first last start : ℕ) 
 unfolding extensions
 extensions_closed left entered into first last start marks after rows at low n from shut l m low_in high_in =
     ap (entries_with rows)
-    (same-paths (column left) (column entered) start (up_from first (last - first)) 24 (λ k i. let r = in_range k i in from.enters_in k r.0 r.1) marks after shut.kept spared l m
+    (same_paths (column left) (column entered) start (up_from first (last - first)) 24 (λ k i. let r = in_range k i in from.enters_in k r.0 r.1) marks after shut.kept spared l m
     (increasing_up_from first (last - first)) at (up_from low n) (increasing_up_from low n) among)
   where
     in_range : (k : ℕ) → In k (up_from first (last - first)) → (first ≤ k) × (k < last)
@@ -266,7 +266,7 @@ pub closed_first : (into : List ℕ) (start low marked : ℕ) (after : List ℕ)
     → Closed into start (marks_of 24 marked) after → Closed into start (left_only 24 start) after
 closed_first into start low marked after l below marked-is shut =
     record {
-      kept = λ x i e. others_unleft 24 start x (λ p. now_left (marks_of 24 low) start (omega (arith, marks-length 24 low)) (was x i e p));
+      kept = λ x i e. others_unleft 24 start x (λ p. now_left (marks_of 24 low) start (omega (arith, marks_length 24 low)) (was x i e p));
       to_start = λ x a i f u. shut.to_start x a i f (free x a i);
       onward = λ x y a i j f o u. shut.onward x y a i j f o (free x a i);
     }
@@ -283,7 +283,7 @@ closed_first into start low marked after l below marked-is shut =
 -- No more states are not yet left than before.
 pub closed_unleft : (into : List ℕ) (start : ℕ) (marks after : ℕ) → Closed into start (marks_of 24 marks) (marks_of 24 after) → unleft (marks_of 24 after) ≤ unleft (marks_of 24 marks)
 closed_unleft into start marks after shut =
-    unleft_fewer (marks_of 24 after) (marks_of 24 marks) (marks-length 24 after ∙ sym (marks-length 24 marks)) (λ x l. shut.kept x (omega (arith, marks-length 24 marks)))
+    unleft_fewer (marks_of 24 after) (marks_of 24 marks) (marks_length 24 after ∙ sym (marks_length 24 marks)) (λ x l. shut.kept x (omega (arith, marks_length 24 marks)))
 
 -- ---- the loop over linked rows
 
@@ -306,55 +306,55 @@ module _ {entered next head into : List ℕ} {last start : ℕ} {marks rows : Li
 
   module _ {k used : ℕ} {out : List ℕ} (g : Extending entered next head into last start marks rows low high limit before pos k used out) where
     -- The count is above the limit: all is added.
-    pub extending-stops : limit < used → Extended entered next head into last start marks rows low high limit before pos used out
-    extending-stops h left first links from l = adding-stops (g.adds left first links from l) h
+    pub extending_stops : limit < used → Extended entered next head into last start marks rows low high limit before pos used out
+    extending_stops h left first links from l = adding_stops (g.adds left first links from l) h
 
     -- No row is left: all is added.
-    pub extending-ends : high ≤ k → Extended entered next head into last start marks rows low high limit before pos used out
-    extending-ends h left first links from l = adding-ends (g.adds left first links from l) (rest_none left entered first last start marks rows (column left low) high k h)
+    pub extending_ends : high ≤ k → Extended entered next head into last start marks rows low high limit before pos used out
+    extending_ends h left first links from l = adding_ends (g.adds left first links from l) (rest_none left entered first last start marks rows (column left low) high k h)
 
     module _ (low_in : low ≤ k) (inside : k < high) (high_in : high ≤ last) {step : Step} (step_is : step ≡ step_of entered start marks k) {n : ℕ} (next_is : n ≡ column next k) where
       -- For all rows that have these links it is such a turn.
-      turn-of : (left : List ℕ) (first : ℕ) → Linked left next head first last → first ≤ low
+      turn_of : (left : List ℕ) (first : ℕ) → Linked left next head first last → first ≤ low
           → Turn left entered next head first last start marks rows (column left low) high k n step
-      turn-of left first links l =
+      turn_of left first links l =
           record { links = links; low_in = omega arith; inside = inside; high_in = high_in; leaves = g.leaves left first links l inside; step_is = step_is; next_is = next_is }
 
       -- A row that does nothing is passed over,
-      pub extending-skip : step ≡ Steps.Skip → Extending entered next head into last start marks rows low high limit before pos n used out
-      extending-skip e =
+      pub extending_skip : step ≡ Steps.Skip → Extending entered next head into last start marks rows low high limit before pos n used out
+      extending_skip e =
           record {
-            leaves = λ left first links l. turn_leaves (turn-of left first links l);
-            adds = λ left first links from l. adding-none (g.adds left first links from l) _ (turn_skip (turn-of left first links l) e);
+            leaves = λ left first links l. turn_leaves (turn_of left first links l);
+            adds = λ left first links from l. adding_none (g.adds left first links from l) _ (turn_skip (turn_of left first links l) e);
           }
 
       module _ {used' : ℕ} {out' : List ℕ} (same : length out' ≡ length out) where
         -- one that closes the cycle adds it,
-        pub extending-close : step ≡ Steps.Close → (path : List ℕ) (depth : ℕ) → take depth path ≡ rows → Added limit out used (entry_of (take depth path) k) used' out'
+        pub extending_close : step ≡ Steps.Close → (path : List ℕ) (depth : ℕ) → take depth path ≡ rows → Added limit out used (entry_of (take depth path) k) used' out'
             → Extending entered next head into last start marks rows low high limit before pos n used' out'
-        extending-close e path depth rows_are f =
+        extending_close e path depth rows_are f =
             record {
-              leaves = λ left first links l. turn_leaves (turn-of left first links l);
+              leaves = λ left first links l. turn_leaves (turn_of left first links l);
               adds = λ left first links from l.
-                  adding-part (g.adds left first links from l) _ _ (turn_close (turn-of left first links l) e) used' out' same
+                  adding_part (g.adds left first links from l) _ _ (turn_close (turn_of left first links l) e) used' out' same
                   (subst (λ (z : List ℕ). Added limit out used (entry_of z k) used' out') rows_are f);
             }
 
         -- and one that enters a state adds the extensions of the longer path, though states that are dead ends are marked for them.
-        pub extending-enter : (s : ℕ) → step ≡ Steps.Enter s → s < 24 → unleft marks ≡ suc (unleft (set marks s 1)) → (path : List ℕ) (depth : ℕ) → take depth path ≡ rows
+        pub extending_enter : (s : ℕ) → step ≡ Steps.Enter s → s < 24 → unleft marks ≡ suc (unleft (set marks s 1)) → (path : List ℕ) (depth : ℕ) → take depth path ≡ rows
             → depth < length path → (begin : ℕ) → begin ≡ column head s → (marked closed : List ℕ) → marked ≡ set marks s 1 → length marked ≡ 24 → length closed ≡ 24
             → Closed into start marked closed → (end room : ℕ) → end ≡ last → room ≡ limit
             → Extended entered next head into last start closed (take (depth + 1) (set path depth k)) begin end room out used used' out'
             → Extending entered next head into last start marks rows low high limit before pos n used' out'
-        extending-enter s e b u path depth rows_are room begin begin-is marked closed marked-is marked-length closed-length shut end room' end_is room-is f =
+        extending_enter s e b u path depth rows_are room begin begin-is marked closed marked-is marked-length closed-length shut end room' end_is room-is f =
             record {
-              leaves = λ left first links l. turn_leaves (turn-of left first links l);
+              leaves = λ left first links l. turn_leaves (turn_of left first links l);
               adds = λ left first links from l.
                   let head_in = links.head_in s b in
                   let longer = take (depth + 1) (set path depth k) in
                   let low_in : first ≤ begin = omega (arith, begin-is, head_in.0) in
                   let within : begin + (last - begin) ≤ last = omega (arith, begin-is, head_in.1) in
-                  adding-part (g.adds left first links from l) _ _ (turn_enter (turn-of left first links l) s e b u path depth rows_are room begin begin-is) used' out' same
+                  adding_part (g.adds left first links from l) _ _ (turn_enter (turn_of left first links l) s e b u path depth rows_are room begin begin-is) used' out' same
                   (subst
                   (λ (z : List ℕ). Added limit out used z used' out')
                   (extensions_closed left entered into first last start marked closed longer (column left begin) begin (last - begin) from shut marked-length closed-length low_in within

@@ -12,11 +12,11 @@ use Rattle.livelock.proofs.ListLaws.{get_d_replicate_default}
 use Rattle.cycle_paths.specs.Cycles.{unleft, left_only}
 
 -- Leaving a state that is not yet left makes those not yet left one fewer.
-pub unleft-falls : (marks : List ℕ) (s : ℕ) → s < length marks → get_or marks s 0 ≡ 0 → unleft marks ≡ suc (unleft (set marks s 1))
+pub unleft_falls : (marks : List ℕ) (s : ℕ) → s < length marks → get_or marks s 0 ≡ 0 → unleft marks ≡ suc (unleft (set marks s 1))
 unfolding unleft
-unleft-falls [] s l e = absurd (not-suc-le-zero l)
-unleft-falls (x ∷ marks) zero l e = rw e (omega arith)
-unleft-falls (x ∷ marks) (suc s) l e = omega (arith, unleft-falls marks s (le_of_suc-le-suc l) e)
+unleft_falls [] s l e = absurd (not-suc-le-zero l)
+unleft_falls (x ∷ marks) zero l e = rw e (omega arith)
+unleft_falls (x ∷ marks) (suc s) l e = omega (arith, unleft_falls marks s (le_of_suc-le-suc l) e)
 
 -- Where more states are marked, no more are not yet left.
 pub unleft_fewer : (after marks : List ℕ) → length after ≡ length marks → ((x : ℕ) → x < length marks → get_or after x 0 ≡ 0 → get_or marks x 0 ≡ 0) → unleft after ≤ unleft marks

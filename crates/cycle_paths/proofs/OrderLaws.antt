@@ -9,7 +9,7 @@ use Rattle.livelock.specs.Lists.{below, All}
 use Rattle.livelock.specs.Orders.{Before}
 use Rattle.livelock.specs.Plants.{Plant}
 use Rattle.livelock.proofs.ListLaws.{all_below}
-use Rattle.livelock.proofs.Orders.{before-asymmetric}
+use Rattle.livelock.proofs.Orders.{before_asymmetric}
 use Rattle.cycle_paths.specs.Listings.{In, Ascending, IsListing}
 use Rattle.cycle_paths.specs.Cycles.{joined, selected}
 use Rattle.cycle_paths.specs.Rows.{up_from}
@@ -109,7 +109,7 @@ ordered_ascending (c ∷ cs) a = (a.0, ordered_ascending cs a.1)
 -- A machine has one listing.
 pub one_listing : (P : Plant) (m : ℕ) (cs ds : List (List ℕ)) → IsListing P m cs → IsListing P m ds → cs ≡ ds
 one_listing P m cs ds a b =
-    ordered_same Before before-asymmetric cs ds (ascending_ordered cs a.ascending) (ascending_ordered ds b.ascending)
+    ordered_same Before before_asymmetric cs ds (ascending_ordered cs a.ascending) (ascending_ordered ds b.ascending)
     (λ c i. b.every c (a.only c i)) (λ c i. a.every c (b.only c i))
 
 -- Cycles with the same row in front stay in order.

@@ -14,13 +14,13 @@ use borrow.Author.Tests.{eqb-true, eqb-false, ltb-false, eq-eqb, ne_eqb, le-ltb}
 use Rattle.livelock.specs.Lists.{All, Distinct}
 use Rattle.livelock.specs.Orders.{Before}
 use Rattle.livelock.specs.Cycles.{Walk}
-use Rattle.livelock.proofs.ListLaws.{all_weaken, all_both, all_of_map, all-map_of}
-use Rattle.livelock.proofs.Orders.{before-asymmetric}
+use Rattle.livelock.proofs.ListLaws.{all_weaken, all_both, all_of_map, all_map_of}
+use Rattle.livelock.proofs.Orders.{before_asymmetric}
 use Rattle.cycle_paths.specs.Listings.{In}
 use Rattle.cycle_paths.specs.Cycles.{unleft, paths_by, paths}
 use Rattle.cycle_paths.proofs.ElementLaws.{prefixed_in, in_prefixed, Given, joined_in, in_joined}
 use Rattle.cycle_paths.proofs.OrderLaws.{Ordered, Increasing, Begins, ordered_same, ordered_prefixed, ordered_joined}
-use Rattle.cycle_paths.proofs.MarkLaws.{unleft-falls, now_left, still_left, was_unleft}
+use Rattle.cycle_paths.proofs.MarkLaws.{unleft_falls, now_left, still_left, was_unleft}
 
 module _ (src dst : ℕ → ℕ) (start : ℕ) where
   -- How a path goes on after row k: it is at its end, or `rest` goes on from a state above `start` that is not yet left, as `further` says.
@@ -66,22 +66,22 @@ module _ (src dst : ℕ → ℕ) (start : ℕ) where
             record { rest = x.rest; is = x.is; leaves = eqb-true _ _ p; goes = extends (omega arith) (eqb-true _ _ s) x.there }
 
     -- and all of this kind are there.
-    in-by-row : (rest : List ℕ) → src k ≡ at → Onward marks k rest (In rest (onward (dst k))) → In (k ∷ rest) (paths_by src dst start at marks onward k)
+    in_by_row : (rest : List ℕ) → src k ≡ at → Onward marks k rest (In rest (onward (dst k))) → In (k ∷ rest) (paths_by src dst start at marks onward k)
     unfolding In
-    in-by-row rest p (closes q e) = rw (e, eq-eqb (src k) at p, eq-eqb (dst k) start q) (inl refl)
-    in-by-row rest p (extends q u i) =
+    in_by_row rest p (closes q e) = rw (e, eq-eqb (src k) at p, eq-eqb (dst k) start q) (inl refl)
+    in_by_row rest p (extends q u i) =
         let n : dst k ≡ start → ⊥ = λ e. omega arith in
         let l : start ≤ dst k = omega arith in
         rw (eq-eqb (src k) at p, ne_eqb (dst k) start n, le-ltb (dst k) start l, eq-eqb (get_or marks (dst k) 0) 0 u) (in_prefixed k (onward (dst k)) rest i)
 
     -- Each begins with row k,
-    by-row-begins : (c : List ℕ) → In c (paths_by src dst start at marks onward k) → Begins k c
-    by-row-begins c i = let b = by_row c i in (b.rest, b.is)
+    by_row_begins : (c : List ℕ) → In c (paths_by src dst start at marks onward k) → Begins k c
+    by_row_begins c i = let b = by_row c i in (b.rest, b.is)
 
     -- and they are in order if the paths from the state entered are.
-    by-row-ordered : Ordered Before (onward (dst k)) → Ordered Before (paths_by src dst start at marks onward k)
+    by_row_ordered : Ordered Before (onward (dst k)) → Ordered Before (paths_by src dst start at marks onward k)
     unfolding Ordered All
-    by-row-ordered h = go (eqb (src k) at) (eqb (dst k) start) (ltb (dst k) start) (eqb (get_or marks (dst k) 0) 0)
+    by_row_ordered h = go (eqb (src k) at) (eqb (dst k) start) (ltb (dst k) start) (eqb (get_or marks (dst k) 0) 0)
       where
         go : (a b d e : Bool) → Ordered Before (cond a (cond b ((k ∷ []) ∷ []) (cond d [] (cond e (map (λ x. k ∷ x) (onward (dst k))) []))) [])
         go false b d e = tt
@@ -103,10 +103,10 @@ module _ (src dst : ℕ → ℕ) (start : ℕ) where
       pub rows : All (λ k. In k all) c
 
     -- The paths by extension are such paths,
-    pub paths-only : (n at : ℕ) (marks ks c : List ℕ) → ((k : ℕ) → In k ks → In k all) → In c (paths n src dst all start at marks ks) → PathAmong at marks c
+    pub paths_only : (n at : ℕ) (marks ks c : List ℕ) → ((k : ℕ) → In k ks → In k all) → In c (paths n src dst all start at marks ks) → PathAmong at marks c
     unfolding paths In PathBack All
-    paths-only zero at marks ks c among i = absurd i
-    paths-only (suc n) at marks ks c among i = go (joined_in ks _ c i) (λ s d. paths-only n s (set marks s 1) all d (λ k j. j))
+    paths_only zero at marks ks c among i = absurd i
+    paths_only (suc n) at marks ks c among i = go (joined_in ks _ c i) (λ s d. paths_only n s (set marks s 1) all d (λ k j. j))
       where
         on : (k : ℕ) (rest : List ℕ) → src k ≡ at → In k all → ((s : ℕ) (d : List ℕ) → In d (paths_from n marks s) → PathAmong s (set marks s 1) d)
             → Onward marks k rest (In rest (paths_from n marks (dst k))) → PathAmong at marks (k ∷ rest)
@@ -122,45 +122,45 @@ module _ (src dst : ℕ → ℕ) (start : ℕ) where
             subst (PathAmong at marks) (sym b.is) (on g.number b.rest b.leaves (among g.number g.of) later b.goes)
 
     -- in ascending order,
-    pub paths-ordered : (n at : ℕ) (marks ks : List ℕ) → Increasing ks → Increasing all → Ordered Before (paths n src dst all start at marks ks)
+    pub paths_ordered : (n at : ℕ) (marks ks : List ℕ) → Increasing ks → Increasing all → Ordered Before (paths n src dst all start at marks ks)
     unfolding paths Ordered
-    paths-ordered zero at marks ks u v = tt
-    paths-ordered (suc n) at marks ks u v =
+    paths_ordered zero at marks ks u v = tt
+    paths_ordered (suc n) at marks ks u v =
         ordered_joined ks (paths_by src dst start at marks (paths_from n marks)) u
-        (λ k. by-row-ordered at marks (paths_from n marks) k (paths-ordered n (dst k) (set marks (dst k) 1) all v v))
-        (by-row-begins at marks (paths_from n marks))
+        (λ k. by_row_ordered at marks (paths_from n marks) k (paths_ordered n (dst k) (set marks (dst k) 1) all v v))
+        (by_row_begins at marks (paths_from n marks))
 
     -- and where one row is given for the first, each begins with it.
-    pub paths-begin : (n at : ℕ) (marks : List ℕ) (k : ℕ) (c : List ℕ) → In c (paths n src dst all start at marks (k ∷ [])) → Begins k c
+    pub paths_begin : (n at : ℕ) (marks : List ℕ) (k : ℕ) (c : List ℕ) → In c (paths n src dst all start at marks (k ∷ [])) → Begins k c
     unfolding paths In
-    paths-begin zero at marks k c i = absurd i
-    paths-begin (suc n) at marks k c i = let g = joined_in (k ∷ []) _ c i in one g.number g.of g.there
+    paths_begin zero at marks k c i = absurd i
+    paths_begin (suc n) at marks k c i = let g = joined_in (k ∷ []) _ c i in one g.number g.of g.there
       where
         one : (j : ℕ) → In j (k ∷ []) → In c (paths_by src dst start at marks (paths_from n marks) j) → Begins k c
-        one j (inl e) there = subst (λ (x : ℕ). Begins x c) e (by-row-begins at marks (paths_from n marks) j c there)
+        one j (inl e) there = subst (λ (x : ℕ). Begins x c) e (by_row_begins at marks (paths_from n marks) j c there)
         one j (inr e) there = absurd e
 
     -- Each begins with one of the rows given for the first.
-    pub paths-first : (n at : ℕ) (marks ks c : List ℕ) → In c (paths n src dst all start at marks ks) → (k : ℕ) × (rest : List ℕ) × (c ≡ k ∷ rest) × In k ks
+    pub paths_first : (n at : ℕ) (marks ks c : List ℕ) → In c (paths n src dst all start at marks ks) → (k : ℕ) × (rest : List ℕ) × (c ≡ k ∷ rest) × In k ks
     unfolding paths In
-    paths-first zero at marks ks c i = absurd i
-    paths-first (suc n) at marks ks c i =
+    paths_first zero at marks ks c i = absurd i
+    paths_first (suc n) at marks ks c i =
         let g = joined_in ks _ c i in
-        let b = by-row-begins at marks (paths_from n marks) g.number c g.there in
+        let b = by_row_begins at marks (paths_from n marks) g.number c g.there in
         (g.number, b.0, b.1, g.of)
 
     module _ (states : ℕ) (within : (k : ℕ) → In k all → dst k < states) where
       -- And all such paths are there. By induction on the number n that limits their length: the first row is one of the rows given for it,
       -- and if the path goes on, then from the state entered, by rows of `all`. That state is then left, so the states not yet left are
       -- one fewer, and their number stays below n.
-      pub paths-every : (n at : ℕ) (marks ks : List ℕ) (k : ℕ) (rest : List ℕ) → length marks ≡ states → unleft marks < n → In k ks → PathAmong at marks (k ∷ rest)
+      pub paths_every : (n at : ℕ) (marks ks : List ℕ) (k : ℕ) (rest : List ℕ) → length marks ≡ states → unleft marks < n → In k ks → PathAmong at marks (k ∷ rest)
           → In (k ∷ rest) (paths n src dst all start at marks ks)
       unfolding paths PathBack All
-      paths-every zero at marks ks k rest l f i p = absurd (not-suc-le-zero f)
-      paths-every (suc n) at marks ks k rest l f i p =
+      paths_every zero at marks ks k rest l f i p = absurd (not-suc-le-zero f)
+      paths_every (suc n) at marks ks k rest l f i p =
           in_joined ks (paths_by src dst start at marks (paths_from n marks)) (k ∷ rest) k i
-          (in-by-row at marks (paths_from n marks) k rest p.path.0
-          (go rest p.path.1 p.rows.1 (λ j d u r q. paths-every n (dst k) (set marks (dst k) 1) all j d (length-set marks (dst k) 1 ∙ l) u r q)))
+          (in_by_row at marks (paths_from n marks) k rest p.path.0
+          (go rest p.path.1 p.rows.1 (λ j d u r q. paths_every n (dst k) (set marks (dst k) 1) all j d (length-set marks (dst k) 1 ∙ l) u r q)))
         where
           go : (rest : List ℕ) → Onward marks k rest (Further marks k rest) → All (λ j. In j all) rest
               → ((j : ℕ) (d : List ℕ) → unleft (set marks (dst k) 1) < n → In j all → PathAmong (dst k) (set marks (dst k) 1) (j ∷ d) → In (j ∷ d) (paths_from n marks (dst k)))
@@ -168,7 +168,7 @@ module _ (src dst : ℕ → ℕ) (start : ℕ) where
           go rest (closes q e) rows later = closes q e
           go [] (extends q u b) rows later = absurd b
           go (j ∷ d) (extends q u b) rows later =
-              let fewer = unleft-falls marks (dst k) (omega (arith, within k p.rows.0)) u in
+              let fewer = unleft_falls marks (dst k) (omega (arith, within k p.rows.0)) u in
               extends q u (later j d (omega (arith, fewer)) rows.0 (record { path = b; rows = rows }))
 
   -- ---- paths and cycles
@@ -231,7 +231,7 @@ module _ (src dst : ℕ → ℕ) (start : ℕ) where
         extends (omega (arith, high.0)) (ap (λ (z : ℕ). get_or marks z 0) (sym e) ∙ unleft.0)
             (walk_path (dst k) (set marks (dst k) 1) j d w.1 (still_left marks (dst k) start left) high.1
             (all_weaken _ _ (λ x h. get_or-set_other marks (dst k) (src x) 1 0 (λ y. h.1 (e ∙ sym y)) ∙ h.0) d
-            (all_both _ _ d unleft.1 (all-map_of (λ s. src j ≢ s) src d once.0)))
+            (all_both _ _ d unleft.1 (all_map_of (λ s. src j ≢ s) src d once.0)))
             once.1),
       )
 
@@ -250,13 +250,13 @@ module _ (src dst : ℕ → ℕ) (start : ℕ) where
       (kept : (x : ℕ) → x < states → get_or after x 0 ≡ 0 → get_or marks x 0 ≡ 0)
       (spared : (k : ℕ) → In k all → start < src k → (dst k ≡ start) ⊎ (get_or after (dst k) 0 ≡ 0) → get_or marks (src k) 0 ≡ 0 → get_or after (src k) 0 ≡ 0) where
     -- A state above `start` with a path back is not marked: its last state is not, and so none before it.
-    path-spared : (s : ℕ) (now c : List ℕ) → ((x : ℕ) → x < states → get_or now x 0 ≡ 0 → get_or marks x 0 ≡ 0) → All (λ k. In k all) c → start < s → get_or marks s 0 ≡ 0
+    path_spared : (s : ℕ) (now c : List ℕ) → ((x : ℕ) → x < states → get_or now x 0 ≡ 0 → get_or marks x 0 ≡ 0) → All (λ k. In k all) c → start < s → get_or marks s 0 ≡ 0
         → PathBack s now c → get_or after s 0 ≡ 0
     unfolding PathBack All
-    path-spared s now [] sub rows above u p = absurd p
-    path-spared s now (k ∷ rest) sub rows above u p =
+    path_spared s now [] sub rows above u p = absurd p
+    path_spared s now (k ∷ rest) sub rows above u p =
         subst (λ (z : ℕ). get_or after z 0 ≡ 0) p.0
-        (spared k rows.0 (subst (λ (z : ℕ). start < z) (sym p.0) above) (go p.1 (path-spared (dst k) (set now (dst k) 1) rest)) (ap (λ (z : ℕ). get_or marks z 0) p.0 ∙ u))
+        (spared k rows.0 (subst (λ (z : ℕ). start < z) (sym p.0) above) (go p.1 (path_spared (dst k) (set now (dst k) 1) rest)) (ap (λ (z : ℕ). get_or marks z 0) p.0 ∙ u))
       where
         go : Onward now k rest (Further now k rest)
             → (((x : ℕ) → x < states → get_or (set now (dst k) 1) x 0 ≡ 0 → get_or marks x 0 ≡ 0) → All (λ j. In j all) rest → start < dst k → get_or marks (dst k) 0 ≡ 0 → Further now k rest → get_or after (dst k) 0 ≡ 0)
@@ -265,11 +265,11 @@ module _ (src dst : ℕ → ℕ) (start : ℕ) where
         go (extends q v b) later = inr (later (λ x l h. sub x l (was_unleft now (dst k) x v h)) rows.1 q (sub (dst k) (within k rows.0) v) b)
 
     -- So a path back among the states not marked at first is one among those not marked after,
-    path-after : (at : ℕ) (now then c : List ℕ) → length now ≡ states → ((x : ℕ) → x < states → get_or now x 0 ≡ 0 → get_or marks x 0 ≡ 0)
+    path_after : (at : ℕ) (now then c : List ℕ) → length now ≡ states → ((x : ℕ) → x < states → get_or now x 0 ≡ 0 → get_or marks x 0 ≡ 0)
         → ((x : ℕ) → x < states → get_or after x 0 ≡ 0 → get_or now x 0 ≡ 0 → get_or then x 0 ≡ 0) → All (λ k. In k all) c → PathBack at now c → PathBack at then c
     unfolding PathBack All
-    path-after at now then [] l sub still rows p = absurd p
-    path-after at now then (k ∷ rest) l sub still rows p = (p.0, go p.1 (path-after (dst k) (set now (dst k) 1) (set then (dst k) 1) rest))
+    path_after at now then [] l sub still rows p = absurd p
+    path_after at now then (k ∷ rest) l sub still rows p = (p.0, go p.1 (path_after (dst k) (set now (dst k) 1) (set then (dst k) 1) rest))
       where
         go : Onward now k rest (Further now k rest)
             → (length (set now (dst k) 1) ≡ states → ((x : ℕ) → x < states → get_or (set now (dst k) 1) x 0 ≡ 0 → get_or marks x 0 ≡ 0)
@@ -279,16 +279,16 @@ module _ (src dst : ℕ → ℕ) (start : ℕ) where
         go (extends q u b) later =
             let w = within k rows.0 in
             let sub' : (x : ℕ) → x < states → get_or (set now (dst k) 1) x 0 ≡ 0 → get_or marks x 0 ≡ 0 = λ x i h. sub x i (was_unleft now (dst k) x u h) in
-            let v : get_or after (dst k) 0 ≡ 0 = path-spared (dst k) (set now (dst k) 1) rest sub' rows.1 q (sub (dst k) w u) b in
+            let v : get_or after (dst k) 0 ≡ 0 = path_spared (dst k) (set now (dst k) 1) rest sub' rows.1 q (sub (dst k) w u) b in
             extends q (still (dst k) w v u)
             (later (length-set now (dst k) 1 ∙ l) sub' (λ x i a. both_left now then (dst k) x (omega (arith, l)) (still x i a)) rows.1 b)
 
     -- and the other way.
-    path-before : (at : ℕ) (now then c : List ℕ) → length then ≡ states → ((x : ℕ) → x < states → get_or then x 0 ≡ 0 → get_or now x 0 ≡ 0) → All (λ k. In k all) c
+    path_before : (at : ℕ) (now then c : List ℕ) → length then ≡ states → ((x : ℕ) → x < states → get_or then x 0 ≡ 0 → get_or now x 0 ≡ 0) → All (λ k. In k all) c
         → PathBack at then c → PathBack at now c
     unfolding PathBack All
-    path-before at now then [] l sub rows p = absurd p
-    path-before at now then (k ∷ rest) l sub rows p = (p.0, go p.1 (path-before (dst k) (set now (dst k) 1) (set then (dst k) 1) rest))
+    path_before at now then [] l sub rows p = absurd p
+    path_before at now then (k ∷ rest) l sub rows p = (p.0, go p.1 (path_before (dst k) (set now (dst k) 1) (set then (dst k) 1) rest))
       where
         go : Onward then k rest (Further then k rest)
             → (length (set then (dst k) 1) ≡ states → ((x : ℕ) → x < states → get_or (set then (dst k) 1) x 0 ≡ 0 → get_or (set now (dst k) 1) x 0 ≡ 0) → All (λ j. In j all) rest → Further then k rest → Further now k rest)
@@ -299,19 +299,19 @@ module _ (src dst : ℕ → ℕ) (start : ℕ) where
             (later (length-set then (dst k) 1 ∙ l) (λ x i. both_left then now (dst k) x (omega (arith, l, within k rows.0)) (sub x i)) rows.1 b)
 
     -- The paths are the same: both lists are in order and have the same elements.
-    pub same-paths : length marks ≡ states → length after ≡ states → Increasing all → (at : ℕ) (ks : List ℕ) → Increasing ks → ((k : ℕ) → In k ks → In k all)
+    pub same_paths : length marks ≡ states → length after ≡ states → Increasing all → (at : ℕ) (ks : List ℕ) → Increasing ks → ((k : ℕ) → In k ks → In k all)
         → paths (suc (unleft after)) src dst all start at after ks ≡ paths (suc (unleft marks)) src dst all start at marks ks
-    same-paths l m up at ks u among =
-        ordered_same Before before-asymmetric _ _ (paths-ordered all (suc (unleft after)) at after ks u up) (paths-ordered all (suc (unleft marks)) at marks ks u up)
+    same_paths l m up at ks u among =
+        ordered_same Before before_asymmetric _ _ (paths_ordered all (suc (unleft after)) at after ks u up) (paths_ordered all (suc (unleft marks)) at marks ks u up)
         (λ c i.
-        let p = paths-only all (suc (unleft after)) at after ks c among i in
-        back marks l c (paths-first all (suc (unleft after)) at after ks c i) (record { path = path-before at marks after c m kept p.rows p.path; rows = p.rows }))
+        let p = paths_only all (suc (unleft after)) at after ks c among i in
+        back marks l c (paths_first all (suc (unleft after)) at after ks c i) (record { path = path_before at marks after c m kept p.rows p.path; rows = p.rows }))
         (λ c i.
-        let p = paths-only all (suc (unleft marks)) at marks ks c among i in
-        back after m c (paths-first all (suc (unleft marks)) at marks ks c i) (record { path = path-after at marks after c l (λ x i h. h) (λ x i a h. a) p.rows p.path; rows = p.rows }))
+        let p = paths_only all (suc (unleft marks)) at marks ks c among i in
+        back after m c (paths_first all (suc (unleft marks)) at marks ks c i) (record { path = path_after at marks after c l (λ x i h. h) (λ x i a h. a) p.rows p.path; rows = p.rows }))
       where
         back : (now : List ℕ) → length now ≡ states → (c : List ℕ) → (k : ℕ) × (rest : List ℕ) × (c ≡ k ∷ rest) × In k ks → PathAmong all at now c
             → In c (paths (suc (unleft now)) src dst all start at now ks)
         back now e c f p =
             subst (λ (z : List ℕ). In z (paths (suc (unleft now)) src dst all start at now ks)) (sym f.2)
-            (paths-every all states within (suc (unleft now)) at now ks f.0 f.1 e (omega arith) f.3 (subst (PathAmong all at now) f.2 p))
+            (paths_every all states within (suc (unleft now)) at now ks f.0 f.1 e (omega arith) f.3 (subst (PathAmong all at now) f.2 p))

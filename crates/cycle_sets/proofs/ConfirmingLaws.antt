@@ -23,7 +23,7 @@ use Rattle.plant.specs.declared.Fault.{Fault}
 use Rattle.plant.specs.declared.End.{End}
 use Rattle.plant.specs.declared.End.TheVariants as Ends
 use Rattle.plant.proofs.Bounds.{one_bit}
-use Rattle.plant.proofs.OneToOne.{same-fault}
+use Rattle.plant.proofs.OneToOne.{same_fault}
 use Rattle.cycle_sets.specs.Answers.{Answer, confirmed, refused, answer_of}
 use Rattle.set_numbers.specs.Numbers.{entry_begins}
 use Rattle.set_entries.specs.Sets.{entry_at, entries_at, read_set}
@@ -138,19 +138,19 @@ module _ (P : Plant) (set : List ℕ) (es : List Entry) (end : ℕ) (reads : rea
 
 -- Demand 2: for every file and list, the answer that is owed is "confirmed" exactly when the file reads as a plant and the list as a balanced set of it.
 pub confirmed_iff : (file set : List ℕ) (a : Answer) → a ≡ owed (read_plant file) set → (a ≡ confirmed) ↔ ReadsBalanced file set
-confirmed_iff file set a e = (λ h. of-file (read_plant file) refl (sym e ∙ h), λ r. e ∙ to-answer r)
+confirmed_iff file set a e = (λ h. of_file (read_plant file) refl (sym e ∙ h), λ r. e ∙ to_answer r)
   where
     of-set : (P : Plant) (end : ℕ) → read_plant file ≡ found P end → (x : Found (List Entry)) → read_set P set ≡ x → set_answer P x ≡ confirmed → ReadsBalanced file set
     of-set P end p (found es last) q h =
         record { plant = P; file_end = end; entries = es; set_end = last; file_reads = p; set_reads = q; balanced = balanced P set es last q h }
     of-set P end p (fault number place) q h = absurd (false≢true cc)
 
-    of-file : (x : Found Plant) → read_plant file ≡ x → owed x set ≡ confirmed → ReadsBalanced file set
-    of-file (found P end) p h = of-set P end p (read_set P set) refl h
-    of-file (fault number place) p h = absurd (false≢true cc)
+    of_file : (x : Found Plant) → read_plant file ≡ x → owed x set ≡ confirmed → ReadsBalanced file set
+    of_file (found P end) p h = of-set P end p (read_set P set) refl h
+    of_file (fault number place) p h = absurd (false≢true cc)
 
-    to-answer : ReadsBalanced file set → owed (read_plant file) set ≡ confirmed
-    to-answer r =
+    to_answer : ReadsBalanced file set → owed (read_plant file) set ≡ confirmed
+    to_answer r =
         ap (λ (x : Found Plant). owed x set) r.file_reads
         ∙ (ap (set_answer r.plant) r.set_reads ∙ no_sum_below r.plant set r.entries r.set_end r.set_reads r.balanced)
 
@@ -232,4 +232,4 @@ one_to_one (Variants.Refused f) (Variants.Negative m s) e = cc
 one_to_one (Variants.Refused f) (Variants.Refused g) e =
     let n : f.number ≡ g.number = cc in
     let q : f.place ≡ g.place = cc in
-    ap Variants.Refused (same-fault f g n q)
+    ap Variants.Refused (same_fault f g n q)

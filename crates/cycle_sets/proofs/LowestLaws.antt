@@ -19,12 +19,12 @@ module _ (sums : ℕ → ℤ) (t n : ℕ) (x : Answer) (rest : lowest_negative s
     one_more = let e : n - t ≡ suc (n - (t + 1)) = omega arith in rw e at rest
 
     -- A negative sum is the lowest type's,
-    pub type-stops : (z : ℤ) → z ≡ sums t → lt_z z (pos 0) ≡ true → negative t z ≡ x
-    type-stops z e h = rw e (rw (rw e at h) at one_more)
+    pub type_stops : (z : ℤ) → z ≡ sums t → lt_z z (pos 0) ≡ true → negative t z ≡ x
+    type_stops z e h = rw e (rw (rw e at h) at one_more)
 
     -- another is passed over,
-    pub type-goes-on : (z : ℤ) → z ≡ sums t → lt_z z (pos 0) ≡ false → lowest_negative sums (t + 1) (n - (t + 1)) ≡ x
-    type-goes-on z e h = rw (rw e at h) at one_more
+    pub type_goes_on : (z : ℤ) → z ≡ sums t → lt_z z (pos 0) ≡ false → lowest_negative sums (t + 1) (n - (t + 1)) ≡ x
+    type_goes_on z e h = rw (rw e at h) at one_more
 
   -- and after the last type there is none.
   pub types_end : n ≤ t → confirmed ≡ x

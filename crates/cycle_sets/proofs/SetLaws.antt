@@ -16,19 +16,19 @@ use Rattle.livelock.proofs.ListLaws.{get_d_replicate_default}
 use Rattle.livelock.proofs.SumLaws.{sum-append}
 use Rattle.livelock.proofs.Tests.{both_iff, less_iff}
 use Rattle.livelock.specs.Differences.{Difference}
-use Rattle.livelock.proofs.Differences.{difference-shift}
+use Rattle.livelock.proofs.Differences.{difference_shift}
 use Rattle.livelock.proofs.CycleSetLaws.{set_sent, set_taken, set_difference}
 use Rattle.plant.specs.Found.{found, fault, and_then}
 use Rattle.decoding.specs.Tables.{plant_of, Ready}
 use Rattle.decoding.specs.declared.Shape.{Shape}
 use Rattle.plant.specs.declared.Fault.{Fault}
 use Rattle.plant.specs.declared.End.TheVariants as Ends
-use Rattle.decoding.proofs.TableLaws.{rows-counted}
+use Rattle.decoding.proofs.TableLaws.{rows_counted}
 use Rattle.set_numbers.specs.Numbers.{entry_begins, part}
 use Rattle.set_entries.specs.Sets.{entry_at, entries_at, read_set}
 use Rattle.set_entries.specs.Entries.{RowsThere, entry_in}
 use Rattle.set_sums.specs.Sums.{Within, having, Added}
-use Rattle.set_sums.proofs.EffectLaws.{difference-unique}
+use Rattle.set_sums.proofs.EffectLaws.{difference_unique}
 use Rattle.cycle_sets.specs.Inner.Judging.{SumsOf, JudgedAs, entries_read, fault_met}
 use Rattle.set_numbers.proofs.FoundLaws.{tested, place_same}
 use Rattle.set_entries.proofs.PartLaws.{part_length, part_below}
@@ -38,9 +38,9 @@ use Rattle.cycle_sets.proofs.TableLaws.{sent_is, taken_is}
 -- ---- sums of entries
 
 -- One entry more.
-entry-added : (f : List ℕ → ℕ) (es : List Entry) (e : Entry) → sum (λ x. x.repeats * f x.cycle) (es ++ (e ∷ [])) ≡ sum (λ x. x.repeats * f x.cycle) es + e.repeats * f e.cycle
+entry_added : (f : List ℕ → ℕ) (es : List Entry) (e : Entry) → sum (λ x. x.repeats * f x.cycle) (es ++ (e ∷ [])) ≡ sum (λ x. x.repeats * f x.cycle) es + e.repeats * f e.cycle
 unfolding sum
-entry-added f es e = omega (arith, sum-append (λ x. x.repeats * f x.cycle) es (e ∷ []))
+entry_added f es e = omega (arith, sum-append (λ x. x.repeats * f x.cycle) es (e ∷ []))
 
 -- ---- the entries one after the other
 
@@ -77,7 +77,7 @@ module _ (s : Shape) (table set : List ℕ) where
     pub within : Within (before * 128000000) sums
     pub entries : List Entry
     pub rest : entries_at (256 - before) P set at entries ≡ read_set P set
-    pub sums-are : SumsOf P entries sums
+    pub sums_are : SumsOf P entries sums
 
   -- All sums are 0 at first,
   zeros : (i : ℕ) → get_or (replicate 64 (pos 0)) i (pos 0) ≡ pos 0
@@ -94,7 +94,7 @@ module _ (s : Shape) (table set : List ℕ) where
         within = λ i. rw (zeros i) (omega arith);
         entries = [];
         rest = refl;
-        sums-are = zeros;
+        sums_are = zeros;
       }
 
   module _ (before at : ℕ) (sums : List ℤ) (g : Going before at sums) where
@@ -103,8 +103,8 @@ module _ (s : Shape) (table set : List ℕ) where
     stops number place e = subst (JudgedAs P sums (Ends.Fault (record { number = number; place = place }))) e (fault_met {number = number} {place = place})
 
     -- Where no entry begins, that is the fault.
-    pub no-entry : (f : Fault) → entry_begins (256 - before) set at ≡ fault f.number f.place → JudgedAs P sums (Ends.Fault f) (read_set P set)
-    no-entry f h = stops f.number f.place (sym (begin_stops P set g.entries at (256 - before) f.number f.place h) ∙ g.rest)
+    pub no_entry : (f : Fault) → entry_begins (256 - before) set at ≡ fault f.number f.place → JudgedAs P sums (Ends.Fault f) (read_set P set)
+    no_entry f h = stops f.number f.place (sym (begin_stops P set g.entries at (256 - before) f.number f.place h) ∙ g.rest)
 
     module _ (a : ℕ) (begins : entry_begins (256 - before) set at ≡ found tt a) where
       -- Where one begins, fewer than 256 came before it.
@@ -118,8 +118,8 @@ module _ (s : Shape) (table set : List ℕ) where
           sym (begin_goes_on P set g.entries at (256 - (before + 1)) a (rw n at begins)) ∙ (rw n at g.rest)
 
       -- A fault of the entry is the set's.
-      pub entry-stops : (f : Fault) → fault f.number f.place ≡ entry_at P set at → JudgedAs P sums (Ends.Fault f) (read_set P set)
-      entry-stops f h = stops f.number f.place (rw (← h) at one_more)
+      pub entry_stops : (f : Fault) → fault f.number f.place ≡ entry_at P set at → JudgedAs P sums (Ends.Fault f) (read_set P set)
+      entry_stops f h = stops f.number f.place (rw (← h) at one_more)
 
       module _ (ready : Ready s table) (next : ℕ) (h : found (entry_in set at) next ≡ entry_at P set at) where
         -- The entry that is read, what it is, and its rows.
@@ -133,30 +133,30 @@ module _ (s : Shape) (table set : List ℕ) where
         ks = part set (at + 3) next
 
         -- What the function that adds the rows asks.
-        pub rows-there : RowsThere table set (at + 3) next
-        rows-there = record { there = read.rows_below.there; room = λ i p q. omega (arith, read.rows_below.small i p q, rows-counted s table, ready.sound.room) }
+        pub rows_there : RowsThere table set (at + 3) next
+        rows_there = record { there = read.rows_below.there; room = λ i p q. omega (arith, read.rows_below.small i p q, rows_counted s table, ready.sound.room) }
 
         module _ (after : List ℤ) (added : Added table (get_or set (at + 1) 0) ks sums after) where
           -- The rows of the entry are rows of the table.
           rows_are : All (λ k. k < s.rows) ks
           rows_are = part_below s.rows set (next - (at + 3)) (at + 3) next (omega (arith, read.next_is))
-              (record { there = read.rows_below.there; small = λ i p q. omega (arith, read.rows_below.small i p q, rows-counted s table) })
+              (record { there = read.rows_below.there; small = λ i p q. omega (arith, read.rows_below.small i p q, rows_counted s table) })
 
           -- Its rows are those of the entry.
-          cycle-is : ks ≡ e.cycle
-          cycle-is = ap (part set (at + 3)) read.next_is
+          cycle_is : ks ≡ e.cycle
+          cycle_is = ap (part set (at + 3)) read.next_is
 
           -- What the set sends with this entry, or takes, where the rows of the entry send or take n.
-          entry-side : (f : List ℕ → ℕ) (n : ℕ) → n ≡ f ks → sum (λ x. x.repeats * f x.cycle) (g.entries ++ (e ∷ [])) ≡ sum (λ x. x.repeats * f x.cycle) g.entries + e.repeats * n
-          entry-side f n q = omega (arith, entry-added f g.entries e, ap (λ (x : ℕ). e.repeats * x) (q ∙ ap f cycle-is))
+          entry_side : (f : List ℕ → ℕ) (n : ℕ) → n ≡ f ks → sum (λ x. x.repeats * f x.cycle) (g.entries ++ (e ∷ [])) ≡ sum (λ x. x.repeats * f x.cycle) g.entries + e.repeats * n
+          entry_side f n q = omega (arith, entry_added f g.entries e, ap (λ (x : ℕ). e.repeats * x) (q ∙ ap f cycle_is))
 
           -- With the rows added, the sums are those of one entry more.
-          next-sums : SumsOf P (g.entries ++ (e ∷ [])) after
-          next-sums u =
+          next_sums : SumsOf P (g.entries ++ (e ∷ [])) after
+          next_sums u =
               let start : Difference (get_or sums u (pos 0)) (set_sent P g.entries u) (set_taken P g.entries u) =
-              subst (λ (z : ℤ). Difference z (set_sent P g.entries u) (set_taken P g.entries u)) (sym (g.sums-are u)) (set_difference P g.entries u) in
-              difference-unique (get_or after u (pos 0)) (set_effect P (g.entries ++ (e ∷ [])) u) (set_sent P (g.entries ++ (e ∷ [])) u) (set_taken P (g.entries ++ (e ∷ [])) u)
-              (difference-shift (get_or after u (pos 0)) _ _ (set_sent P (g.entries ++ (e ∷ [])) u) (set_taken P (g.entries ++ (e ∷ [])) u) (omega (arith, entry-side (λ c. messages_sent P c u) (having (λ r. r.sent) table u ks) (sent_is s table u ks rows_are), entry-side (λ c. messages_taken P c u) (having (λ r. r.taken) table u ks) (taken_is s table u ks rows_are)))
+              subst (λ (z : ℤ). Difference z (set_sent P g.entries u) (set_taken P g.entries u)) (sym (g.sums_are u)) (set_difference P g.entries u) in
+              difference_unique (get_or after u (pos 0)) (set_effect P (g.entries ++ (e ∷ [])) u) (set_sent P (g.entries ++ (e ∷ [])) u) (set_taken P (g.entries ++ (e ∷ [])) u)
+              (difference_shift (get_or after u (pos 0)) _ _ (set_sent P (g.entries ++ (e ∷ [])) u) (set_taken P (g.entries ++ (e ∷ [])) u) (omega (arith, entry_side (λ c. messages_sent P c u) (having (λ r. r.sent) table u ks) (sent_is s table u ks rows_are), entry_side (λ c. messages_taken P c u) (having (λ r. r.taken) table u ks) (taken_is s table u ks rows_are)))
               (added.sums u (set_sent P g.entries u) (set_taken P g.entries u) start))
               (set_difference P (g.entries ++ (e ∷ [])) u)
 
@@ -174,9 +174,9 @@ module _ (s : Shape) (table set : List ℕ) where
                 within = λ i. omega (arith, added.within (before * 128000000) g.within i, part_length set (at + 3) next read.rows_below.there, read.next_is, read.few_rows);
                 entries = g.entries ++ (e ∷ []);
                 rest = rw (lt-ltb next (length set) l) at ends;
-                sums-are = next-sums;
+                sums_are = next_sums;
               }
 
           -- where it ends, the set is read.
           pub finished : length set ≤ next → JudgedAs P after (Ends.At next) (read_set P set)
-          finished l = subst (JudgedAs P after (Ends.At next)) (rw (le-ltb next (length set) l) at ends) (entries_read next-sums)
+          finished l = subst (JudgedAs P after (Ends.At next)) (rw (le-ltb next (length set) l) at ends) (entries_read next_sums)

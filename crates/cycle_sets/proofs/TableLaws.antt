@@ -10,7 +10,7 @@ use Rattle.livelock.proofs.ListLaws.{all_at, all_weaken}
 use Rattle.plant.specs.Limits.{WithinLimits}
 use Rattle.decoding.specs.Tables.{plant_of, Ready}
 use Rattle.decoding.specs.declared.Shape.{Shape}
-use Rattle.decoding.proofs.TableLaws.{rows-counted, machines_counted, plant_row_is}
+use Rattle.decoding.proofs.TableLaws.{rows_counted, machines_counted, plant_row_is}
 use Rattle.set_entries.specs.Entries.{TableOf}
 use Rattle.set_sums.specs.Sums.{having}
 use Rattle.set_sums.proofs.EffectLaws.{having_is}
@@ -27,9 +27,9 @@ module _ (s : Shape) (table : List ℕ) (ready : Ready s table) (limits : Within
   pub table_of : TableOf (plant_of s table) s.rows table
   table_of =
       record {
-        rows_are = rows-counted s table;
+        rows_are = rows_counted s table;
         row_is = plant_row_is s table;
-        byte = λ k l. left_byte (plant_of s table) limits k (rw (rows-counted s table) l);
+        byte = λ k l. left_byte (plant_of s table) limits k (rw (rows_counted s table) l);
       }
 
   -- and it has as many machines.

@@ -22,11 +22,11 @@ use Rattle.livelock.proofs.Rounds.{walk_without_edges, edge_in_front, longer_pos
 use Rattle.edge_lists.specs.EdgeLists.{edge_in}
 use Rattle.deciding.specs.Signs.{rise, fall}
 use Rattle.deciding.specs.Rounds.{edge_graph, EdgesIn, AtMost, WalkLengths, Pass, AllBelowZero, SomeZeroOrMore}
-use Rattle.deciding.proofs.SignLaws.{rise-fall, rise_at_most, fall_at_most, difference_same, difference_length}
+use Rattle.deciding.proofs.SignLaws.{rise_fall, rise_at_most, fall_at_most, difference_same, difference_length}
 
 -- Every edge of the list leads from one of the states to one of them.
-pub edges-within : (count states : ℕ) (edges : List ℤ) → EdgesIn states count edges → Within (edge_graph count edges) states
-edges-within count states edges ok e u = (ok.from_in e u.0, ok.to_in e u.0)
+pub edges_within : (count states : ℕ) (edges : List ℤ) → EdgesIn states count edges → Within (edge_graph count edges) states
+edges_within count states edges ok e u = (ok.from_in e u.0, ok.to_in e u.0)
 
 -- ---- the length of an edge
 
@@ -43,7 +43,7 @@ module _ (n : ℕ) (z : ℤ) where
 
   -- The number of the code, as the graph has it: 1 + n × rise less n × fall.
   length_same : rise long + n * fall z ≡ 1 + n * rise z + fall long
-  length_same = difference_same long (rise long) (fall long) (1 + n * rise z) (n * fall z) (rise-fall long) (difference_length 1 n z)
+  length_same = difference_same long (rise long) (fall long) (1 + n * rise z) (n * fall z) (rise_fall long) (difference_length 1 n z)
 
 -- ---- one pass
 
@@ -103,25 +103,25 @@ module _ (g : Graph) (i : ℕ) (before now : List ℕ) (last : ℕ) (so_far : Pa
     each_after : (F : ℕ → ℕ → Type 0) → F (g.src i) v → ((s : ℕ) → F s (get_or now s 0)) → (s : ℕ) → F s (get_or after s 0)
     each_after = after_store now (g.src i) v room
 
-    here-is : get_or after (g.src i) 0 ≡ v
-    here-is = get_or-set_same now (g.src i) v 0 room
+    here_is : get_or after (g.src i) 0 ≡ v
+    here_is = get_or-set_same now (g.src i) v 0 room
 
     grown : (s : ℕ) → get_or now s 0 ≤ get_or after s 0
     grown = each_after (λ s x. get_or now s 0 ≤ x) (omega arith) (λ s. le_refl _)
 
-    pass-raises : Pass g (i + 1) before (set now (g.src i) v) i
-    pass-raises =
+    pass_raises : Pass g (i + 1) before (set now (g.src i) v) i
+    pass_raises =
         record {
           same_length = length-set now (g.src i) v ∙ so_far.same_length;
           never_lower = λ s. omega (arith, so_far.never_lower s, grown s);
-          along = along_next after grown (omega (arith, here-is));
+          along = along_next after grown (omega (arith, here_is));
           attained = λ w. each_after (WalkLength g) (edge_in_front g i _ v there is (so_far.attained w (g.dst i))) (so_far.attained w);
           rises =
               λ most h.
               each_after (λ s x. x ≤ most + (i + 1) * 4194304) (omega (arith, so_far.rises most h (g.dst i))) (λ s. omega (arith, so_far.rises most h s));
           last_in = omega (arith, there.0);
           kept = λ e. absurd (omega (arith, there.0));
-          raised = λ e. (g.src i, omega (arith, so_far.never_lower (g.src i), here-is));
+          raised = λ e. (g.src i, omega (arith, so_far.never_lower (g.src i), here_is));
         }
 
 -- The same for an edge list, with the length 1 + n × weight.
@@ -149,7 +149,7 @@ module _ (n count states : ℕ) (edges : List ℤ) (ok : EdgesIn states count ed
   pub edge_raises : states ≤ length before → ltb (get_or now (edge_in edges i).from 0) along ≡ true → (v : ℕ) → v ≡ max (get_or now (edge_in edges i).from 0) along
       → Pass (lengthened n (edge_graph count edges)) (i + 1) before (set now (edge_in edges i).from v) i
   edge_raises room more v is =
-      pass-raises g i before now last so_far (there, refl)
+      pass_raises g i before now last so_far (there, refl)
       (omega (arith, room, so_far.same_length, ok.from_in i there, ok.states_in))
       (omega (arith, mul-le-mul most (ok.rise_in i there)))
       v

@@ -11,14 +11,14 @@ use mir.Val.{SFits, to_z, of_z}
 use mir.Facts.{to_z_pos, to_z-of_z}
 use borrow.Author.Tests.{leb-true, leb-false, le-ltb}
 use Rattle.livelock.specs.Differences.{Difference}
-use Rattle.livelock.proofs.Differences.{difference-shift, difference_minus, difference_plus, difference_times}
+use Rattle.livelock.proofs.Differences.{difference_shift, difference_minus, difference_plus, difference_times}
 use Rattle.deciding.specs.Signs.{rise, fall}
 
 -- A signed number is its rise less its fall.
-pub rise-fall : (z : ℤ) → Difference z (rise z) (fall z)
+pub rise_fall : (z : ℤ) → Difference z (rise z) (fall z)
 unfolding rise fall
-rise-fall (pos d) = omega arith
-rise-fall (negsuc d) = omega arith
+rise_fall (pos d) = omega arith
+rise_fall (negsuc d) = omega arith
 
 -- The rise is the least that a difference can be taken from, and the fall the least that can be taken.
 pub rise_at_most : (z : ℤ) (a b : ℕ) → Difference z a b → rise z ≤ a
@@ -68,7 +68,7 @@ difference_natural (negsuc d) a b i h = absurd (omega arith)
 -- A number and a signed one.
 pub difference_sum_of : (n : ℕ) (z : ℤ) → Difference (pos n +ℤ z) (rise z + n) (fall z)
 difference_sum_of n z =
-    difference-shift (pos n +ℤ z) (n + rise z) (0 + fall z) (rise z + n) (fall z) (omega arith) (difference_plus (pos n) z n 0 (rise z) (fall z) (omega arith) (rise-fall z))
+    difference_shift (pos n +ℤ z) (n + rise z) (0 + fall z) (rise z + n) (fall z) (omega arith) (difference_plus (pos n) z n 0 (rise z) (fall z) (omega arith) (rise_fall z))
 
 -- The sum of a height and a length fits 64 bits, so the code's number is the sum itself.
 module _ (next : ℕ) (length : ℤ) (low : next ≤ 2199023255552) (up : rise length ≤ 4194304) (down : fall length ≤ 4194304) where
@@ -81,5 +81,5 @@ module _ (next : ℕ) (length : ℤ) (low : next ≤ 2199023255552) (up : rise l
 -- A number and a multiple of a signed one.
 pub difference_length : (first n : ℕ) (z : ℤ) → Difference (pos first +ℤ pos n *ℤ z) (first + n * rise z) (n * fall z)
 difference_length first n z =
-    difference-shift (pos first +ℤ pos n *ℤ z) (first + n * rise z) (0 + n * fall z) (first + n * rise z) (n * fall z) (omega arith)
-    (difference_plus (pos first) (pos n *ℤ z) first 0 (n * rise z) (n * fall z) (omega arith) (difference_times n z (rise z) (fall z) (rise-fall z)))
+    difference_shift (pos first +ℤ pos n *ℤ z) (first + n * rise z) (0 + n * fall z) (first + n * rise z) (n * fall z) (omega arith)
+    (difference_plus (pos first) (pos n *ℤ z) first 0 (n * rise z) (n * fall z) (omega arith) (difference_times n z (rise z) (fall z) (rise_fall z)))

@@ -23,7 +23,7 @@ use Rattle.decoding.specs.Tables.{rows_before, plant_of, Ready}
 use Rattle.decoding.specs.declared.Shape.{Shape}
 use Rattle.plant.proofs.Bounds.{Each, each_then, each_found, byte_in_each, rows_byte_each, read_rows_each, one_bit}
 use Rattle.plant.proofs.FileBounds.{each_moved}
-use Rattle.decoding.proofs.TableLaws.{rows-counted}
+use Rattle.decoding.proofs.TableLaws.{rows_counted}
 
 -- ---- while the machines are read
 
@@ -31,13 +31,13 @@ use Rattle.decoding.proofs.TableLaws.{rows-counted}
 -- number n, so that no count of rows before a machine up to n changes; and its last row is the last before machine n + 1.
 
 -- Before the first machine is read there are no rows.
-pub first-none : (first : List ℕ) (p : Plant) → length first ≡ 17 → get_or first 0 0 ≡ 0 → p.rows ≡ [] → FirstRows first 1 0 p
+pub first_none : (first : List ℕ) (p : Plant) → length first ≡ 17 → get_or first 0 0 ≡ 0 → p.rows ≡ [] → FirstRows first 1 0 p
 unfolding All sum
-first-none first p e z none =
-    record { room = e; at = λ m l. at-0 m (omega arith); numbered = subst⁻¹ (All (λ (r : Row). r.machine < 0)) none tt }
+first_none first p e z none =
+    record { room = e; at = λ m l. at_0 m (omega arith); numbered = subst⁻¹ (All (λ (r : Row). r.machine < 0)) none tt }
   where
-    at-0 : (m : ℕ) → m ≡ 0 → get_or first m 0 ≡ rows_before p m
-    at-0 m q = rw (q, none) z
+    at_0 : (m : ℕ) → m ≡ 0 → get_or first m 0 ≡ rows_before p m
+    at_0 m q = rw (q, none) z
 
 -- Where all rows belong to machines before n, they are counted before n.
 all_before : (n : ℕ) (rs : List Row) → All (λ r. r.machine < n) rs → count (λ r. ltb r.machine n) rs ≡ length rs
@@ -65,12 +65,12 @@ own_row first n p r e f =
       room = f.room;
       at =
           λ m l.
-          omega (arith, f.at m l, sum-append (λ (q : Row). cond (ltb q.machine m) 1 0) p.rows (r ∷ []), not-before m l);
+          omega (arith, f.at m l, sum-append (λ (q : Row). cond (ltb q.machine m) 1 0) p.rows (r ∷ []), not_before m l);
       numbered = all_append (λ q. q.machine < n + 1) p.rows (r ∷ []) f.numbered (omega arith, tt);
     }
   where
-    not-before : (m : ℕ) → m < n + 1 → ◌≡◌ {A = ℕ} (cond (ltb r.machine m) 1 0) 0
-    not-before m l = simp (le-ltb r.machine m (omega arith))
+    not_before : (m : ℕ) → m < n + 1 → ◌≡◌ {A = ℕ} (cond (ltb r.machine m) 1 0) 0
+    not_before m l = simp (le-ltb r.machine m (omega arith))
 
 -- The first rows of the machines so far, with that of the next, stay what they are while the next machine is read.
 first_each : (s : List ℕ) (at : ℕ) (first : List ℕ) (p : Plant) → FirstRows first (machine_count p + 1) (machine_count p) p
@@ -109,11 +109,11 @@ unfolding below sum
 nothing_ready states first long z table =
     record {
       sound = record { few_machines = zero-le; few_rows = zero-le; few_types = zero-le; states_room = long; room = omega arith };
-      first_row = λ m l. at-0 m (omega arith);
+      first_row = λ m l. at_0 m (omega arith);
     }
   where
-    at-0 : (m : ℕ) → m ≡ 0 → get_or first m 0 ≡ 0
-    at-0 m q = rw q z
+    at_0 : (m : ℕ) → m ≡ 0 → get_or first m 0 ≡ 0
+    at_0 m q = rw q z
 
 -- ---- for the crates that work on plants
 
@@ -188,6 +188,6 @@ machine_rows s table ready m l =
     let high = ready.first_row (m + 1) (omega arith) in
     let next = rows_of_next m (plant_of s table).rows in (
       omega (arith, low, high, next),
-      omega (arith, high, rows_before_bound (plant_of s table) (m + 1), rows-counted s table),
+      omega (arith, high, rows_before_bound (plant_of s table) (m + 1), rows_counted s table),
       omega (arith, low, high, next),
     )

@@ -12,8 +12,8 @@ use Rattle.tables.proofs.RowLaws.{rows_in, row_is}
 use Rattle.decoding.specs.Tables.{plant_of, Sound}
 use Rattle.decoding.specs.declared.Shape.{Shape}
 
-pub rows-counted : (s : Shape) (table : List ℕ) → length (map (row_in table) (below s.rows)) ≡ s.rows
-rows-counted s table = rows_in table s.rows
+pub rows_counted : (s : Shape) (table : List ℕ) → length (map (row_in table) (below s.rows)) ≡ s.rows
+rows_counted s table = rows_in table s.rows
 
 pub machines_counted : (s : Shape) (table : List ℕ) → Sound s table → length (take s.machines s.states) ≡ s.machines
 machines_counted s table h = length-take-le s.machines s.states (omega (arith, h.few_machines, h.states_room))

@@ -38,22 +38,22 @@ module _ (t : List ℤ) (at : ℕ) (a b c d : ℤ) where
 
   -- and those are what was stored.
   module _ (room : at + 4 ≤ length t) where
-    is-0 : get_or four at (pos 0) ≡ a
-    is-0 =
+    is_0 : get_or four at (pos 0) ≡ a
+    is_0 =
         get_or-set_other t3 (at + 3) at d (pos 0) (λ q. omega arith)
         ∙ (get_or-set_other t2 (at + 2) at c (pos 0) (λ q. omega arith)
         ∙ (get_or-set_other t1 (at + 1) at b (pos 0) (λ q. omega arith) ∙ get_or-set_same t at a (pos 0) (omega arith)))
 
-    is-1 : get_or four (at + 1) (pos 0) ≡ b
-    is-1 =
+    is_1 : get_or four (at + 1) (pos 0) ≡ b
+    is_1 =
         get_or-set_other t3 (at + 3) (at + 1) d (pos 0) (λ q. omega arith)
         ∙ (get_or-set_other t2 (at + 2) (at + 1) c (pos 0) (λ q. omega arith) ∙ get_or-set_same t1 (at + 1) b (pos 0) (simp length-set (omega arith)))
 
-    is-2 : get_or four (at + 2) (pos 0) ≡ c
-    is-2 = get_or-set_other t3 (at + 3) (at + 2) d (pos 0) (λ q. omega arith) ∙ get_or-set_same t2 (at + 2) c (pos 0) (simp length-set (omega arith))
+    is_2 : get_or four (at + 2) (pos 0) ≡ c
+    is_2 = get_or-set_other t3 (at + 3) (at + 2) d (pos 0) (λ q. omega arith) ∙ get_or-set_same t2 (at + 2) c (pos 0) (simp length-set (omega arith))
 
-    is-3 : get_or four (at + 3) (pos 0) ≡ d
-    is-3 = get_or-set_same t3 (at + 3) d (pos 0) (simp length-set (omega arith))
+    is_3 : get_or four (at + 3) (pos 0) ≡ d
+    is_3 = get_or-set_same t3 (at + 3) d (pos 0) (simp length-set (omega arith))
 
 -- Four numbers that are stored at 4 × i are edge i, and every other edge is kept.
 module _ (t : List ℤ) (i from to : ℕ) (weight : ℤ) (row : ℕ) (room : EdgeRoom (i + 1) t)
@@ -75,16 +75,16 @@ module _ (t : List ℤ) (i from to : ℕ) (weight : ℤ) (row : ℕ) (room : Edg
   other_first j n = kept t (4 * i) a b c d (4 * j) (λ y l q. apart j i 0 y n (omega arith) l (add-zero (4 * j) ∙ q))
 
   from_is : get_or after (4 * i) (pos 0) ≡ pos from
-  from_is = is-0 t (4 * i) a b c d within ∙ a-is
+  from_is = is_0 t (4 * i) a b c d within ∙ a-is
 
   to_is : get_or after (4 * i + 1) (pos 0) ≡ pos to
-  to_is = is-1 t (4 * i) a b c d within ∙ b-is
+  to_is = is_1 t (4 * i) a b c d within ∙ b-is
 
   weight_is : get_or after (4 * i + 2) (pos 0) ≡ weight
-  weight_is = is-2 t (4 * i) a b c d within ∙ c-is
+  weight_is = is_2 t (4 * i) a b c d within ∙ c-is
 
   row_is : get_or after (4 * i + 3) (pos 0) ≡ pos row
-  row_is = is-3 t (4 * i) a b c d within ∙ d-is
+  row_is = is_3 t (4 * i) a b c d within ∙ d-is
 
   pub four_stored : StoredEdge i (record { from = from; to = to; weight = weight; row = row }) t after
   unfolding edge_in

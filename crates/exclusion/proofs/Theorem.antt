@@ -19,7 +19,7 @@ use Rattle.weighing.specs.Weighing.{Owed}
 use Rattle.weighing.specs.declared.Weighed.{Weighed}
 use Rattle.weighing.specs.declared.Weighed.TheVariants as Weigheds
 use Rattle.weighing.proofs.WeighingLaws.{passed_iff}
-use Rattle.weighing.proofs.PassedLaws.{no-figures, passed_owed}
+use Rattle.weighing.proofs.PassedLaws.{no_figures, passed_owed}
 use Rattle.cycle_sets.specs.Answers as Confirming
 use Rattle.cycle_sets.specs.declared.Confirmation.{Confirmation}
 use Rattle.cycle_sets.specs.declared.Confirmation.TheVariants as Confirmations
@@ -40,7 +40,7 @@ passing_iff file ws before after a room owed = (go (judged file ws (length befor
     here = subst (λ (n : ℕ). judged file ws n ≡ judged_weights file ws) (sym room) (judged_64 file ws)
 
     go : (x : Found Plant) → judged file ws (length before) ≡ x → Weighing.HasFigures a → ReadsPassing file ws
-    go (fault number place) e f = absurd (no-figures ws before after a number place (subst (Owed ws before after a) e owed) f)
+    go (fault number place) e f = absurd (no_figures ws before after a number place (subst (Owed ws before after a) e owed) f)
     go (found P end) e f = record { plant = P; end = end; good = sym here ∙ e; passes = (passed_iff file ws before after a P end e owed).0 f }
 
     back : ReadsPassing file ws → Weighing.HasFigures a

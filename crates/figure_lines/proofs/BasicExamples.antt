@@ -4,6 +4,6 @@ use mathlib.Core.List.{[], ◌∷◌}
 use Rattle.figure_lines.specs.FigureLines.{decimal_within, decimal}
 
 -- 1,024 is four digits.
-four-digits : decimal 1024 ≡ 49 ∷ 48 ∷ 50 ∷ 52 ∷ []
+four_digits : decimal 1024 ≡ 49 ∷ 48 ∷ 50 ∷ 52 ∷ []
 unfolding decimal_within decimal
-four-digits = refl
+four_digits = refl

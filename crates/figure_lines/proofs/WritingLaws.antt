@@ -6,7 +6,7 @@ use native.Mathlib.Omega.{arith}
 use native.Mathlib.Nat.{add-zero}
 use lib.ListN.{length, take, length-append}
 use lib.Seq.{sets, take_all, length-sets}
-use Rattle.livelock.proofs.StoreLaws.{sets-append}
+use Rattle.livelock.proofs.StoreLaws.{sets_append}
 use Rattle.figure_lines.specs.Writing.{Wrote}
 
 -- All bytes are written.
@@ -25,7 +25,7 @@ pub wrote_then : {before between after : List ℕ} {at middle next : ℕ} {xs ys
 wrote_then {before} {between} {after} {at} {middle} {next} {xs} {ys} w v =
     record {
       next_is = omega (arith, w.next_is, v.next_is, length-append xs ys);
-      after_is = v.after_is ∙ ap (λ (l : List ℕ). sets l middle ys) w.after_is ∙ ap (λ (k : ℕ). sets (sets before at xs) k ys) w.next_is ∙ sym (sets-append xs ys before at);
+      after_is = v.after_is ∙ ap (λ (l : List ℕ). sets l middle ys) w.after_is ∙ ap (λ (k : ℕ). sets (sets before at xs) k ys) w.next_is ∙ sym (sets_append xs ys before at);
     }
 
 -- Nothing is written yet.

@@ -47,17 +47,17 @@ module _ (P : Plant) (limits : WithinLimits P) where
 
   module _ (ws : List ℕ) (light : (t : ℕ) → t < P.types → get_or ws t 0 ≤ 1000) where
     -- Where each weight is at most 1,000, w is,
-    largest-limit : largest_weight P ws ≤ 1000
-    largest-limit = greatest_limit (weight ws) 1000 P.types light
+    largest_limit : largest_weight P ws ≤ 1000
+    largest_limit = greatest_limit (weight ws) 1000 P.types light
 
     -- F is at most 1,008 + 64 × 1,000 × 1,008,
     pub base_limit : base P ws ≤ 64513008
-    base_limit = omega (arith, less_limit, mul-le-mul (mul-le-mul most_limit largest-limit) less_limit)
+    base_limit = omega (arith, less_limit, mul-le-mul (mul-le-mul most_limit largest_limit) less_limit)
 
     -- G at most 63 + 64 × 64 × 1,000,
     pub per_progress_limit : per_progress P ws ≤ 4096063
-    per_progress_limit = omega (arith, most_limit, mul-le-mul (mul-le-mul most_limit most_limit) largest-limit)
+    per_progress_limit = omega (arith, most_limit, mul-le-mul (mul-le-mul most_limit most_limit) largest_limit)
 
     -- and n × w at most 64 × 1,000.
     pub per_doubling_limit : per_doubling P ws ≤ 64000
-    per_doubling_limit = mul-le-mul most_limit largest-limit
+    per_doubling_limit = mul-le-mul most_limit largest_limit

@@ -13,8 +13,8 @@ use Rattle.plant.specs.Reading.{in_range}
 use Rattle.plant_lists.specs.Lists.{number_that, number_in, rows_number}
 
 -- A count of rows is within the limits if it is below the lesser of 256 and what 1,025 leaves.
-rows-range : (used n : ℕ) → used ≤ 1024 → in_range 0 (min 256 (1025 - used)) n ≡ (leb n 255 && leb (used + n) 1024)
-rows-range used n h = go (dec_le n 255) (dec_le (used + n) 1024)
+rows_range : (used n : ℕ) → used ≤ 1024 → in_range 0 (min 256 (1025 - used)) n ≡ (leb n 255 && leb (used + n) 1024)
+rows_range used n h = go (dec_le n 255) (dec_le (used + n) 1024)
   where
     go : Dec (n ≤ 255) → Dec (used + n ≤ 1024) → in_range 0 (min 256 (1025 - used)) n ≡ (leb n 255 && leb (used + n) 1024)
     go (yes l) (yes m) = rw (lt-ltb n (min 256 (1025 - used)) (omega arith), le-leb 0 n zero-le, le-leb n 255 l, le-leb (used + n) 1024 m)
@@ -23,4 +23,4 @@ rows-range used n h = go (dec_le n 255) (dec_le (used + n) 1024)
 
 pub rows_in_range : (used : ℕ) (s : List ℕ) (at : ℕ) → used ≤ 1024 → number_in 0 (min 256 (1025 - used)) s at ≡ rows_number used s at
 unfolding number_that
-rows_in_range used s at h = ap (λ (b : Bool). cond (ltb at (length s)) (cond b (found (get_or s at 0) (at + 1)) (fault 24 at)) (fault 23 at)) (rows-range used (get_or s at 0) h)
+rows_in_range used s at h = ap (λ (b : Bool). cond (ltb at (length s)) (cond b (found (get_or s at 0) (at + 1)) (fault 24 at)) (fault 23 at)) (rows_range used (get_or s at 0) h)

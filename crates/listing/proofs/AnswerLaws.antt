@@ -53,13 +53,13 @@ module _ (m room : ℕ) (P : Plant) (end : ℕ) where
 
   module _ (within : m < machine_count P) where
     -- Above 24 states, or above 48 rows: fault 13.
-    pub refuse-states : 24 < state_count P m → fault 13 0 ≡ checked m room P end
+    pub refuse_states : 24 < state_count P m → fault 13 0 ≡ checked m room P end
     unfolding checked checked_size
-    refuse-states h = rw (lt-ltb m (machine_count P) within, lt-leb (state_count P m) 24 h)
+    refuse_states h = rw (lt-ltb m (machine_count P) within, lt-leb (state_count P m) 24 h)
 
-    pub refuse-rows : 48 < rows_of P m → fault 13 0 ≡ checked m room P end
+    pub refuse_rows : 48 < rows_of P m → fault 13 0 ≡ checked m room P end
     unfolding checked checked_size
-    refuse-rows h = rw (lt-ltb m (machine_count P) within, lt-leb (rows_of P m) 48 h, and-false (leb (state_count P m) 24))
+    refuse_rows h = rw (lt-ltb m (machine_count P) within, lt-leb (rows_of P m) 48 h, and-false (leb (state_count P m) 24))
 
     -- Otherwise the room decides.
     pub refuse_none : state_count P m ≤ 24 → rows_of P m ≤ 48 → checked_room room (entries_needed P m) end ≡ checked m room P end

@@ -11,7 +11,7 @@ use Rattle.plant.specs.Found.{Found, found, fault, and_then}
 use Rattle.plant.specs.Reading.{read_plant}
 use Rattle.plant.specs.Limits.{rows_of}
 use Rattle.plant.proofs.FileBounds.{within_limits}
-use Rattle.plant.proofs.OneToOne.{same-fault}
+use Rattle.plant.proofs.OneToOne.{same_fault}
 use Rattle.listing.specs.declared.Listed.{Listed}
 use Rattle.listing.specs.declared.Listed.TheVariants as Variants
 use Rattle.listing.specs.Answers.{Answer, entries, answer_of}
@@ -22,9 +22,9 @@ use Rattle.cycle_paths.proofs.CycleLaws.{cycles_are}
 -- ---- what entries mean
 
 -- What passes the checks are the entries needed.
-checked-needed : (m room : ℕ) (P : Plant) (k : ℕ) (needed : List ℕ) (end : ℕ) → checked m room P k ≡ found needed end → needed ≡ entries_needed P m
+checked_needed : (m room : ℕ) (P : Plant) (k : ℕ) (needed : List ℕ) (end : ℕ) → checked m room P k ≡ found needed end → needed ≡ entries_needed P m
 unfolding checked checked_size checked_room
-checked-needed m room P k needed end =
+checked_needed m room P k needed end =
     go (ltb m (machine_count P)) (leb (state_count P m) 24 && leb (rows_of P m) 48) (ltb room (length (entries_needed P m)))
   where
     go : (a b c : Bool) → cond a (cond b (cond c (fault 14 0) (found (entries_needed P m) k)) (fault 13 0)) (fault 12 0) ≡ found needed end → needed ≡ entries_needed P m
@@ -41,7 +41,7 @@ lists_cycles file m room needed end after rest e front = go (read_plant file) re
     go : (x : Found Plant) → read_plant file ≡ x → and_then x (checked m room) ≡ found needed end → ListsCycles file m (length needed) after
     go (fault number place) reads h = absurd (false≢true cc)
     go (found P k) reads h =
-        let are : needed ≡ entries_needed P m = checked-needed m room P k needed end h in
+        let are : needed ≡ entries_needed P m = checked_needed m room P k needed end h in
         record {
           plant = P;
           end = k;
@@ -80,4 +80,4 @@ one_to_one (Variants.Refused f) (Variants.Entries k') e = cc
 one_to_one (Variants.Refused f) (Variants.Refused g) e =
     let n : f.number ≡ g.number = cc in
     let q : f.place ≡ g.place = cc in
-    ap Variants.Refused (same-fault f g n q)
+    ap Variants.Refused (same_fault f g n q)

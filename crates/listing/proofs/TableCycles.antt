@@ -11,7 +11,7 @@ use Rattle.decoding.specs.Tables.{plant_of, Ready}
 use Rattle.plant.specs.Limits.{WithinLimits}
 use Rattle.decoding.specs.declared.Shape.{Shape}
 use Rattle.tables.specs.Tables.{row_in}
-use Rattle.decoding.proofs.TableLaws.{plant_row_is, rows-counted}
+use Rattle.decoding.proofs.TableLaws.{plant_row_is, rows_counted}
 use Rattle.decoding.proofs.FirstRowLaws.{row_of_machine, machine_rows}
 use Rattle.listing.specs.Listing.{entries_needed}
 use Rattle.machine_graphs.specs.Graphs.{Listable, Copied}
@@ -52,7 +52,7 @@ module _ (s : Shape) (table : List ℕ) (ready : Ready s table) (limits : Within
   -- The numbers of that range are rows of the machine,
   range_row : (k : ℕ) → low ≤ k → k < high → RowOf (plant_of s table) m k
   range_row k from below =
-      let there : k < row_count (plant_of s table) = omega (arith, (machine_rows s table ready m within).1, rows-counted s table) in (
+      let there : k < row_count (plant_of s table) = omega (arith, (machine_rows s table ready m within).1, rows_counted s table) in (
         there,
         (row_of_machine (plant_of s table) limits m k there).1 (omega (arith, ready.first_row m (omega arith)), omega (arith, ready.first_row (m + 1) (omega arith))),
       )
@@ -83,13 +83,13 @@ module _ (s : Shape) (table : List ℕ) (ready : Ready s table) (limits : Within
   -- There the table has the states that the plant's rows leave and enter,
   states_are : (k : ℕ) → low ≤ k → k < high → (leaves (plant_of s table) k ≡ (row_in table k).left) × (enters (plant_of s table) k ≡ (row_in table k).entered)
   states_are k from below =
-      let is = plant_row_is s table k (omega (arith, (range_row k from below).0, rows-counted s table)) in
+      let is = plant_row_is s table k (omega (arith, (range_row k from below).0, rows_counted s table)) in
       (ap (λ (r : Row). r.left) is, ap (λ (r : Row). r.entered) is)
 
   module _ (few : state_count (plant_of s table) m ≤ 24) (first last : ℕ) (first_is : first ≡ get_or s.first m 0) (last_is : last ≡ get_or s.first (m + 1) 0) where
     -- so that the machine's rows are fit to be listed,
-    pub machine-listable : last ≤ first + 48 → Listable table first last
-    machine-listable few_rows =
+    pub machine_listable : last ≤ first + 48 → Listable table first last
+    machine_listable few_rows =
         let rows = machine_rows s table ready m within in
         record {
           ordered = omega (arith, first_is, last_is, rows.0);
@@ -105,8 +105,8 @@ module _ (s : Shape) (table : List ℕ) (ready : Ready s table) (limits : Within
         }
 
     -- and the entries of their cycles are those needed. Marks for 24 states do as well as for its own number of states.
-    pub machine-entries : entries_between table first last ≡ entries_needed (plant_of s table) m
-    machine-entries =
+    pub machine_entries : entries_between table first last ≡ entries_needed (plant_of s table) m
+    machine_entries =
         rw (first_is, last_is)
         (ap flattened
         (sym (same_cycles (plant_of s table) limits.formed m 24 few

@@ -8,11 +8,11 @@ use lib.Arith.{digits_mod}
 use lib.Bits.{bit_or, or_step, or_shr}
 
 -- A bit that has the same value stands as well.
-pub bit-same : (a b : Bool) → ◌≡◌ {A = ℕ} (cond a 1 0) (cond b 1 0) → a ≡ b
-bit-same true true e = refl
-bit-same true false e = absurd (omega (arith, e))
-bit-same false true e = absurd (omega (arith, e))
-bit-same false false e = refl
+pub bit_same : (a b : Bool) → ◌≡◌ {A = ℕ} (cond a 1 0) (cond b 1 0) → a ≡ b
+bit_same true true e = refl
+bit_same true false e = absurd (omega (arith, e))
+bit_same false true e = absurd (omega (arith, e))
+bit_same false false e = refl
 
 -- Bit 0 of a union is the greater of the two,
 pub or_lowest : (a b : ℕ) → bit_or a b % 2 ≡ max (a % 2) (b % 2)

@@ -20,7 +20,7 @@ use Rattle.livelock.specs.Weights.{message_weight}
 use Rattle.livelock.proofs.CycleWeights.{sent_weight, taken_weight, row_fits, sent_in, taken_in, message_bound, sent_bound}
 use Rattle.livelock.proofs.QuietGraphs.{edge_iff, most_states_lem}
 use Rattle.livelock.proofs.Decision.{state_potential, state_potential_lem, longest_row, state_potential_bound}
-use Rattle.livelock.proofs.RunLaws.{count-run}
+use Rattle.livelock.proofs.RunLaws.{count_run}
 
 -- ---- the weight of the contents
 
@@ -72,27 +72,27 @@ module _ (P : Plant) (wf : WellFormed P) (ws : List ℕ) (ok : Passes P ws) wher
     fits : RowFits P.types P.states (row_at P k)
     fits = row_fits P wf k happens.0
 
-    contents-after : contents_weight P ws (changed P c (row k)).content + taken_weight P ws k ≡ contents_weight P ws c.content + sent_weight P ws k
+    contents_after : contents_weight P ws (changed P c (row k)).content + taken_weight P ws k ≡ contents_weight P ws c.content + sent_weight P ws k
     unfolding changed
-    contents-after =
+    contents_after =
         omega (
           arith,
           added_weight P ws (removed c.content (row_at P k).taken) (row_at P k).sent (sent_in P wf k),
           removed_weight P ws c.content (row_at P k).taken (taken_in P wf k) happens.1.1,
         )
 
-    potentials-after : potentials (changed P c (row k)).state + state_potential P ws (row_at P k).machine (leaves P k)
+    potentials_after : potentials (changed P c (row k)).state + state_potential P ws (row_at P k).machine (leaves P k)
         ≡ potentials c.state + state_potential P ws (row_at P k).machine (enters P k)
     unfolding changed potentials
-    potentials-after = rw (← happens.1.0) (sum_update (state_potential P ws) c.state (row_at P k).machine (enters P k) (machine_count P) fits.machine)
+    potentials_after = rw (← happens.1.0) (sum_update (state_potential P ws) c.state (row_at P k).machine (enters P k) (machine_count P) fits.machine)
 
     quiet_step : has_progress (row_at P k) ≡ false → 1 + rank (changed P c (row k)) ≤ rank c
     unfolding rank
     quiet_step q =
         omega (
           arith,
-          mul-le-mul_left (most_states P) (le_of_eq contents-after),
-          potentials-after,
+          mul-le-mul_left (most_states P) (le_of_eq contents_after),
+          potentials_after,
           state_potential_lem P wf ws ok (row_at P k).machine k ((edge_iff P ws (row_at P k).machine k).1 ((happens.0, refl), q)),
         )
 
@@ -101,8 +101,8 @@ module _ (P : Plant) (wf : WellFormed P) (ws : List ℕ) (ok : Passes P ws) wher
     progress_step =
         omega (
           arith,
-          mul-le-mul_left (most_states P) (le_of_eq contents-after),
-          potentials-after,
+          mul-le-mul_left (most_states P) (le_of_eq contents_after),
+          potentials_after,
           mul-le-mul_left (most_states P) (sent_bound P wf ws k),
           state_potential_bound P wf ws (row_at P k).machine (enters P k),
           progress_covers (most_states P) (largest_weight P ws) (state_count P (row_at P k).machine) (most_states_lem P (row_at P k).machine fits.machine) some_state,
@@ -167,9 +167,9 @@ module _ (P : Plant) (wf : WellFormed P) (ws : List ℕ) (ok : Passes P ws) wher
         arith,
         step c e,
         all_steps (after P c e) es,
-        count-run (is_quiet_row P) P c e es,
-        ap (λ (x : ℕ). per_progress P ws * x) (count-run (is_progress_row P) P c e es),
-        ap (λ (x : ℕ). per_doubling P ws * x) (count-run is_doubling P c e es),
+        count_run (is_quiet_row P) P c e es,
+        ap (λ (x : ℕ). per_progress P ws * x) (count_run (is_progress_row P) P c e es),
+        ap (λ (x : ℕ). per_doubling P ws * x) (count_run is_doubling P c e es),
       )
 
   opening : (c : Configuration) → rank c ≤ base P ws + most_states P * contents_weight P ws c.content

@@ -28,9 +28,9 @@ use Rattle.livelock.proofs.QuietGraphs.{quiet_graph, quiet_within, graph_cycle, 
 -- ---- potentials make weights pass
 
 -- Whatever potential the quiet rows of machine m have, its quiet simple cycles weigh below zero.
-pub machine-passes : (P : Plant) → WellFormed P → (ws : List ℕ) (m : ℕ) (h : ℕ → ℕ) → Potential (quiet_graph P ws m) h
+pub machine_passes : (P : Plant) → WellFormed P → (ws : List ℕ) (m : ℕ) (h : ℕ → ℕ) → Potential (quiet_graph P ws m) h
     → (c : List ℕ) → SimpleCycle P m c → Quiet P c → cycle_weight P ws c <ℤ pos 0
-machine-passes P wf ws m h p c s q = go (dec_lt (sum (sent_weight P ws) c) (sum (taken_weight P ws) c))
+machine_passes P wf ws m h p c s q = go (dec_lt (sum (sent_weight P ws) c) (sum (taken_weight P ws) c))
   where
     go : Dec (sum (sent_weight P ws) c < sum (taken_weight P ws) c) → cycle_weight P ws c <ℤ pos 0
     go (yes l) = (below_zero_iff P wf ws c).1 l
@@ -41,7 +41,7 @@ machine-passes P wf ws m h p c s q = go (dec_lt (sum (sent_weight P ws) c) (sum 
 -- So weights pass where the quiet rows of every machine have a potential.
 pub potentials_pass : (P : Plant) → WellFormed P → (ws : List ℕ)
     → ((m : ℕ) → m < machine_count P → (h : ℕ → ℕ) × Potential (quiet_graph P ws m) h) → Passes P ws
-potentials_pass P wf ws p m c s q = let x = p m (cycle_machine P wf m c s) in machine-passes P wf ws m x.0 x.1 c s q
+potentials_pass P wf ws p m c s q = let x = p m (cycle_machine P wf m c s) in machine_passes P wf ws m x.0 x.1 c s q
 
 -- ---- the decision
 

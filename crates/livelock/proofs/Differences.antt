@@ -14,9 +14,9 @@ use Rattle.livelock.specs.Lists.{sum, sumℤ}
 use Rattle.livelock.specs.Differences.{Difference}
 
 -- Both numbers may grow, or shrink, by the same.
-pub difference-shift : (z : ℤ) (a b c d : ℕ) → a + d ≡ c + b → Difference z a b → Difference z c d
-difference-shift (pos x) a b c d e i = omega arith
-difference-shift (negsuc x) a b c d e i = omega arith
+pub difference_shift : (z : ℤ) (a b c d : ℕ) → a + d ≡ c + b → Difference z a b → Difference z c d
+difference_shift (pos x) a b c d e i = omega arith
+difference_shift (negsuc x) a b c d e i = omega arith
 
 difference-subℕ : (a b : ℕ) → Difference (sub_ℕ a b) a b
 difference-subℕ a b = go (ltb a b) refl
@@ -38,8 +38,8 @@ difference_minus a (suc b) = difference-subℕ a (suc b)
 -- To add two differences, add the numbers on the left of the minus and those on the right,
 pub difference_plus : (y z : ℤ) (a b c d : ℕ) → Difference y a b → Difference z c d → Difference (y +ℤ z) (a + c) (b + d)
 difference_plus (pos x) (pos y) a b c d i j = omega arith
-difference_plus (pos x) (negsuc y) a b c d i j = difference-shift (sub_ℕ x (suc y)) x (suc y) (a + c) (b + d) (omega arith) (difference-subℕ x (suc y))
-difference_plus (negsuc x) (pos y) a b c d i j = difference-shift (sub_ℕ y (suc x)) y (suc x) (a + c) (b + d) (omega arith) (difference-subℕ y (suc x))
+difference_plus (pos x) (negsuc y) a b c d i j = difference_shift (sub_ℕ x (suc y)) x (suc y) (a + c) (b + d) (omega arith) (difference-subℕ x (suc y))
+difference_plus (negsuc x) (pos y) a b c d i j = difference_shift (sub_ℕ y (suc x)) y (suc x) (a + c) (b + d) (omega arith) (difference-subℕ y (suc x))
 difference_plus (negsuc x) (negsuc y) a b c d i j = omega arith
 
 -- to multiply one, multiply both numbers,
@@ -47,7 +47,7 @@ pub difference_times : (n : ℕ) (z : ℤ) (a b : ℕ) → Difference z a b → 
 difference_times n (pos x) a b i = omega (arith, ap (λ (y : ℕ). n * y) i)
 difference_times n (negsuc x) a b i =
     let e : 0 + n * b ≡ n * a + n * suc x = omega (arith, ap (λ (y : ℕ). n * y) i) in
-    difference-shift (neg_ℤ (pos (n * suc x))) 0 (n * suc x) (n * a) (n * b) e (difference_neg (n * suc x))
+    difference_shift (neg_ℤ (pos (n * suc x))) 0 (n * suc x) (n * a) (n * b) e (difference_neg (n * suc x))
 
 -- and to sum differences over a list, sum both.
 pub difference_sum : {A : Type 0} (f : A → ℤ) (a b : A → ℕ) → ((x : A) → Difference (f x) (a x) (b x)) → (xs : List A)

@@ -28,14 +28,14 @@ module _ (P : Plant) (c : Configuration) (t : ℕ) where
     doubled = rw (h, eq-eqb t t refl) refl
 
     -- as many as before of every other,
-    pub others-stay : (u : ℕ) → (u ≡ t → ⊥) → (after P c (doubling t)).content u ≡ c.content u
+    pub others_stay : (u : ℕ) → (u ≡ t → ⊥) → (after P c (doubling t)).content u ≡ c.content u
     unfolding after changed
-    others-stay u n = rw (h, ne_eqb u t n) refl
+    others_stay u n = rw (h, ne_eqb u t n) refl
 
     -- and every machine is in the state that it was in.
-    pub states-stay : (m : ℕ) → (after P c (doubling t)).state m ≡ c.state m
+    pub states_stay : (m : ℕ) → (after P c (doubling t)).state m ≡ c.state m
     unfolding after changed
-    states-stay m = rw (h) refl
+    states_stay m = rw (h) refl
 
 -- ---- the bound without doublings
 

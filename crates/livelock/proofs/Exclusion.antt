@@ -21,12 +21,12 @@ module _ (P : Plant) (ws : List ℕ) (ok : Passes P ws) (es : List Entry) (b : B
       all_weaken
       (λ e. SimpleCycle P e.machine e.cycle × Quiet P e.cycle)
       _
-      (λ e s. omega (arith, mul-le-mul_left e.repeats (below-zero e s.0 s.1)))
+      (λ e s. omega (arith, mul-le-mul_left e.repeats (below_zero e s.0 s.1)))
       es
       (all_both _ _ es b.simple b.no_progress)
     where
-      below-zero : (e : Entry) → SimpleCycle P e.machine e.cycle → Quiet P e.cycle → sent_by_types P ws e.cycle < taken_by_types P ws e.cycle
-      below-zero e s q = (negative_iff (cycle_weight P ws e.cycle) _ _ (weight_by_types P ws e.cycle)).0 (ok e.machine e.cycle s q)
+      below_zero : (e : Entry) → SimpleCycle P e.machine e.cycle → Quiet P e.cycle → sent_by_types P ws e.cycle < taken_by_types P ws e.cycle
+      below_zero e s q = (negative_iff (cycle_weight P ws e.cycle) _ _ (weight_by_types P ws e.cycle)).0 (ok e.machine e.cycle s q)
 
   -- Of each type the set sends at least what it takes, so also times the type's weight.
   heavier : All (λ t. weight ws t * set_taken P es t ≤ weight ws t * set_sent P es t) (below P.types)

@@ -26,10 +26,10 @@ module _ (n : ℕ) (up down plus minus : ℕ → ℕ) where
 
   -- With 1 ≤ k ≤ n the length is at least 1 if the weight is zero or more, and at most n − n = 0 if the weight is below zero.
   pub lengths_iff : (es : List ℕ) → All Lengthens es → 0 < length es → length es ≤ n → (sum minus es < sum plus es) ↔ (sum down es ≤ sum up es)
-  lengths_iff es h some few = (not-lighter, longer)
+  lengths_iff es h some few = (not_lighter, longer)
     where
-      not-lighter : sum minus es < sum plus es → sum down es ≤ sum up es
-      not-lighter p =
+      not_lighter : sum minus es < sum plus es → sum down es ≤ sum up es
+      not_lighter p =
           let l : n * sum down es < n * suc (sum up es) = omega (arith, total es h) in
           le_of_suc-le-suc (lt_of_mul-lt-mul_left n l)
 

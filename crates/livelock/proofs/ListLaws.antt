@@ -60,10 +60,10 @@ all_of_map F f [] h = tt
 all_of_map F f (x ∷ xs) h = (h.0, all_of_map F f xs h.1)
 
 -- What holds of all values of a function holds of the value at each element.
-pub all-map_of : {A B : Type 0} (F : B → Type 0) (f : A → B) (xs : List A) → All F (map f xs) → All (λ x. F (f x)) xs
+pub all_map_of : {A B : Type 0} (F : B → Type 0) (f : A → B) (xs : List A) → All F (map f xs) → All (λ x. F (f x)) xs
 unfolding All
-all-map_of F f [] h = tt
-all-map_of F f (x ∷ xs) h = (h.0, all-map_of F f xs h.1)
+all_map_of F f [] h = tt
+all_map_of F f (x ∷ xs) h = (h.0, all_map_of F f xs h.1)
 
 -- A list of n times d has d at every place, and beyond its end as well.
 pub get_d_replicate_default : {A : Type 0} (n : ℕ) (d : A) (i : ℕ) → get_or (replicate n d) i d ≡ d

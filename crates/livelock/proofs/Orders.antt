@@ -10,14 +10,14 @@ use lib.ListN.{length, replicate}
 use Rattle.livelock.specs.Orders.{Before}
 
 -- Of two lists not each comes before the other, and no list before itself.
-pub before-asymmetric : (c d : List ℕ) → Before c d → Before d c → ⊥
+pub before_asymmetric : (c d : List ℕ) → Before c d → Before d c → ⊥
 unfolding Before
-before-asymmetric c [] h k = h
-before-asymmetric [] (y ∷ d) h k = k
-before-asymmetric (x ∷ c) (y ∷ d) (inl h) (inl k) = omega arith
-before-asymmetric (x ∷ c) (y ∷ d) (inl h) (inr k) = omega (arith, k.0)
-before-asymmetric (x ∷ c) (y ∷ d) (inr h) (inl k) = omega (arith, h.0)
-before-asymmetric (x ∷ c) (y ∷ d) (inr h) (inr k) = before-asymmetric c d h.1 k.1
+before_asymmetric c [] h k = h
+before_asymmetric [] (y ∷ d) h k = k
+before_asymmetric (x ∷ c) (y ∷ d) (inl h) (inl k) = omega arith
+before_asymmetric (x ∷ c) (y ∷ d) (inl h) (inr k) = omega (arith, k.0)
+before_asymmetric (x ∷ c) (y ∷ d) (inr h) (inl k) = omega (arith, h.0)
+before_asymmetric (x ∷ c) (y ∷ d) (inr h) (inr k) = before_asymmetric c d h.1 k.1
 
 -- Of two lists of one length one comes before the other, or they are one.
 pub compared : (c d : List ℕ) → length c ≡ length d → (c ≡ d) ⊎ (Before c d ⊎ Before d c)

@@ -19,19 +19,19 @@ use Rattle.livelock.proofs.Exclusion.{exclusion}
 use Rattle.livelock.proofs.BasicExamples.{panel_and_probe, plant_a, probe_cycle, probe_quiet, panel, probe, plant_b, both_balanced, tight}
 
 -- Plant A is well-formed, by the test.
-pub formed-A : WellFormed plant_a
+pub formed_A : WellFormed plant_a
 unfolding panel_and_probe every
-formed-A = (well_formed_iff plant_a).0 refl
+formed_A = (well_formed_iff plant_a).0 refl
 
 -- Weights 2, 1 pass in plant A, so every run of it stays within its ceiling.
 pub passes_2_1 : Passes plant_a (2 ∷ 1 ∷ [])
 unfolding panel_and_probe below greatest every state_potential longest via has_progress
-passes_2_1 = (passing_iff plant_a formed-A (2 ∷ 1 ∷ [])).0 refl
+passes_2_1 = (passing_iff plant_a formed_A (2 ∷ 1 ∷ [])).0 refl
 
 runs_of_A : (c : Configuration) (events : List Event)
     → quiet_rows plant_a c events ≤ 10 + 2 * contents_weight plant_a (2 ∷ 1 ∷ []) c.content + 9 * progress_rows plant_a c events + 4 * doublings plant_a c events
 unfolding panel_and_probe below sum greatest
-runs_of_A = ceiling plant_a formed-A (2 ∷ 1 ∷ []) passes_2_1
+runs_of_A = ceiling plant_a formed_A (2 ∷ 1 ∷ []) passes_2_1
 
 -- With weights 1, 1 the probe's cycle weighs 0 and may be shown.
 pub shown_1_1 : FailingCycle plant_a (1 ∷ 1 ∷ []) (2 ∷ 3 ∷ [])

@@ -16,7 +16,7 @@ use Rattle.livelock.proofs.SumLaws.{sum-append}
 use Rattle.livelock.proofs.Pigeonhole.{pigeonhole}
 use Rattle.livelock.specs.Tests.{every}
 use Rattle.livelock.proofs.Tests.{every_below_iff, implies_iff, at_most_iff}
-use Rattle.livelock.proofs.Walks.{visited, visited-length, walk-append, HasCycle, distinct-or-cycle}
+use Rattle.livelock.proofs.Walks.{visited, visited-length, walk-append, HasCycle, distinct_or_cycle}
 use Rattle.livelock.specs.Graphs.{Graph, IsEdge, Cycle}
 use Rattle.livelock.proofs.Graphs.{Within, Positive, PositiveCycle, longest, longest_upper, Attained, longest_attained}
 
@@ -74,23 +74,23 @@ module _ (g : Graph) (N : ℕ) (b : Within g N) (s t : ℕ) (es : List ℕ) (u :
   NoLonger = sum g.plus es ≤ longest g (N - 1) s + sum g.minus es
 
   module _ (few : length es ≤ suc (N - 1)) (c : HasCycle g.src g.dst s t es) where
-    edges-in-parts : All (IsEdge g) (c.front ++ (c.cycle ++ c.back))
-    edges-in-parts = subst (All (IsEdge g)) c.parts u
+    edges_in_parts : All (IsEdge g) (c.front ++ (c.cycle ++ c.back))
+    edges_in_parts = subst (All (IsEdge g)) c.parts u
 
-    edges-from-cycle : All (IsEdge g) (c.cycle ++ c.back)
-    edges-from-cycle = all_back (IsEdge g) c.front (c.cycle ++ c.back) edges-in-parts
+    edges_from_cycle : All (IsEdge g) (c.cycle ++ c.back)
+    edges_from_cycle = all_back (IsEdge g) c.front (c.cycle ++ c.back) edges_in_parts
 
-    edges-without : All (IsEdge g) (c.front ++ c.back)
-    edges-without =
+    edges_without : All (IsEdge g) (c.front ++ c.back)
+    edges_without =
         all_append
         (IsEdge g)
         c.front
         c.back
-        (all_front (IsEdge g) c.front (c.cycle ++ c.back) edges-in-parts)
-        (all_back (IsEdge g) c.cycle c.back edges-from-cycle)
+        (all_front (IsEdge g) c.front (c.cycle ++ c.back) edges_in_parts)
+        (all_back (IsEdge g) c.cycle c.back edges_from_cycle)
 
-    walk-without : Walk g.src g.dst s (c.front ++ c.back) t
-    walk-without = walk-append g.src g.dst s c.at t c.front c.back c.arrives c.goes_on
+    walk_without : Walk g.src g.dst s (c.front ++ c.back) t
+    walk_without = walk-append g.src g.dst s c.at t c.front c.back c.arrives c.goes_on
 
     fewer : length (c.front ++ c.back) ≤ N - 1
     fewer = omega (arith, length_parts es c.front c.cycle c.back c.parts, c.non_empty)
@@ -101,14 +101,14 @@ module _ (g : Graph) (N : ℕ) (b : Within g N) (s t : ℕ) (es : List ℕ) (u :
           arith,
           sum_parts g.plus es c.front c.cycle c.back c.parts,
           sum_parts g.minus es c.front c.cycle c.back c.parts,
-          longest_upper g (N - 1) s t (c.front ++ c.back) fewer edges-without walk-without,
+          longest_upper g (N - 1) s t (c.front ++ c.back) fewer edges_without walk_without,
         )
 
     cycle : Cycle g c.cycle
     cycle =
         record {
           non_empty = c.non_empty;
-          edges = all_front (IsEdge g) c.cycle c.back edges-from-cycle;
+          edges = all_front (IsEdge g) c.cycle c.back edges_from_cycle;
           at = c.at;
           closed = c.closed;
           once = c.once;
@@ -119,7 +119,7 @@ module _ (g : Graph) (N : ℕ) (b : Within g N) (s t : ℕ) (es : List ℕ) (u :
     by_length (no h) = inr (c.cycle, cycle, omega arith)
 
   no_longer_or_positive : s < N → length es ≤ suc (N - 1) → NoLonger ⊎ PositiveCycle g
-  no_longer_or_positive ls few = go (distinct-or-cycle g.src g.dst s t es w)
+  no_longer_or_positive ls few = go (distinct_or_cycle g.src g.dst s t es w)
     where
       go : Distinct (visited g.src es t) ⊎ HasCycle g.src g.dst s t es → NoLonger ⊎ PositiveCycle g
       go (inl d) =

@@ -17,9 +17,9 @@ use Rattle.livelock.proofs.Graphs.{Within, PositiveCycle, Leads, via_leads, long
 use Rattle.livelock.proofs.Potentials.{telescope, potential_or_positive}
 
 -- The length along an edge asks for f only at the edge's end.
-pub via-equal : (g : Graph) (f h : ℕ → ℕ) (s e : ℕ) → (g.counts e ≡ true → f (g.dst e) ≡ h (g.dst e)) → via g f s e ≡ via g h s e
+pub via_equal : (g : Graph) (f h : ℕ → ℕ) (s e : ℕ) → (g.counts e ≡ true → f (g.dst e) ≡ h (g.dst e)) → via g f s e ≡ via g h s e
 unfolding via
-via-equal g f h s e q = go (g.counts e) refl
+via_equal g f h s e q = go (g.counts e) refl
   where
     go : (b : Bool) → g.counts e ≡ b
         → cond (b && eqb (g.src e) s) ((g.plus e + f (g.dst e)) - g.minus e) 0 ≡ cond (b && eqb (g.src e) s) ((g.plus e + h (g.dst e)) - g.minus e) 0

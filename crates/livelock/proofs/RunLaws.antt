@@ -9,10 +9,10 @@ use Rattle.livelock.specs.Plants.{Plant}
 use Rattle.livelock.specs.Runs.{Configuration, Event, can_happen, changed, after, after_all, run}
 
 -- The first event counts if it can happen and passes the test; the others are counted from what it leaves.
-pub count-run : (f : Event → Bool) (P : Plant) (c : Configuration) (e : Event) (es : List Event)
+pub count_run : (f : Event → Bool) (P : Plant) (c : Configuration) (e : Event) (es : List Event)
     → count f (run P c (e ∷ es)) ≡ cond (can_happen P c e) (cond (f e) 1 0) 0 + count f (run P (after P c e) es)
 unfolding run sum
-count-run f P c e es = go (can_happen P c e)
+count_run f P c e es = go (can_happen P c e)
   where
     go : (b : Bool) → count f (cond b (e ∷ []) [] ++ run P (after P c e) es) ≡ cond b (cond (f e) 1 0) 0 + count f (run P (after P c e) es)
     go true = refl
@@ -23,7 +23,7 @@ pub count-append : (f : Event → Bool) (P : Plant) (c : Configuration) (ds es :
     → count f (run P c (ds ++ es)) ≡ count f (run P c ds) + count f (run P (after_all P c ds) es)
 unfolding run after_all sum
 count-append f P c [] es = omega arith
-count-append f P c (d ∷ ds) es = omega (arith, count-run f P c d (ds ++ es), count-run f P c d ds, count-append f P (after P c d) ds es)
+count-append f P c (d ∷ ds) es = omega (arith, count_run f P c d (ds ++ es), count_run f P c d ds, count-append f P (after P c d) ds es)
 
 -- An event that cannot happen leaves everything as it was.
 stays : (P : Plant) (c : Configuration) (e : Event) → can_happen P c e ≡ false → after P c e ≡ c

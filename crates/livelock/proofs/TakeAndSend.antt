@@ -18,7 +18,7 @@ use Rattle.livelock.specs.Weights.{cycle_weight, Passes, FailingCycle}
 use Rattle.livelock.specs.Figures.{figures_of, contents_weight, ceiling_of, Bounded}
 use Rattle.livelock.specs.Tests.{every}
 use Rattle.livelock.specs.Graphs.{via}
-use Rattle.livelock.proofs.Tests.{and-iff, less_iff, equal_iff, well_formed_iff}
+use Rattle.livelock.proofs.Tests.{and_iff, less_iff, equal_iff, well_formed_iff}
 use Rattle.livelock.proofs.Differences.{not_negative_iff}
 use Rattle.livelock.proofs.CycleWeights.{sent_by_types, taken_by_types, weight_by_types}
 use Rattle.livelock.proofs.Graphs.{longest}
@@ -49,8 +49,8 @@ module _ (P : Plant) (k u : ℕ) (sends : (row_at P k).sent ≡ some u) (takes :
   pub one_present : (c : Configuration) → can_happen P c (row k) ≡ true → 0 < c.content u
   unfolding can_happen
   one_present c h =
-      let stands = ((and-iff (ltb k (row_count P)) _).0 h).1 in
-      let there = ((and-iff (eqb (c.state (row_at P k).machine) (row_at P k).left) _).0 stands).1 in
+      let stands = ((and_iff (ltb k (row_count P)) _).0 h).1 in
+      let there = ((and_iff (eqb (c.state (row_at P k).machine) (row_at P k).left) _).0 stands).1 in
       (less_iff 0 (c.content u)).0 (rw (takes) at there)
 
   -- and it leaves as many messages of each type as it found.

@@ -18,13 +18,13 @@ use Rattle.livelock.proofs.ListLaws.{all_below, all_below_at}
 -- ---- tests and their parts
 
 -- A conjunction is true exactly when both its parts are.
-pub and-iff : (a b : Bool) → ((a && b) ≡ true) ↔ ((a ≡ true) × (b ≡ true))
-and-iff true b = (λ h. (refl, h), λ h. h.1)
-and-iff false b = (λ h. absurd (false≢true h), λ h. h.0)
+pub and_iff : (a b : Bool) → ((a && b) ≡ true) ↔ ((a ≡ true) × (b ≡ true))
+and_iff true b = (λ h. (refl, h), λ h. h.1)
+and_iff false b = (λ h. absurd (false≢true h), λ h. h.0)
 
 -- Two tests joined.
 pub both_iff : {A B : Type 0} (a b : Bool) → (a ≡ true) ↔ A → (b ≡ true) ↔ B → ((a && b) ≡ true) ↔ (A × B)
-both_iff a b p q = Iff.trans (and-iff a b) (Iff.and p q)
+both_iff a b p q = Iff.trans (and_iff a b) (Iff.and p q)
 
 -- The test for less is true exactly where the first number is less than the second,
 pub less_iff : (a b : ℕ) → (ltb a b ≡ true) ↔ (a < b)

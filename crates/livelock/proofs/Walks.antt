@@ -54,7 +54,7 @@ module _ (src : ℕ → ℕ) where
       parts : es ≡ front ++ back
       arrives : Walk src dst s front x
       goes_on : Walk src dst x back t
-      not-before : All (λ y. x ≢ y) (map src front)
+      not_before : All (λ y. x ≢ y) (map src front)
 
     -- A walk never comes to x, or can be cut where it first does.
     cut : (x s t : ℕ) (es : List ℕ) → Walk src dst s es t → All (λ y. x ≢ y) (visited es t) ⊎ CutAt x s t es
@@ -62,12 +62,12 @@ module _ (src : ℕ → ℕ) where
     cut x s t [] w = go (ℕ_discrete x t)
       where
         go : Dec (x ≡ t) → All (λ y. x ≢ y) (visited [] t) ⊎ CutAt x s t []
-        go (yes q) = inr (record { front = []; back = []; parts = refl; arrives = w ∙ sym q; goes_on = q; not-before = tt })
+        go (yes q) = inr (record { front = []; back = []; parts = refl; arrives = w ∙ sym q; goes_on = q; not_before = tt })
         go (no q) = inl (q, tt)
     cut x s t (e ∷ es) w = go (ℕ_discrete x (src e)) (cut x (dst e) t es w.1)
       where
         here : x ≡ src e → CutAt x s t (e ∷ es)
-        here q = record { front = []; back = e ∷ es; parts = refl; arrives = sym w.0 ∙ sym q; goes_on = (sym q, w.1); not-before = tt }
+        here q = record { front = []; back = e ∷ es; parts = refl; arrives = sym w.0 ∙ sym q; goes_on = (sym q, w.1); not_before = tt }
 
         later : x ≢ src e → CutAt x (dst e) t es → CutAt x s t (e ∷ es)
         later q c =
@@ -77,7 +77,7 @@ module _ (src : ℕ → ℕ) where
               parts = ap (λ (z : List ℕ). e ∷ z) c.parts;
               arrives = (w.0, c.arrives);
               goes_on = c.goes_on;
-              not-before = (q, c.not-before);
+              not_before = (q, c.not_before);
             }
 
         go : Dec (x ≡ src e) → All (λ y. x ≢ y) (visited es t) ⊎ CutAt x (dst e) t es → All (λ y. x ≢ y) (visited (e ∷ es) t) ⊎ CutAt x s t (e ∷ es)
@@ -101,10 +101,10 @@ module _ (src : ℕ → ℕ) where
     -- A walk comes to each state once at most, or has a simple cycle in it.
     -- Look at the walk from its end backwards. As long as the states visited are distinct, ask whether the state that the edge before them
     -- leaves is among them. If so, that edge and the walk up to there are a simple cycle.
-    pub distinct-or-cycle : (s t : ℕ) (es : List ℕ) → Walk src dst s es t → Distinct (visited es t) ⊎ HasCycle s t es
+    pub distinct_or_cycle : (s t : ℕ) (es : List ℕ) → Walk src dst s es t → Distinct (visited es t) ⊎ HasCycle s t es
     unfolding visited All Distinct Walk
-    distinct-or-cycle s t [] w = inl (tt, tt)
-    distinct-or-cycle s t (e ∷ es) w = go (distinct-or-cycle (dst e) t es w.1) (cut (src e) (dst e) t es w.1)
+    distinct_or_cycle s t [] w = inl (tt, tt)
+    distinct_or_cycle s t (e ∷ es) w = go (distinct_or_cycle (dst e) t es w.1) (cut (src e) (dst e) t es w.1)
       where
         closes : Distinct (visited es t) → CutAt (src e) (dst e) t es → HasCycle s t (e ∷ es)
         closes d c =
@@ -117,7 +117,7 @@ module _ (src : ℕ → ℕ) where
               arrives = sym w.0;
               closed = (refl, c.arrives);
               goes_on = c.goes_on;
-              once = (c.not-before, visited_distinct c.front c.back t (subst (λ (z : List ℕ). Distinct (visited z t)) c.parts d));
+              once = (c.not_before, visited_distinct c.front c.back t (subst (λ (z : List ℕ). Distinct (visited z t)) c.parts d));
               non_empty = omega arith;
             }
 

@@ -13,19 +13,19 @@ use Rattle.graphs.proofs.PartLaws.{map_below}
 use Rattle.state_marks.specs.Marks.{column, RowsBelow, Sources}
 use Rattle.cycle_paths.specs.Rows.{Linked}
 use Rattle.cycle_counts.specs.Pairs.{Between}
-use Rattle.cycle_counts.proofs.BetweenLaws.{between-few}
+use Rattle.cycle_counts.proofs.BetweenLaws.{between_few}
 use Rattle.machine_graphs.specs.Graphs.{Listable, NoRows, Copied, Graphed}
 use Rattle.machine_graphs.specs.Inner.Rows.{RowAdded}
 use Rattle.machine_graphs.proofs.PartLaws.{next_long, head_long, into_long, between_long}
-use Rattle.machine_graphs.proofs.LinkLaws.{linked-none, linked_more, linked_same}
+use Rattle.machine_graphs.proofs.LinkLaws.{linked_none, linked_more, linked_same}
 use Rattle.machine_graphs.proofs.SourceLaws.{sources_none, sources_more, sources_same}
 use Rattle.machine_graphs.proofs.PairLaws.{between_none, between_more, between_same}
 
 -- ---- the columns
 
 -- Before the first row nothing is copied.
-none-copied : (table : List ℕ) (first : ℕ) (left entered : List ℕ) → Copied table first first left entered
-none-copied table first left entered = record { left_is = λ k from below. absurd (omega arith); entered_is = λ k from below. absurd (omega arith) }
+none_copied : (table : List ℕ) (first : ℕ) (left entered : List ℕ) → Copied table first first left entered
+none_copied table first left entered = record { left_is = λ k from below. absurd (omega arith); entered_is = λ k from below. absurd (omega arith) }
 
 module _ (table : List ℕ) (first last : ℕ) (ok : Listable table first last) (left entered : List ℕ) (copied : Copied table first last left entered) where
   -- Columns copied of rows that are fit to be listed have states below 24.
@@ -64,8 +64,8 @@ pub begun_none : (table : List ℕ) (last : ℕ) (graph : List ℕ) → last ≤
 begun_none table last graph few g =
     record {
       long = g.long;
-      copied = none-copied table last (left_of graph) (entered_of graph);
-      links = linked-none (leaving table) (next_of graph) (head_of graph) last (omega (arith, few, next_long graph)) (omega (arith, head_long graph g.long)) g.no_head;
+      copied = none_copied table last (left_of graph) (entered_of graph);
+      links = linked_none (leaving table) (next_of graph) (head_of graph) last (omega (arith, few, next_long graph)) (omega (arith, head_long graph g.long)) g.no_head;
       from = sources_none (leaving table) (entering table) (into_of graph) last;
       pairs = between_none (leaving table) (entering table) (between_of graph) last g.no_pair;
       last_is = g.last_is;
@@ -74,7 +74,7 @@ begun_none table last graph few g =
 -- No more rows lead from one state to another than there are.
 pub begun_few : (table : List ℕ) (k last : ℕ) (graph : List ℕ) (s t : ℕ) → s < 24 → t < 24 → last ≤ 1024 → Begun table k last graph → column (between_of graph) (s * 32 + t) ≤ 1024
 begun_few table k last graph s t b d few g =
-    omega (arith, g.pairs.known s t b d, between-few (leaving table) (entering table) s t k (last - k))
+    omega (arith, g.pairs.known s t b d, between_few (leaving table) (entering table) s t k (last - k))
 
 -- Row k is added.
 module _ (table : List ℕ) (k last left entered : ℕ) (before after : List ℕ) (inside : k < last) (few : last ≤ 1024) (near : last ≤ k + 64)

@@ -11,8 +11,8 @@ use Rattle.state_marks.specs.Marks.{column}
 use Rattle.cycle_paths.specs.Rows.{Linked}
 
 -- Links of no rows.
-pub linked-none : (left next head : List ℕ) (last : ℕ) → last ≤ length next → 24 ≤ length head → ((s : ℕ) → s < 24 → column head s ≡ last) → Linked left next head last last
-linked-none left next head last h room none =
+pub linked_none : (left next head : List ℕ) (last : ℕ) → last ≤ length next → 24 ≤ length head → ((s : ℕ) → s < 24 → column head s ≡ last) → Linked left next head last last
+linked_none left next head last h room none =
     record {
       next_room = h;
       head_room = room;

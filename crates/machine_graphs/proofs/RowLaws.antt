@@ -93,39 +93,39 @@ module _ (g : List ℕ) (k left entered later lower upper rows : ℕ) where
         ∙ (get_or-set_other g1 (64 + k % 64) i entered 0 (λ q. omega (arith, rest_in)) ∙ get_or-set_other g (k % 64) i left 0 (λ q. omega (arith, rest_in))))
 
     module _ (long : length g ≡ 1056) (few : k < 1024) where
-      stored-1 : get_or seven (0 + k % 64) 0 ≡ left
-      stored-1 =
+      stored_1 : get_or seven (0 + k % 64) 0 ≡ left
+      stored_1 =
           ap (λ (i : ℕ). get_or seven i 0) (zero-add (k % 64))
           ∙ (behind (k % 64) (omega (arith, rest_in))
           ∙ (get_or-set_other g2 (128 + k % 64) (k % 64) later 0 (λ q. omega arith)
           ∙ (get_or-set_other g1 (64 + k % 64) (k % 64) entered 0 (λ q. omega arith) ∙ get_or-set_same g (k % 64) left 0 (omega (arith, rest_in, long)))))
 
-      stored-2 : get_or seven (64 + k % 64) 0 ≡ entered
-      stored-2 =
+      stored_2 : get_or seven (64 + k % 64) 0 ≡ entered
+      stored_2 =
           behind (64 + k % 64) (omega (arith, rest_in))
           ∙ (get_or-set_other g2 (128 + k % 64) (64 + k % 64) later 0 (λ q. omega arith)
           ∙ get_or-set_same g1 (64 + k % 64) entered 0 (omega (arith, rest_in, long, length-set g (k % 64) left)))
 
-      stored-3 : get_or seven (128 + k % 64) 0 ≡ later
-      stored-3 =
+      stored_3 : get_or seven (128 + k % 64) 0 ≡ later
+      stored_3 =
           behind (128 + k % 64) (omega (arith, rest_in))
           ∙ get_or-set_same g2 (128 + k % 64) later 0 (omega (arith, rest_in, long, length-set g (k % 64) left, length-set g1 (64 + k % 64) entered))
 
-      long-4 : length g4 ≡ 1056
-      long-4 = simp length-set long
+      long_4 : length g4 ≡ 1056
+      long_4 = simp length-set long
 
-      long-5 : length g5 ≡ 1056
-      long-5 = simp length-set long
+      long_5 : length g5 ≡ 1056
+      long_5 = simp length-set long
 
       -- The two numbers of the states with a row to `entered`,
-      lower-at : get_or seven (224 + 2 * entered) 0 ≡ lower
-      lower-at =
+      lower_at : get_or seven (224 + 2 * entered) 0 ≡ lower
+      lower_at =
           get_or-set_other g6 (288 + pair) (224 + 2 * entered) rows 0 (λ q. omega arith)
-          ∙ (get_or-set_other g5 (225 + 2 * entered) (224 + 2 * entered) upper 0 (λ q. omega arith) ∙ get_or-set_same g4 (224 + 2 * entered) lower 0 (omega (arith, long-4)))
+          ∙ (get_or-set_other g5 (225 + 2 * entered) (224 + 2 * entered) upper 0 (λ q. omega arith) ∙ get_or-set_same g4 (224 + 2 * entered) lower 0 (omega (arith, long_4)))
 
-      upper-at : get_or seven (225 + 2 * entered) 0 ≡ upper
-      upper-at =
-          get_or-set_other g6 (288 + pair) (225 + 2 * entered) rows 0 (λ q. omega arith) ∙ get_or-set_same g5 (225 + 2 * entered) upper 0 (omega (arith, long-5))
+      upper_at : get_or seven (225 + 2 * entered) 0 ≡ upper
+      upper_at =
+          get_or-set_other g6 (288 + pair) (225 + 2 * entered) rows 0 (λ q. omega arith) ∙ get_or-set_same g5 (225 + 2 * entered) upper 0 (omega (arith, long_5))
 
       -- and those of the other states.
       else : (i : ℕ) → 216 ≤ i → i < 288 → (i ≡ 224 + 2 * entered → ⊥) → (i ≡ 225 + 2 * entered → ⊥) → get_or seven i 0 ≡ get_or g i 0
@@ -140,21 +140,21 @@ module _ (g : List ℕ) (k left entered later lower upper rows : ℕ) where
         where
           go : (s : ℕ) → s < 32 → Dec (s ≡ entered) → get_or (into_of seven) s 0 ≡ get_or (set (into_of g) entered into) s 0
           go s l (yes q) =
-              rw q (into_stands seven entered (omega arith) ∙ (rw (lower-at, upper-at) e) ∙ sym (get_or-set_same (into_of g) entered into 0 (omega (arith, into_long g))))
+              rw q (into_stands seven entered (omega arith) ∙ (rw (lower_at, upper_at) e) ∙ sym (get_or-set_same (into_of g) entered into 0 (omega (arith, into_long g))))
           go s l (no n) =
               into_stands seven s l
               ∙ (rw (else (224 + 2 * s) (omega arith) (omega arith) (λ q. n (omega arith)) (λ q. omega arith), else (225 + 2 * s) (omega arith) (omega arith) (λ q. omega arith) (λ q. n (omega arith))) (sym (into_stands g s l)))
               ∙ sym (get_or-set_other (into_of g) entered s into 0 n)
 
-      pub row-added : (into : ℕ) → later ≡ get_or g (192 + left) 0 → lower + 65536 * upper ≡ into → marks_of 24 into ≡ set (marks_of 24 (get_or (into_of g) entered 0)) left 1
+      pub row_added : (into : ℕ) → later ≡ get_or g (192 + left) 0 → lower + 65536 * upper ≡ into → marks_of 24 into ≡ set (marks_of 24 (get_or (into_of g) entered 0)) left 1
           → rows ≡ get_or g (288 + pair) 0 + 1 → RowAdded k left entered g seven
       unfolding left_of entered_of next_of head_of between_of last_of
-      row-added into e f m h =
+      row_added into e f m h =
           record {
             long = simp length-set long;
-            left_at = row_at 0 seven k few ∙ stored-1;
-            entered_at = row_at 64 seven k few ∙ stored-2;
-            next_at = row_at 128 seven k few ∙ (stored-3 ∙ (e ∙ sym (part_at 24 192 g left low)));
+            left_at = row_at 0 seven k few ∙ stored_1;
+            entered_at = row_at 64 seven k few ∙ stored_2;
+            next_at = row_at 128 seven k few ∙ (stored_3 ∙ (e ∙ sym (part_at 24 192 g left low)));
             left_else = λ j a b l. row_at 0 seven j l ∙ (kept (0 + j % 64) (omega arith) (λ q. apart k j a b (omega arith)) (λ q. omega arith) (λ q. omega arith) ∙ sym (row_at 0 g j l));
             entered_else = λ j a b l. row_at 64 seven j l ∙ (kept (64 + j % 64) (omega arith) (λ q. omega arith) (λ q. apart k j a b (omega arith)) (λ q. omega arith) ∙ sym (row_at 64 g j l));
             next_else = λ j a b l. row_at 128 seven j l ∙ (kept (128 + j % 64) (omega arith) (λ q. omega arith) (λ q. omega arith) (λ q. apart k j a b (omega arith)) ∙ sym (row_at 128 g j l));

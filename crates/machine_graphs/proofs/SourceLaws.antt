@@ -7,7 +7,7 @@ use native.Mathlib.Omega.{arith}
 use lib.ListN.{length, get_or, set}
 use lib.Seq.{get_or-set_same, get_or-set_other}
 use Rattle.state_marks.specs.Marks.{column, marks_of, Sources}
-use Rattle.state_marks.proofs.MarkLaws.{marks-length}
+use Rattle.state_marks.proofs.MarkLaws.{marks_length}
 
 -- A state that is marked stays marked when one more is.
 still_marked : (marks : List ℕ) (s x : ℕ) → s < length marks → get_or marks x 0 ≡ 1 → get_or (set marks s 1) x 0 ≡ 1
@@ -33,7 +33,7 @@ module _ (left entered into : List ℕ) (k last v : ℕ) (g : Sources left enter
   put_at = get_or-set_same into (column entered k) v 0 (omega (arith, room))
 
   few : column left k < length (marks_of 24 (column into (column entered k)))
-  few = omega (arith, low, marks-length 24 (column into (column entered k)))
+  few = omega (arith, low, marks_length 24 (column into (column entered k)))
 
   stands_in : (j : ℕ) → k ≤ j → j < last → Dec (j ≡ k) → Dec (column entered j ≡ column entered k) → get_or (marks_of 24 (column into' (column entered j))) (column left j) 0 ≡ 1
   stands_in j a b (yes p) d =

@@ -24,14 +24,14 @@ use Rattle.tables.specs.Tables.{row_in}
 use Rattle.decoding.specs.Tables.{plant_of, rows_before, Ready}
 use Rattle.plant.specs.Limits.{WithinLimits}
 use Rattle.decoding.specs.declared.Shape.{Shape}
-use Rattle.decoding.proofs.TableLaws.{plant_row_is, rows-counted}
+use Rattle.decoding.proofs.TableLaws.{plant_row_is, rows_counted}
 use Rattle.decoding.proofs.FirstRowLaws.{row_of_machine, machine_rows}
 use Rattle.deciding.specs.Signs.{rise, fall}
 use Rattle.edge_lists.specs.EdgeLists.{Edge, edge_in}
 use Rattle.edges.specs.Edges.{Has, Listed, RowsBetween}
 use Rattle.machines.specs.Machines.{MachinePasses}
 use Rattle.deciding.specs.Rounds.{edge_graph, AllBelowZero, NoneBelow, Decided}
-use Rattle.deciding.proofs.SignLaws.{rise-fall, difference_same}
+use Rattle.deciding.proofs.SignLaws.{rise_fall, difference_same}
 
 -- ---- edges and rows
 
@@ -61,7 +61,7 @@ module _ (P : Plant) (formed : WellFormed P) (ws : List ℕ) (m count : ℕ) (li
       let a = sent_weight P ws (row_of_edge i) in
       let b = taken_weight P ws (row_of_edge i) in
       let w = (edge_in list i).weight in
-      difference_same w (rise w) (fall w) a b (rise-fall w) (subst (λ (z : ℤ). Difference z a b) (sym (each i l).weighs) (difference_minus a b))
+      difference_same w (rise w) (fall w) a b (rise_fall w) (subst (λ (z : ℤ). Difference z a b) (sym (each i l).weighs) (difference_minus a b))
 
   -- So it is for lists.
   same_weights : (es : List ℕ) → AllEdges es → sum (edge_graph count list).plus es + sum (taken_weight P ws) (map row_of_edge es) ≡ sum (sent_weight P ws) (map row_of_edge es) + sum (edge_graph count list).minus es
@@ -153,26 +153,26 @@ module _ (P : Plant) (formed : WellFormed P) (ws : List ℕ) (m count : ℕ) (li
       are : map row_of_edge edges ≡ c
 
     -- Every list of quiet rows of the machine has them.
-    edges-for : (c : List ℕ) → All (QuietRowOf P m) c → EdgesFor c
+    edges_for : (c : List ℕ) → All (QuietRowOf P m) c → EdgesFor c
     unfolding All
-    edges-for [] u = record { edges = []; within = tt; are = refl }
-    edges-for (j ∷ c) u =
+    edges_for [] u = record { edges = []; within = tt; are = refl }
+    edges_for (j ∷ c) u =
         let first = every j u.0 in
-        let rest = edges-for c u.1 in
+        let rest = edges_for c u.1 in
         record { edges = first.place ∷ rest.edges; within = (first.within, rest.within); are = rw (first.is, rest.are) }
 
     -- Where every cycle of the edges is below zero, every quiet simple cycle is.
-    cycles-pass : AllBelowZero (edge_graph count list) → MachinePasses P ws m
-    cycles-pass h c s q =
-        let f = edges-for c (all_both (RowOf P m) _ c s.of_machine q) in
+    cycles_pass : AllBelowZero (edge_graph count list) → MachinePasses P ws m
+    cycles_pass h c s q =
+        let f = edges_for c (all_both (RowOf P m) _ c s.of_machine q) in
         subst (λ (x : List ℕ). SimpleCycle P m x → cycle_weight P ws x <ℤ pos 0) f.are (edges_pass h f.edges f.within) s
 
     -- Where every cycle of the edges that is zero or more has at least k, every quiet simple cycle that weighs zero or more has at least k rows:
     -- it is the rows of edges, as many, which are such a cycle.
-    cycles-long : (k : ℕ) → NoneBelow (edge_graph count list) k → (c : List ℕ) → SimpleCycle P m c → Quiet P c → pos 0 ≤ℤ cycle_weight P ws c
+    cycles_long : (k : ℕ) → NoneBelow (edge_graph count list) k → (c : List ℕ) → SimpleCycle P m c → Quiet P c → pos 0 ≤ℤ cycle_weight P ws c
         → k ≤ length c
-    cycles-long k h c s q w =
-        let f = edges-for c (all_both (RowOf P m) _ c s.of_machine q) in
+    cycles_long k h c s q w =
+        let f = edges_for c (all_both (RowOf P m) _ c s.of_machine q) in
         let simple : SimpleCycle P m (map row_of_edge f.edges) = subst (SimpleCycle P m) (sym f.are) s in
         let weighs = (zero_or_more_iff P formed ws (map row_of_edge f.edges)).0 (subst (λ (x : List ℕ). pos 0 ≤ℤ cycle_weight P ws x) (sym f.are) w) in
         omega (
@@ -187,34 +187,34 @@ module _ (P : Plant) (formed : WellFormed P) (ws : List ℕ) (m count : ℕ) (li
 module _ (shape : Shape) (table : List ℕ) (ready : Ready shape table) (limits : WithinLimits (plant_of shape table)) where
   module _ (m : ℕ) (within : m < shape.machines) where
     -- Its rows stand from its first row
-    low-is : get_or shape.first m 0 ≡ rows_before (plant_of shape table) m
-    low-is = ready.first_row m (omega (arith, within))
+    low_is : get_or shape.first m 0 ≡ rows_before (plant_of shape table) m
+    low_is = ready.first_row m (omega (arith, within))
 
     -- up to the next machine's.
     high_is : get_or shape.first (m + 1) 0 ≡ rows_before (plant_of shape table) (m + 1)
     high_is = ready.first_row (m + 1) (omega (arith, within))
 
     -- A row from there is the machine's,
-    row-between : (j : ℕ) → get_or shape.first m 0 ≤ j → j < get_or shape.first (m + 1) 0 → RowOf (plant_of shape table) m j
-    row-between j a b =
-        let there : j < row_count (plant_of shape table) = omega (arith, (machine_rows shape table ready m within).1, rows-counted shape table) in
-        (there, (row_of_machine (plant_of shape table) limits m j there).1 (omega (arith, low-is), omega (arith, high_is)))
+    row_between : (j : ℕ) → get_or shape.first m 0 ≤ j → j < get_or shape.first (m + 1) 0 → RowOf (plant_of shape table) m j
+    row_between j a b =
+        let there : j < row_count (plant_of shape table) = omega (arith, (machine_rows shape table ready m within).1, rows_counted shape table) in
+        (there, (row_of_machine (plant_of shape table) limits m j there).1 (omega (arith, low_is), omega (arith, high_is)))
 
     -- and the table has it.
     row_stored : (j : ℕ) → RowOf (plant_of shape table) m j → row_at (plant_of shape table) j ≡ row_in table j
-    row_stored j r = plant_row_is shape table j (omega (arith, r.0, rows-counted shape table))
+    row_stored j r = plant_row_is shape table j (omega (arith, r.0, rows_counted shape table))
 
     -- So its rows are between its states.
-    pub rows-between : RowsBetween table (get_or shape.first m 0) (get_or shape.first (m + 1) 0) (state_count (plant_of shape table) m)
-    rows-between =
+    pub rows_between : RowsBetween table (get_or shape.first m 0) (get_or shape.first (m + 1) 0) (state_count (plant_of shape table) m)
+    rows_between =
         let rows = machine_rows shape table ready m within in
         record {
           in_table = omega (arith, rows.1, ready.sound.few_rows);
           room = omega (arith, rows.1, ready.sound.room);
           ordered = rows.0;
           few = omega (arith, rows.2, limits.rows_each m);
-          left_in = λ j a b. let r = row-between j a b in subst (λ (x : Row). x.left < state_count (plant_of shape table) m) (row_stored j r) (row_within (plant_of shape table) limits.formed m j r).0;
-          entered_in = λ j a b. let r = row-between j a b in subst (λ (x : Row). x.entered < state_count (plant_of shape table) m) (row_stored j r) (row_within (plant_of shape table) limits.formed m j r).1;
+          left_in = λ j a b. let r = row_between j a b in subst (λ (x : Row). x.left < state_count (plant_of shape table) m) (row_stored j r) (row_within (plant_of shape table) limits.formed m j r).0;
+          entered_in = λ j a b. let r = row_between j a b in subst (λ (x : Row). x.entered < state_count (plant_of shape table) m) (row_stored j r) (row_within (plant_of shape table) limits.formed m j r).1;
         }
 
   module _ (ws : List ℕ) (m : ℕ) (within : m < shape.machines) (count : ℕ) (list : List ℤ) (listed : Listed table ws (get_or shape.first m 0) (get_or shape.first (m + 1) 0) count list) where
@@ -223,7 +223,7 @@ module _ (shape : Shape) (table : List ℕ) (ready : Ready shape table) (limits 
     edge_row i l =
         let x = listed.each i l in
         let j = (edge_in list i).row in
-        let r = row-between m within j x.from_low x.below_high in
+        let r = row_between m within j x.from_low x.below_high in
         let is = row_stored m within j r in
         record {
           row = (r, ap has_progress is ∙ x.quiet);
@@ -233,25 +233,25 @@ module _ (shape : Shape) (table : List ℕ) (ready : Ready shape table) (limits 
         }
 
     -- and each of these is an edge.
-    pub row-edge : (j : ℕ) → QuietRowOf (plant_of shape table) m j → Has count list j
-    row-edge j r =
+    pub row_edge : (j : ℕ) → QuietRowOf (plant_of shape table) m j → Has count list j
+    row_edge j r =
         let between = (row_of_machine (plant_of shape table) limits m j r.0.0).0 r.0.1 in
         let is = row_stored m within j r.0 in
-        listed.every j (omega (arith, between.0, low-is m within)) (omega (arith, between.1, high_is m within)) (sym (ap has_progress is) ∙ r.1)
+        listed.every j (omega (arith, between.0, low_is m within)) (omega (arith, between.1, high_is m within)) (sym (ap has_progress is) ∙ r.1)
 
     -- Where every cycle of the edges is below zero, every quiet simple cycle of the machine is.
-    pub machine-passes : AllBelowZero (edge_graph count list) → MachinePasses (plant_of shape table) ws m
-    machine-passes = cycles-pass (plant_of shape table) limits.formed ws m count list edge_row row-edge
+    pub machine_passes : AllBelowZero (edge_graph count list) → MachinePasses (plant_of shape table) ws m
+    machine_passes = cycles_pass (plant_of shape table) limits.formed ws m count list edge_row row_edge
 
     -- Where every cycle of the edges that is zero or more has at least k, every such quiet simple cycle of the machine has at least k rows.
-    pub machine-long : (k : ℕ) → NoneBelow (edge_graph count list) k → (c : List ℕ) → SimpleCycle (plant_of shape table) m c → Quiet (plant_of shape table) c
+    pub machine_long : (k : ℕ) → NoneBelow (edge_graph count list) k → (c : List ℕ) → SimpleCycle (plant_of shape table) m c → Quiet (plant_of shape table) c
         → pos 0 ≤ℤ cycle_weight (plant_of shape table) ws c → k ≤ length c
-    machine-long = cycles-long (plant_of shape table) limits.formed ws m count list edge_row row-edge
+    machine_long = cycles_long (plant_of shape table) limits.formed ws m count list edge_row row_edge
 
     -- The rows of a closed walk over the edges are a quiet closed walk of the plant.
-    pub machine-walk : (a : ℕ) (es : List ℕ) → 0 < length es → All (IsEdge (edge_graph count list)) es
+    pub machine_walk : (a : ℕ) (es : List ℕ) → 0 < length es → All (IsEdge (edge_graph count list)) es
         → Walk (edge_graph count list).src (edge_graph count list).dst a es a → QuietWalk (plant_of shape table) (map (λ i. (edge_in list i).row) es)
-    machine-walk = closed_quiet (plant_of shape table) limits.formed ws m count list edge_row
+    machine_walk = closed_quiet (plant_of shape table) limits.formed ws m count list edge_row
 
     -- The rows of a cycle of edges that is zero or more are a quiet simple cycle of the machine that weighs zero or more.
     pub machine_fails : (es : List ℕ) → Cycle (edge_graph count list) es
@@ -260,9 +260,9 @@ module _ (shape : Shape) (table : List ℕ) (ready : Ready shape table) (limits 
     machine_fails = cycle_fails (plant_of shape table) limits.formed ws m count list edge_row
 
     -- What `decide` says of the edges, it says of the machine: true exactly when every quiet simple cycle weighs below zero.
-    pub machine-decided : (b : Bool) → Decided (edge_graph count list) b
+    pub machine_decided : (b : Bool) → Decided (edge_graph count list) b
         → (b ≡ true) ↔ MachinePasses (plant_of shape table) ws m
-    machine-decided true d = (λ q. machine-passes d, λ p. refl)
-    machine-decided false d =
+    machine_decided true d = (λ q. machine_passes d, λ p. refl)
+    machine_decided false d =
         let x = machine_fails d.0 d.1 d.2 in
         (λ q. absurd (false≢true q), λ p. absurd (clash_ℤ (p (map (λ i. (edge_in list i).row) d.0) x.0 x.1) x.2))

@@ -24,7 +24,7 @@ use Rattle.edges.specs.Edges.{Listed}
 use Rattle.edges.proofs.ListedLaws.{edges_in}
 use Rattle.figures.proofs.FigureLaws.{states_limit, most_limit}
 use Rattle.machines.specs.Machines.{Weighable, EdgesBeside, MachinePasses, FailingRows}
-use Rattle.machines.proofs.MachineLaws.{rows-between, machine-passes, machine_fails}
+use Rattle.machines.proofs.MachineLaws.{rows_between, machine_passes, machine_fails}
 
 -- ---- deciding
 
@@ -60,46 +60,46 @@ module _ (s : Shape) (table ws : List ℕ) (ok : Weighable s table ws) where
     states_in = states_limit (plant_of s table) ok.limits m (omega (arith, machines_are))
 
     -- No machine has more than n states, and n is at most 64.
-    pub turn-states : (k n : ℕ) → k ≡ get_or s.states m 0 → n ≡ most_states (plant_of s table) → (k ≤ n) × (n ≤ 64)
-    turn-states k n k-is n-is = (
+    pub turn_states : (k n : ℕ) → k ≡ get_or s.states m 0 → n ≡ most_states (plant_of s table) → (k ≤ n) × (n ≤ 64)
+    turn_states k n k-is n-is = (
       omega (arith, k-is, n-is, states_at s table m within, greatest_below (state_count (plant_of s table)) (machine_count (plant_of s table)) m (omega (arith, machines_are))),
       omega (arith, n-is, most_limit (plant_of s table) ok.limits),
     )
 
     -- The rows of a cycle of the machine's edges that is zero or more are a quiet simple cycle of the plant that weighs zero or more.
-    pub edges-fail : {count : ℕ} {edges : List ℤ} → FailingRows table ws (get_or s.first m 0) (get_or s.first (m + 1) 0) count edges
+    pub edges_fail : {count : ℕ} {edges : List ℤ} → FailingRows table ws (get_or s.first m 0) (get_or s.first (m + 1) 0) count edges
         → (es : List ℕ) → Cycle (edge_graph count edges) es → sum (edge_graph count edges).minus es ≤ sum (edge_graph count edges).plus es
         → FailingCycle (plant_of s table) ws (map (λ i. (edge_in edges i).row) es)
-    edges-fail {count} {edges} failing es simple weighs =
+    edges_fail {count} {edges} failing es simple weighs =
         let f = machine_fails s table ok.ready ok.limits ws m within count edges failing.listed es simple weighs in
         record { machine = m; simple = f.0; quiet = f.1; weighs = f.2 }
 
     -- So where the machine fails, the weights do not pass.
-    pub one-fails : {count : ℕ} {edges : List ℤ} → FailingRows table ws (get_or s.first m 0) (get_or s.first (m + 1) 0) count edges → Passes (plant_of s table) ws → ⊥
-    one-fails failing p = let x = failing.zero_or_more in not_both (plant_of s table) ws _ p (edges-fail failing x.0 x.1 x.2)
+    pub one_fails : {count : ℕ} {edges : List ℤ} → FailingRows table ws (get_or s.first m 0) (get_or s.first (m + 1) 0) count edges → Passes (plant_of s table) ws → ⊥
+    one_fails failing p = let x = failing.zero_or_more in not_both (plant_of s table) ws _ p (edges_fail failing x.0 x.1 x.2)
 
-    module _ (low high : ℕ) (low-is : low ≡ get_or s.first m 0) (high_is : high ≡ get_or s.first (m + 1) 0) where
+    module _ (low high : ℕ) (low_is : low ≡ get_or s.first m 0) (high_is : high ≡ get_or s.first (m + 1) 0) where
       -- The rows are few enough for an edge list.
-      pub turn-rows : (edges : List ℤ) → EdgesBeside table edges → RoomFor high table × (high ≤ 1024) × (low ≤ high) × EdgeRoom (high - low) edges
-      turn-rows edges room =
-          let x = rows-between s table ok.ready ok.limits m within in
-          (omega (arith, high_is, x.room), omega (arith, high_is, x.in_table), omega (arith, low-is, high_is, x.ordered), omega (arith, low-is, high_is, x.few, x.room, room))
+      pub turn_rows : (edges : List ℤ) → EdgesBeside table edges → RoomFor high table × (high ≤ 1024) × (low ≤ high) × EdgeRoom (high - low) edges
+      turn_rows edges room =
+          let x = rows_between s table ok.ready ok.limits m within in
+          (omega (arith, high_is, x.room), omega (arith, high_is, x.in_table), omega (arith, low_is, high_is, x.ordered), omega (arith, low_is, high_is, x.few, x.room, room))
 
       module _ (count : ℕ) (edges : List ℤ) (listed : Listed table ws low high count edges) where
         -- The edges are the machine's.
-        turn-listed : Listed table ws (get_or s.first m 0) (get_or s.first (m + 1) 0) count edges
-        turn-listed = subst (λ (x : ℕ). Listed table ws x (get_or s.first (m + 1) 0) count edges) low-is (subst (λ (y : ℕ). Listed table ws low y count edges) high_is listed)
+        turn_listed : Listed table ws (get_or s.first m 0) (get_or s.first (m + 1) 0) count edges
+        turn_listed = subst (λ (x : ℕ). Listed table ws x (get_or s.first (m + 1) 0) count edges) low_is (subst (λ (y : ℕ). Listed table ws low y count edges) high_is listed)
 
         -- They are within the limits.
-        pub turn-edges : (n : ℕ) → n ≡ get_or s.states m 0 → EdgesIn n count edges
-        turn-edges n n-is =
+        pub turn_edges : (n : ℕ) → n ≡ get_or s.states m 0 → EdgesIn n count edges
+        turn_edges n n-is =
             subst (λ (k : ℕ). EdgesIn k count edges) (sym (n-is ∙ states_at s table m within))
-            (edges_in table ws ok.light (get_or s.first m 0) (get_or s.first (m + 1) 0) count edges turn-listed (state_count (plant_of s table) m) states_in.0 states_in.1 (rows-between s table ok.ready ok.limits m within))
+            (edges_in table ws ok.light (get_or s.first m 0) (get_or s.first (m + 1) 0) count edges turn_listed (state_count (plant_of s table) m) states_in.0 states_in.1 (rows_between s table ok.ready ok.limits m within))
 
         -- The machine passes if every cycle is below zero,
-        pub turn-passes : AllBelowZero (edge_graph count edges) → MachinePasses (plant_of s table) ws m
-        turn-passes = machine-passes s table ok.ready ok.limits ws m within count edges turn-listed
+        pub turn_passes : AllBelowZero (edge_graph count edges) → MachinePasses (plant_of s table) ws m
+        turn_passes = machine_passes s table ok.ready ok.limits ws m within count edges turn_listed
 
         -- and fails if one is not.
-        pub turn-fails : SomeZeroOrMore (edge_graph count edges) → FailingRows table ws (get_or s.first m 0) (get_or s.first (m + 1) 0) count edges
-        turn-fails zero_or_more = record { listed = turn-listed; zero_or_more = zero_or_more }
+        pub turn_fails : SomeZeroOrMore (edge_graph count edges) → FailingRows table ws (get_or s.first m 0) (get_or s.first (m + 1) 0) count edges
+        turn_fails zero_or_more = record { listed = turn_listed; zero_or_more = zero_or_more }

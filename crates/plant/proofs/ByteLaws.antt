@@ -15,13 +15,13 @@ module _ (passes : ℕ → Bool) (number : ℕ) (s : List ℕ) (at : ℕ) where
 
   -- where it is there, its test decides.
   module _ (b next : ℕ) (e : byte_at s at ≡ found b next) where
-    pub byte-passes : passes b ≡ true → found b next ≡ byte_that passes number s at
+    pub byte_passes : passes b ≡ true → found b next ≡ byte_that passes number s at
     unfolding byte_that
-    byte-passes t = rw (e, t)
+    byte_passes t = rw (e, t)
 
-    pub byte-fails : passes b ≡ false → fault number at ≡ byte_that passes number s at
+    pub byte_fails : passes b ≡ false → fault number at ≡ byte_that passes number s at
     unfolding byte_that
-    byte-fails t = rw (e, t)
+    byte_fails t = rw (e, t)
 
 -- A byte of a range that begins at 0 is one below its end.
 pub byte_below : (end number : ℕ) (s : List ℕ) (at : ℕ) → byte_in 0 end number s at ≡ byte_that (λ b. ltb b end) number s at

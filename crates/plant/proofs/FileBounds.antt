@@ -127,7 +127,7 @@ with_machine_lem states n at next p f l hs hn =
             no_twins = f.no_twins;
             bytes = omega (arith, more, f.bytes);
           };
-      last = more-suc;
+      last = more_suc;
       size = get_or_at p.states states [] 0 (machine_count p) refl;
       room = hn.1;
       own = omega (arith, no_rows_yet p f.formed, hn.0);
@@ -136,8 +136,8 @@ with_machine_lem states n at next p f l hs hn =
     more : machine_count (with_machine p states) ≡ machine_count p + 1
     more = length-append p.states (states ∷ [])
 
-    more-suc : machine_count (with_machine p states) ≡ suc (machine_count p)
-    more-suc = omega (arith, more)
+    more_suc : machine_count (with_machine p states) ≡ suc (machine_count p)
+    more_suc = omega (arith, more)
 
 -- ---- machines and the file
 
@@ -145,12 +145,12 @@ with_machine_lem states n at next p f l hs hn =
 pub each_moved : {A : Type 0} {P R : A → ℕ → Type 0} (s : List ℕ) (b : ℕ) {x : Found A} → b ≤ length s → ((a : A) (next : ℕ) → P a next → R a (b + next))
     → Each P (length (drop b s)) x → Each R (length s) (moved_by b x)
 each_moved s b l f (got p) = got (f _ _ p)
-each_moved s b l f (stopped h) = stopped (placed-moved h)
+each_moved s b l f (stopped h) = stopped (placed_moved h)
   where
-    placed-moved : {number place : ℕ} → Placed (length (drop b s)) number place → Placed (length s) number (b + place)
-    placed-moved at_the_end = let e : b + length (drop b s) ≡ length s = omega (arith, length-drop b s) in rw e at_the_end
-    placed-moved (within {number} {place} h u i) = let g : b + place < length s = omega (arith, length-drop b s) in within h u g
-    placed-moved (at_twin {place} i) = let g : b + place < length s = omega (arith, length-drop b s) in at_twin g
+    placed_moved : {number place : ℕ} → Placed (length (drop b s)) number place → Placed (length s) number (b + place)
+    placed_moved at_the_end = let e : b + length (drop b s) ≡ length s = omega (arith, length-drop b s) in rw e at_the_end
+    placed_moved (within {number} {place} h u i) = let g : b + place < length s = omega (arith, length-drop b s) in within h u g
+    placed_moved (at_twin {place} i) = let g : b + place < length s = omega (arith, length-drop b s) in at_twin g
 
 -- The rows of a plant are of machines that it has, with a machine more that was read as well.
 pub machine_numbered : (s : List ℕ) (at : ℕ) (p : Plant) → Numbered p → Each (λ q next. Numbered q) (length s) (read_machine s at p)

@@ -18,8 +18,8 @@ use Rattle.plant.specs.declared.End.TheVariants as Ends
 use Rattle.plant.proofs.Bounds.{Each, got, stopped, read_rows_each}
 
 -- `&s[b..]`, as the rule for it has it.
-pub part-is : (s : List ℕ) (b : ℕ) → take (length s - b) (drop b s) ≡ drop b s
-part-is s b = take_all (length s - b) (drop b s) (le_of_eq (length-drop b s))
+pub part_is : (s : List ℕ) (b : ℕ) → take (length s - b) (drop b s) ≡ drop b s
+part_is s b = take_all (length s - b) (drop b s) (le_of_eq (length-drop b s))
 
 -- ---- one machine
 
@@ -36,12 +36,12 @@ module _ (s : List ℕ) (at : ℕ) (p : Plant) where
     no_rows number place f = rw (e, u, f)
 
     -- and after both counts its rows decide, with their offsets counted from the start of the file.
-    pub machine-read : (m n b : ℕ) (x : Found Plant) (q : Plant) → machine_count p ≡ m → rows_byte used s a ≡ found n b → q ≡ with_machine p states
+    pub machine_read : (m n b : ℕ) (x : Found Plant) (q : Plant) → machine_count p ≡ m → rows_byte used s a ≡ found n b → q ≡ with_machine p states
         → x ≡ read_rows n m states 0 (take (length s - b) (drop b s)) 0 q → moved_by b x ≡ read_machine s at p
     unfolding read_machine
-    machine-read m n b x q c f w h =
+    machine_read m n b x q c f w h =
         let g = subst (λ (z : Plant). x ≡ read_rows n m states 0 (take (length s - b) (drop b s)) 0 z) w h in
-        rw (e, u, f, c, g, part-is)
+        rw (e, u, f, c, g, part_is)
 
 -- The place of a fault is at most the length of the file.
 pub place_within : (n number place : ℕ) → Placed n number place → place ≤ n
@@ -64,7 +64,7 @@ rows_end n m states b s p q end h e =
     (length (drop b s))
     q
     end
-    (rw (e, part-is) (read_rows_each (drop b s) (λ k at q. Unit {0}) m states (λ k at next q r j l i f. tt) n 0 0 p h zero-le tt)))
+    (rw (e, part_is) (read_rows_each (drop b s) (λ k at q. Unit {0}) m states (λ k at next q r j l i f. tt) n 0 0 p h zero-le tt)))
 
 -- ---- what is left to read after i of n machines
 

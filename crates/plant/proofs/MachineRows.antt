@@ -13,9 +13,9 @@ use Rattle.livelock.proofs.ListLaws.{all_weaken}
 use Rattle.plant.specs.Limits.{rows_in, rows_of, Numbered}
 
 -- There are as many as `rows_of` counts.
-pub rowsIn-count : (m : ℕ) (p : Plant) → length (rows_in m p.rows) ≡ rows_of p m
+pub rows_in-count : (m : ℕ) (p : Plant) → length (rows_in m p.rows) ≡ rows_of p m
 unfolding rows_in sum
-rowsIn-count m p = counted p.rows
+rows_in-count m p = counted p.rows
   where
     counted : (rs : List Row) → length (rows_in m rs) ≡ sum (λ r. cond (eqb r.machine m) 1 0) rs
     counted [] = refl

@@ -18,6 +18,6 @@ module _ (s : List ℕ) where
     no_type_count number place f = rw (e, f)
 
     -- and after both counts the machines decide, and then the end of the file.
-    pub file-read : (types b : ℕ) → byte_in 0 65 2 s a ≡ found types b → and_then (read_machines m s b (no_machines types)) (file_end s) ≡ read_plant s
+    pub file_read : (types b : ℕ) → byte_in 0 65 2 s a ≡ found types b → and_then (read_machines m s b (no_machines types)) (file_end s) ≡ read_plant s
     unfolding read_plant
-    file-read types b f = rw (e, f)
+    file_read types b f = rw (e, f)

@@ -17,19 +17,19 @@ module _ (m states implied at : ℕ) (s : List ℕ) (n i : ℕ) (x : Found Plant
     one_more p = let e : n - i ≡ suc (n - (i + 1)) = omega arith in rw e
 
     -- A fault of the next row is that of all the rows,
-    pub row-stops : (p : Plant) (number place : ℕ) → read_row m states p.types implied s at ≡ fault number place
+    pub row_stops : (p : Plant) (number place : ℕ) → read_row m states p.types implied s at ≡ fault number place
         → read_rows (n - i) m states implied s at p ≡ x → fault number place ≡ x
-    row-stops p number place e h = sym (one_more p ∙ rw e) ∙ h
+    row_stops p number place e h = sym (one_more p ∙ rw e) ∙ h
 
     -- so is 26 where the next row begins, if it is a twin,
-    pub row-is-twin : (p : Plant) (r : Row) (next : ℕ) → read_row m states p.types implied s at ≡ found r next → has_twin r p.rows ≡ true
+    pub row_is_twin : (p : Plant) (r : Row) (next : ℕ) → read_row m states p.types implied s at ≡ found r next → has_twin r p.rows ≡ true
         → read_rows (n - i) m states implied s at p ≡ x → fault 26 at ≡ x
-    row-is-twin p r next e t h = sym (one_more p ∙ rw (e, t)) ∙ h
+    row_is_twin p r next e t h = sym (one_more p ∙ rw (e, t)) ∙ h
 
     -- after a row that was read and is none there is one row fewer to read, with the state that it leaves as the implied one,
-    pub row-goes-on : (p q : Plant) (r : Row) (next : ℕ) → read_row m states p.types implied s at ≡ found r next → has_twin r p.rows ≡ false → q ≡ with_row p r
+    pub row_goes_on : (p q : Plant) (r : Row) (next : ℕ) → read_row m states p.types implied s at ≡ found r next → has_twin r p.rows ≡ false → q ≡ with_row p r
         → read_rows (n - i) m states implied s at p ≡ x → read_rows (n - (i + 1)) m states r.left s next q ≡ x
-    row-goes-on p q r next e t w h =
+    row_goes_on p q r next e t w h =
         subst⁻¹ (λ (z : Plant). read_rows (n - (i + 1)) m states r.left s next z ≡ x) w (sym (one_more p ∙ rw (e, t)) ∙ h)
 
   -- and after the last row the plant so far is what was found.

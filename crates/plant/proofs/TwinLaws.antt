@@ -17,11 +17,11 @@ use Rattle.plant.specs.Limits.{rows_in}
 
 -- ---- two rows
 
-type-iff : (t u : Option ℕ) → (same_type t u ≡ true) ↔ (t ≡ u)
-type-iff none none = (λ h. refl, λ h. refl)
-type-iff none (some u) = (λ h. absurd (false≢true h), λ h. ap (same_type none) (sym h))
-type-iff (some t) none = (λ h. absurd (false≢true h), λ h. ap (λ o. same_type o none) h)
-type-iff (some t) (some u) = (λ h. ap some (eqb-true t u h), λ h. eq-eqb t u (ap number h))
+type_iff : (t u : Option ℕ) → (same_type t u ≡ true) ↔ (t ≡ u)
+type_iff none none = (λ h. refl, λ h. refl)
+type_iff none (some u) = (λ h. absurd (false≢true h), λ h. ap (same_type none) (sym h))
+type_iff (some t) none = (λ h. absurd (false≢true h), λ h. ap (λ o. same_type o none) h)
+type_iff (some t) (some u) = (λ h. ap some (eqb-true t u h), λ h. eq-eqb t u (ap number h))
   where
     number : Option ℕ → ℕ
     number none = 0
@@ -40,8 +40,8 @@ same_row_iff q r =
     (both_iff _ _ (equal_iff q.machine r.machine)
     (both_iff _ _ (equal_iff q.left r.left)
     (both_iff _ _ (equal_iff q.entered r.entered)
-    (both_iff _ _ (type-iff q.sent r.sent)
-    (both_iff _ _ (type-iff q.taken r.taken) (mark_iff q.progress r.progress)))))) (
+    (both_iff _ _ (type_iff q.sent r.sent)
+    (both_iff _ _ (type_iff q.taken r.taken) (mark_iff q.progress r.progress)))))) (
       λ h i. record { machine = h.0 i; left = h.1.0 i; entered = h.1.1.0 i; sent = h.1.1.1.0 i; taken = h.1.1.1.1.0 i; progress = h.1.1.1.1.1 i },
       λ h. (ap (λ x. x.machine) h, (ap (λ x. x.left) h, (ap (λ x. x.entered) h, (ap (λ x. x.sent) h, (ap (λ x. x.taken) h, ap (λ x. x.progress) h))))),
     )

@@ -11,11 +11,11 @@ use Rattle.livelock.specs.Plants.{Row, Plant, row_count, machine_count, state_co
 use Rattle.livelock.proofs.ListLaws.{all_at}
 use Rattle.plant.specs.Found.{Found, found, and_then}
 use Rattle.plant.specs.Twins.{unless_twin}
-use Rattle.plant.specs.Limits.{rows_in, WithinLimits}
+use Rattle.plant.specs.Limits.{rows_in_lem, WithinLimits}
 use Rattle.plant.specs.Reading.{with_row, with_machine, no_machines}
 use Rattle.plant.proofs.Bounds.{RowIn}
 use Rattle.plant.proofs.Gives.{Gives, value, gives_then, gives_weaken, gives_unless}
-use Rattle.plant.proofs.MachineRows.{rowsIn-count}
+use Rattle.plant.proofs.MachineRows.{rows_in-count}
 use Rattle.plant.proofs.TwinLaws.{distinct_fresh}
 use Rattle.plant_files.specs.Files.{machine_as, machines_as}
 use Rattle.plant_files.specs.Inner.Parts.{with_rows}
@@ -131,11 +131,11 @@ module _ (x : MachineReader) (p : Plant) (w : WithinLimits p)
       there = omega (arith, c)
 
       rs : List Row
-      rs = rows_in k p.rows
+      rs = rows_in_lem k p.rows
 
       few : (length rs ≤ 255) × (row_count (up_to p k) + length rs ≤ 1024)
       few = (
-        omega (arith, rowsIn-count k p, w.rows_each k),
+        omega (arith, rows_in-count k p, w.rows_each k),
         omega (arith, ap length (below_next k p.rows w.ascending), length-append (rows_below k p.rows) rs, few_below (k + 1) p.rows, w.rows_in_all),
       )
 

@@ -15,7 +15,7 @@ use Rattle.livelock.specs.Lists.{below}
 use Rattle.livelock.specs.Plants.{Row, row_with}
 use Rattle.livelock.specs.Tests.{every}
 use Rattle.livelock.proofs.Tests.{equal_iff, every_below_iff}
-use Rattle.livelock.proofs.BitLaws.{bit-same}
+use Rattle.livelock.proofs.BitLaws.{bit_same}
 use Rattle.plant.specs.Found.{found, fault, and_then}
 use Rattle.plant.specs.Reading.{byte_at, byte_that, byte_in, has_bit, is_map, map_byte, state_field, type_field, read_row}
 use Rattle.plant.proofs.Bounds.{one_bit}
@@ -186,4 +186,4 @@ module _ (map implied : ℕ) (r : Row) (f : Fitting map implied r) where
       let left : ◌≡◌ {A = ℕ} (cond (has_bit map 1) 1 0) (cond (differs r.left implied) 1 0) = omega (arith, e, with_length map r, shortest-length, left_no_more, entered_no_more) in
       let entered : ◌≡◌ {A = ℕ} (cond (has_bit map 2) 1 0) (cond (differs r.entered r.left) 1 0) = omega (arith, e, with_length map r, shortest-length, left_no_more, entered_no_more) in
       map_of_bits map f.is-map
-      ∙ (λ i. map_with (bit-same (has_bit map 1) (differs r.left implied) left i) (bit-same (has_bit map 2) (differs r.entered r.left) entered i) (f.sent i) (f.taken i) (f.progress i))
+      ∙ (λ i. map_with (bit_same (has_bit map 1) (differs r.left implied) left i) (bit_same (has_bit map 2) (differs r.entered r.left) entered i) (f.sent i) (f.taken i) (f.progress i))

@@ -9,7 +9,7 @@ use lib.ListN.{length, drop}
 use lib.Dec.{eqb}
 use borrow.Author.Tests.{eqb-true, not-true, not-false}
 use Rattle.livelock.specs.Plants.{Row, TypeIn, row_with}
-use Rattle.livelock.proofs.Tests.{and-iff}
+use Rattle.livelock.proofs.Tests.{and_iff}
 use Rattle.plant.specs.Found.{found}
 use Rattle.plant.specs.Reading.{has_bit, is_map, map_byte, state_field, type_field, read_row}
 use Rattle.plant.proofs.Bounds.{RowIn}
@@ -24,8 +24,8 @@ holds_of_both f = f true && f false
 
 of_each : (f : Bool → Bool) → holds_of_both f ≡ true → (b : Bool) → f b ≡ true
 unfolding holds_of_both
-of_each f h true = ((and-iff (f true) (f false)).0 h).0
-of_each f h false = ((and-iff (f true) (f false)).0 h).1
+of_each f h true = ((and_iff (f true) (f false)).0 h).0
+of_each f h false = ((and_iff (f true) (f false)).0 h).1
 
 same : Bool → Bool → Bool
 same true b = b
@@ -62,11 +62,11 @@ bits a b c d e =
     let h2 = of_each (λ b. holds_of_both (λ c. holds_of_both (λ d. holds_of_both (λ e. bits_agree a b c d e)))) h1 b in
     let h3 = of_each (λ c. holds_of_both (λ d. holds_of_both (λ e. bits_agree a b c d e))) h2 c in
     let h4 = of_each (λ d. holds_of_both (λ e. bits_agree a b c d e)) h3 d in
-    let f1 = (and-iff (same (has_bit (map_with a b c d e) 1) a) _).0 (of_each (λ e. bits_agree a b c d e) h4 e) in
-    let f2 = (and-iff (same (has_bit (map_with a b c d e) 2) b) _).0 f1.1 in
-    let f3 = (and-iff (same (has_bit (map_with a b c d e) 4) c) _).0 f2.1 in
-    let f4 = (and-iff (same (has_bit (map_with a b c d e) 8) d) _).0 f3.1 in
-    let f5 = (and-iff (same (has_bit (map_with a b c d e) 16) e) _).0 f4.1 in
+    let f1 = (and_iff (same (has_bit (map_with a b c d e) 1) a) _).0 (of_each (λ e. bits_agree a b c d e) h4 e) in
+    let f2 = (and_iff (same (has_bit (map_with a b c d e) 2) b) _).0 f1.1 in
+    let f3 = (and_iff (same (has_bit (map_with a b c d e) 4) c) _).0 f2.1 in
+    let f4 = (and_iff (same (has_bit (map_with a b c d e) 8) d) _).0 f3.1 in
+    let f5 = (and_iff (same (has_bit (map_with a b c d e) 16) e) _).0 f4.1 in
     record {
       left = same_true _ _ f1.0;
       entered = same_true _ _ f2.0;

@@ -15,8 +15,8 @@ use Rattle.plant_lists.proofs.ListLimits.{listed_limits}
 
 -- "What the writer wrote reads as the list's rows", and "every other file that reads as the same types, machines and rows has at least
 -- as many" bytes.
-pub said-shortest : (s : List ℕ) (p : Plant) (end : ℕ) → listed_plant s ≡ found p end → Shortest p (file_of p)
-said-shortest s p end e = shortest p (listed_limits s p end e)
+pub said_shortest : (s : List ℕ) (p : Plant) (end : ℕ) → listed_plant s ≡ found p end → Shortest p (file_of p)
+said_shortest s p end e = shortest p (listed_limits s p end e)
 
 -- A plant that some file reads as is said by a list, which gets neither 23 nor 24.
 pub not_refused : (file : List ℕ) (p : Plant) (end : ℕ) → read_plant file ≡ found p end → listed_plant (list_of p) ≡ found p (length (list_of p))

@@ -18,8 +18,8 @@ use Rattle.plant_lists.proofs.ListLimits.{listed_limits}
 use Rattle.plant_lists.proofs.ListOnly.{list_only}
 
 -- A list that says a plant was read to its last number.
-pub listed-whole : (s : List ℕ) (p : Plant) (end : ℕ) → listed_plant s ≡ found p end → end ≡ length s
-listed-whole s p end e =
+pub listed_whole : (s : List ℕ) (p : Plant) (end : ℕ) → listed_plant s ≡ found p end → end ≡ length s
+listed_whole s p end e =
     let again : listed_plant s ≡ found p (length s) = rw (list_only s p end e) (list_says p (listed_limits s p end e)) in
     ap offset (sym e ∙ again)
   where
@@ -58,4 +58,4 @@ plant_takes s =
 
 -- so a list that says a plant has at most 6,178 numbers.
 pub longest_list_lem : (s : List ℕ) (p : Plant) (end : ℕ) → listed_plant s ≡ found p end → length s ≤ longest_list
-longest_list_lem s p end e = omega (arith, listed-whole s p end e, given_found p end (plant_takes s) e, (listed_limits s p end e).rows_in_all)
+longest_list_lem s p end e = omega (arith, listed_whole s p end e, given_found p end (plant_takes s) e, (listed_limits s p end e).rows_in_all)

@@ -24,13 +24,13 @@ module _ (passes : ℕ → Bool) (s : List ℕ) (at : ℕ) where
   number_missing h = rw (le-ltb at (length s) h)
 
   module _ (h : at < length s) where
-    pub number-fails : passes (get_or s at 0) ≡ false → fault 24 at ≡ number_that passes s at
+    pub number_fails : passes (get_or s at 0) ≡ false → fault 24 at ≡ number_that passes s at
     unfolding number_that
-    number-fails t = rw (lt-ltb at (length s) h, t)
+    number_fails t = rw (lt-ltb at (length s) h, t)
 
-    pub number-passes : passes (get_or s at 0) ≡ true → found (get_or s at 0) (at + 1) ≡ number_that passes s at
+    pub number_passes : passes (get_or s at 0) ≡ true → found (get_or s at 0) (at + 1) ≡ number_that passes s at
     unfolding number_that
-    number-passes t = rw (lt-ltb at (length s) h, t)
+    number_passes t = rw (lt-ltb at (length s) h, t)
 
 -- ---- what is found, for the laws of lists
 

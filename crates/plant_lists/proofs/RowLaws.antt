@@ -7,15 +7,15 @@ use native.Mathlib.Omega.{arith}
 use lib.ListN.{length, get_or}
 use lib.Dec.{ltb, eqb}
 use borrow.Author.Tests.{lt-ltb, le-ltb, le-leb}
-use Rattle.livelock.proofs.Tests.{and-iff, both_iff, less_iff}
+use Rattle.livelock.proofs.Tests.{and_iff, both_iff, less_iff}
 use Rattle.plant.specs.Found.{found, fault}
 use Rattle.plant_lists.specs.Lists.{number_that, number_in, types_for, sent_types_for, listed_row}
 use Rattle.plant_lists.specs.Inner.Rows.{number_passes, row_passes, row_listed, RowThere, number_fault}
 
 -- One number that passes, and one that does not.
-number-right : (end : ℕ) (s : List ℕ) (at next : ℕ) → next ≡ at + 1 → number_passes end s at ≡ true → number_in 0 end s at ≡ found (get_or s at 0) next
+number_right : (end : ℕ) (s : List ℕ) (at next : ℕ) → next ≡ at + 1 → number_passes end s at ≡ true → number_in 0 end s at ≡ found (get_or s at 0) next
 unfolding number_that
-number-right end s at next e h = let p = (and-iff (ltb at (length s)) _).0 h in rw (p.0, le-leb 0 (get_or s at 0) zero-le, p.1, e)
+number_right end s at next e h = let p = (and_iff (ltb at (length s)) _).0 h in rw (p.0, le-leb 0 (get_or s at 0) zero-le, p.1, e)
 
 number_wrong : (end : ℕ) (s : List ℕ) (at : ℕ) → number_passes end s at ≡ false → number_in 0 end s at ≡ number_fault s at
 unfolding number_that
@@ -75,7 +75,7 @@ module _ (m states types : ℕ) (s : List ℕ) (at : ℕ) where
 
   module _ (h1 : number_passes states s at ≡ true) where
     one : number_in 0 states s at ≡ found (get_or s at 0) (at + 1)
-    one = number-right states s at (at + 1) refl h1
+    one = number_right states s at (at + 1) refl h1
 
     pub wrong_second : number_passes states s (at + 1) ≡ false → listed_row m states types s at ≡ number_fault s (at + 1)
     unfolding listed_row
@@ -83,42 +83,42 @@ module _ (m states types : ℕ) (s : List ℕ) (at : ℕ) where
 
     module _ (h2 : number_passes states s (at + 1) ≡ true) where
       two : number_in 0 states s (at + 1) ≡ found (get_or s (at + 1) 0) (at + 2)
-      two = number-right states s (at + 1) (at + 2) (omega arith) h2
+      two = number_right states s (at + 1) (at + 2) (omega arith) h2
 
-      pub wrong-third : number_passes 4 s (at + 2) ≡ false → listed_row m states types s at ≡ number_fault s (at + 2)
+      pub wrong_third : number_passes 4 s (at + 2) ≡ false → listed_row m states types s at ≡ number_fault s (at + 2)
       unfolding listed_row
-      wrong-third w = rw (one, two, number_wrong 4 s (at + 2) w)
+      wrong_third w = rw (one, two, number_wrong 4 s (at + 2) w)
 
       module _ (h3 : number_passes 4 s (at + 2) ≡ true) where
         three : number_in 0 4 s (at + 2) ≡ found (get_or s (at + 2) 0) (at + 3)
-        three = number-right 4 s (at + 2) (at + 3) (omega arith) h3
+        three = number_right 4 s (at + 2) (at + 3) (omega arith) h3
 
-        pub wrong-fourth : number_passes (types_for (get_or s (at + 2) 0) types) s (at + 3) ≡ false → listed_row m states types s at ≡ number_fault s (at + 3)
+        pub wrong_fourth : number_passes (types_for (get_or s (at + 2) 0) types) s (at + 3) ≡ false → listed_row m states types s at ≡ number_fault s (at + 3)
         unfolding listed_row
-        wrong-fourth w = rw (one, two, three, number_wrong (types_for (get_or s (at + 2) 0) types) s (at + 3) w)
+        wrong_fourth w = rw (one, two, three, number_wrong (types_for (get_or s (at + 2) 0) types) s (at + 3) w)
 
         module _ (h4 : number_passes (types_for (get_or s (at + 2) 0) types) s (at + 3) ≡ true) where
           four : number_in 0 (types_for (get_or s (at + 2) 0) types) s (at + 3) ≡ found (get_or s (at + 3) 0) (at + 4)
-          four = number-right (types_for (get_or s (at + 2) 0) types) s (at + 3) (at + 4) (omega arith) h4
+          four = number_right (types_for (get_or s (at + 2) 0) types) s (at + 3) (at + 4) (omega arith) h4
 
-          pub wrong-fifth : number_passes 2 s (at + 4) ≡ false → listed_row m states types s at ≡ number_fault s (at + 4)
+          pub wrong_fifth : number_passes 2 s (at + 4) ≡ false → listed_row m states types s at ≡ number_fault s (at + 4)
           unfolding listed_row
-          wrong-fifth w = rw (one, two, three, four, number_wrong 2 s (at + 4) w)
+          wrong_fifth w = rw (one, two, three, four, number_wrong 2 s (at + 4) w)
 
           module _ (h5 : number_passes 2 s (at + 4) ≡ true) where
             five : number_in 0 2 s (at + 4) ≡ found (get_or s (at + 4) 0) (at + 5)
-            five = number-right 2 s (at + 4) (at + 5) (omega arith) h5
+            five = number_right 2 s (at + 4) (at + 5) (omega arith) h5
 
             -- The others pass and not all do: it is the sixth.
-            pub wrong-sixth : row_passes states types s at ≡ false → listed_row m states types s at ≡ number_fault s (at + 5)
+            pub wrong_sixth : row_passes states types s at ≡ false → listed_row m states types s at ≡ number_fault s (at + 5)
             unfolding listed_row
-            wrong-sixth w =
+            wrong_sixth w =
                 let sixth : number_passes (sent_types_for (get_or s (at + 2) 0) types) s (at + 5) ≡ false = rw (h1, h2, h3, h4, h5) at w in
                 rw (one, two, three, four, five, number_wrong (sent_types_for (get_or s (at + 2) 0) types) s (at + 5) sixth)
 
             right : number_passes (sent_types_for (get_or s (at + 2) 0) types) s (at + 5) ≡ true → listed_row m states types s at ≡ found (row_listed m s at) (at + 6)
             unfolding listed_row
-            right h6 = rw (one, two, three, four, five, number-right (sent_types_for (get_or s (at + 2) 0) types) s (at + 5) (at + 6) (omega arith) h6)
+            right h6 = rw (one, two, three, four, five, number_right (sent_types_for (get_or s (at + 2) 0) types) s (at + 5) (at + 6) (omega arith) h6)
 
 -- ---- all six pass
 
@@ -133,11 +133,11 @@ module _ (states types : ℕ) (s : List ℕ) (at : ℕ) (h : row_passes states t
 
   six : Six
   six =
-      let p1 = (and-iff (number_passes states s at) _).0 h in
-      let p2 = (and-iff (number_passes states s (at + 1)) _).0 p1.1 in
-      let p3 = (and-iff (number_passes 4 s (at + 2)) _).0 p2.1 in
-      let p4 = (and-iff (number_passes (types_for (get_or s (at + 2) 0) types) s (at + 3)) _).0 p3.1 in
-      let p5 = (and-iff (number_passes 2 s (at + 4)) _).0 p4.1 in
+      let p1 = (and_iff (number_passes states s at) _).0 h in
+      let p2 = (and_iff (number_passes states s (at + 1)) _).0 p1.1 in
+      let p3 = (and_iff (number_passes 4 s (at + 2)) _).0 p2.1 in
+      let p4 = (and_iff (number_passes (types_for (get_or s (at + 2) 0) types) s (at + 3)) _).0 p3.1 in
+      let p5 = (and_iff (number_passes 2 s (at + 4)) _).0 p4.1 in
       record { first = p1.0; second = p2.0; third = p3.0; fourth = p4.0; fifth = p5.0; sixth = p5.1 }
 
   -- The row that they say is found,

@@ -12,7 +12,7 @@ use Rattle.livelock.specs.Figures.{Figures, figures_of, ceiling_of}
 use Rattle.livelock.proofs.Decision.{decision, not_both}
 use Rattle.plant.specs.Found.{Found, found, fault, and_then}
 use Rattle.plant.specs.declared.Fault.{Fault}
-use Rattle.plant.proofs.OneToOne.{same-fault}
+use Rattle.plant.proofs.OneToOne.{same_fault}
 use Rattle.weight_checks.specs.Checks.{first_above, judged_weights}
 use Rattle.weight_checks.proofs.CheckLaws.{none_above, no_plant, judged_weights_lem}
 use Rattle.weighing.specs.Weighing.{OnPassingVerdict, OwedVerdict}
@@ -94,33 +94,33 @@ module _ (file ws contents : List ℕ) (g d : ℕ) where
 
   -- Where the weights do not pass, they are within their limits,
   module _ (owed : OwedVerdict ws weighed.failing (judged_weights file ws)) where
-    pub failing-weights : (length ws ≤ 64) × AllAtMost 1000 ws
-    failing-weights = let x = verdict_fails (judged_weights file ws) owed in weights_fit file ws x.0 x.1 x.2
+    pub failing_weights : (length ws ≤ 64) × AllAtMost 1000 ws
+    failing_weights = let x = verdict_fails (judged_weights file ws) owed in weights_fit file ws x.0 x.1 x.2
 
     -- and 22 is owed after the checks.
-    pub quote-failing : (f : Figures) (b : Answer) → OwedChecked false f ws contents g d b → Owed ws contents g d b (judged file ws contents g d)
-    quote-failing f b given =
+    pub quote_failing : (f : Figures) (b : Answer) → OwedChecked false f ws contents g d b → Owed ws contents g d b (judged file ws contents g d)
+    quote_failing f b given =
         let x = verdict_fails (judged_weights file ws) owed in
         for_input file ws x.0 x.1 x.2 contents g d b
         (checked_owed false f ws contents g d b x.0 x.1 (one_each file ws x.0 x.1 x.2) given (λ e. for_plant (λ p. absurd (x.3 p)) (λ n. e)))
 
   module _ (f : Figures) (owed : OwedVerdict ws (weighed.passing f) (judged_weights file ws)) where
     -- Where figures were handed back, the weights pass,
-    passing-plant : (P : Plant) × (end : ℕ) × (judged_weights file ws ≡ found P end) × Passes P ws × OnPassingVerdict P ws (weighed.passing f)
-    passing-plant = verdict_passes (judged_weights file ws) (λ P end e. (judged_weights_lem file ws P end e).0.formed) owed
+    passing_plant : (P : Plant) × (end : ℕ) × (judged_weights file ws ≡ found P end) × Passes P ws × OnPassingVerdict P ws (weighed.passing f)
+    passing_plant = verdict_passes (judged_weights file ws) (λ P end e. (judged_weights_lem file ws P end e).0.formed) owed
 
     -- they are within their limits,
-    pub passing-weights : (length ws ≤ 64) × AllAtMost 1000 ws
-    passing-weights = let x = passing-plant in weights_fit file ws x.0 x.1 x.2
+    pub passing_weights : (length ws ≤ 64) × AllAtMost 1000 ws
+    passing_weights = let x = passing_plant in weights_fit file ws x.0 x.1 x.2
 
     -- the figures are the plant's,
     figures_are : (P : Plant) → OnPassingVerdict P ws (weighed.passing f) → f ≡ figures_of P ws
     figures_are P h = let e = h.figures in cc
 
     -- so they are within theirs,
-    pub figures-fit : FiguresFit f
-    figures-fit =
-        let x = passing-plant in
+    pub figures_fit : FiguresFit f
+    figures_fit =
+        let x = passing_plant in
         let limits = (judged_weights_lem file ws x.0 x.1 x.2).0 in
         let light : (t : ℕ) → t < x.0.types → get_or ws t 0 ≤ 1000 = λ t l. (weights_fit file ws x.0 x.1 x.2).1 t in
         subst FiguresFit (sym (figures_are x.0 x.4))
@@ -132,18 +132,18 @@ module _ (file ws contents : List ℕ) (g d : ℕ) where
         })
 
     -- and the ceiling made of them is the plant's,
-    ceiling-is : (P : Plant) → OnPassingVerdict P ws (weighed.passing f) → P.types ≡ length ws → ceiling_of f (weight_of_contents ws contents) g d ≡ ceiling_for P ws contents g d
-    ceiling-is P h types = rw (figures_are P h, ← types)
+    ceiling_is : (P : Plant) → OnPassingVerdict P ws (weighed.passing f) → P.types ≡ length ws → ceiling_of f (weight_of_contents ws contents) g d ≡ ceiling_for P ws contents g d
+    ceiling_is P h types = rw (figures_are P h, ← types)
 
     -- which is what is owed.
-    pub quote-passing : (b : Answer) → OwedChecked true f ws contents g d b → Owed ws contents g d b (judged file ws contents g d)
-    quote-passing b given =
-        let x = passing-plant in
+    pub quote_passing : (b : Answer) → OwedChecked true f ws contents g d b → Owed ws contents g d b (judged file ws contents g d)
+    quote_passing b given =
+        let x = passing_plant in
         let types = one_each file ws x.0 x.1 x.2 in
         for_input file ws x.0 x.1 x.2 contents g d b
         (checked_owed true f ws contents g d b x.0 x.1 types given
         (λ e. for_plant
-        (λ q. record { quote = e ∙ ap (λ (c : ℕ). quoted c (class_of c)) (ceiling-is x.0 x.4 types); bounds = bound_for x.0 ws contents g d x.4.bounded })
+        (λ q. record { quote = e ∙ ap (λ (c : ℕ). quoted c (class_of c)) (ceiling_is x.0 x.4 types); bounds = bound_for x.0 ws contents g d x.4.bounded })
         (λ q. absurd (q x.3))))
 
 -- ---- what the answer says
@@ -219,4 +219,4 @@ one_to_one (QuotedVariants.Refused f) (QuotedVariants.Ceiling c k) e = cc
 one_to_one (QuotedVariants.Refused f) (QuotedVariants.Refused h) e =
     let n : f.number ≡ h.number = cc in
     let q : f.place ≡ h.place = cc in
-    ap QuotedVariants.Refused (same-fault f h n q)
+    ap QuotedVariants.Refused (same_fault f h n q)

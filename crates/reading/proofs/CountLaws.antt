@@ -28,10 +28,10 @@ use Rattle.livelock.specs.Lists.{All}
 use Rattle.plant.proofs.Bounds.{Each, got, stopped, each_found, read_rows_each}
 use Rattle.plant.proofs.FileBounds.{machine_numbered}
 use Rattle.plant.proofs.MachineRows.{rows_in_next}
-use Rattle.plant.proofs.RowLaws.{row-stops, row-is-twin, row-goes-on, rows_done}
+use Rattle.plant.proofs.RowLaws.{row_stops, row_is_twin, row_goes_on, rows_done}
 use Rattle.twins.proofs.KeyLaws.{none_kept}
-use Rattle.plant.proofs.MachineLaws.{part-is, place_within, machine_stops, machine_goes_on, machines_done, machine-read}
-use Rattle.plant.proofs.PlantLaws.{file-read}
+use Rattle.plant.proofs.MachineLaws.{part_is, place_within, machine_stops, machine_goes_on, machines_done, machine_read}
+use Rattle.plant.proofs.PlantLaws.{file_read}
 
 module _ (machines types rows : ℕ) where
   -- ---- what an end says of what was found
@@ -105,28 +105,28 @@ module _ (n m states types : ℕ) (s : List ℕ) (p : Plant) where
     row_is x e = rw g.counts.types e
 
     -- A fault of the next row is kept as that of all the rows,
-    pub rows-stop : i < n → (f : Fault) → read_row m states types implied s at ≡ fault_found f
+    pub rows_stop : i < n → (f : Fault) → read_row m states types implied s at ≡ fault_found f
         → Counted (machine_count p) types (row_count p + n) (read_rows n m states 0 s 0 p) (Ends.Fault f)
-    rows-stop more f e = fault_kept _ _ _ _ f (row-stops m states implied at s n i _ more g.plant _ _ (row_is _ e) g.rest)
+    rows_stop more f e = fault_kept _ _ _ _ f (row_stops m states implied at s n i _ more g.plant _ _ (row_is _ e) g.rest)
 
     module _ (f : RowFields) (next : ℕ) (e : read_row m states types implied s at ≡ found (fields_row m f) next) (after : List ℕ) (k : Keeping) (h : RowKept i f left keys after k) where
       -- so is 26 where it begins, if it is told to be a twin;
-      pub rows-twin : i < n → k.twin ≡ true
+      pub rows_twin : i < n → k.twin ≡ true
           → Counted (machine_count p) types (row_count p + n) (read_rows n m states 0 s 0 p) (Ends.Fault (record { number = 26; place = at }))
-      rows-twin more t =
+      rows_twin more t =
           fault_kept _ _ _ _ (record { number = 26; place = at })
-          (row-is-twin m states implied at s n i _ more g.plant _ next (row_is _ e) (sym (h.told m g.plant.rows g.rows_kept) ∙ t) g.rest)
+          (row_is_twin m states implied at s n i _ more g.plant _ next (row_is _ e) (sym (h.told m g.plant.rows g.rows_kept) ∙ t) g.rest)
 
       -- a row that is told to be none gives such a plant with one row more,
-      pub rows-go-on : i < n → k.twin ≡ false → RowsLeft n m states types s p after next f.left k.states (i + 1)
-      rows-go-on more t =
+      pub rows_go_on : i < n → k.twin ≡ false → RowsLeft n m states types s p after next f.left k.states (i + 1)
+      rows_go_on more t =
           let c = g.counts in
           record {
             plant = with_row g.plant (fields_row m f);
             counts = record { machines = c.machines; types = c.types; rows = omega (arith, length-append g.plant.rows (fields_row m f ∷ []), c.rows) };
             rows_kept = h.kept m g.plant.rows g.rows_kept t;
             rest =
-                row-goes-on m states implied at s n i _ more g.plant _ (fields_row m f) next (row_is _ e)
+                row_goes_on m states implied at s n i _ more g.plant _ (fields_row m f) next (row_is _ e)
                 (sym (h.told m g.plant.rows g.rows_kept) ∙ t) refl g.rest;
           }
 
@@ -144,7 +144,7 @@ module _ (s : List ℕ) (at : ℕ) (p : Plant) (used states a : ℕ) (u : row_co
   -- A machine of which the rows were read in the part of the file after its two bytes.
   machine_is : (n b : ℕ) → rows_byte used s a ≡ found n b
       → moved_by b (read_rows n (machine_count p) states 0 (take (length s - b) (drop b s)) 0 (with_machine p states)) ≡ read_machine s at p
-  machine_is n b f = machine-read s at p used states a u e (machine_count p) n b _ (with_machine p states) refl f refl refl
+  machine_is n b f = machine_read s at p used states a u e (machine_count p) n b _ (with_machine p states) refl f refl refl
 
   -- What is kept of its rows is kept of the machine, with the offset counted from the start of the file.
   pub machine_kept : (types n b : ℕ) (inner r : End) → rows_byte used s a ≡ found n b → p.types ≡ types → Numbered p
@@ -168,7 +168,7 @@ rows_within n m states k types rows b s p e h c =
     (length (drop b s))
     (read_rows n m states 0 (drop b s) 0 p)
     e
-    (rw part-is at c)
+    (rw part_is at c)
     (read_rows_each (drop b s) (λ j at q. Unit {0}) m states (λ j at next q r i l f t. tt) n 0 0 p h zero-le tt))
 
 -- ---- machines
@@ -189,14 +189,14 @@ module _ (n from types : ℕ) (s : List ℕ) where
   module _ (at rows i : ℕ) (left : MachinesLeft n from types s at rows i) where
     module _ (more : i < n) (k : ℕ) (e : End) (h : Counted (machine_count left.plant + 1) types k (read_machine s at left.plant) e) where
       -- A fault of the next machine is kept as that of all the machines,
-      pub machines-stop : (f : Fault) → e ≡ Ends.Fault f → Counted n types k (read_machines n s from (no_machines types)) (Ends.Fault f)
-      machines-stop f q =
+      pub machines_stop : (f : Fault) → e ≡ Ends.Fault f → Counted n types k (read_machines n s from (no_machines types)) (Ends.Fault f)
+      machines_stop f q =
           let b = broke_off _ types k _ f (subst (Counted _ types k _) q h) in
           fault_kept _ _ _ _ f (machine_stops s at n i left.plant _ left.rest more _ _ b)
 
       -- a machine that was read gives such a plant with one machine more,
-      pub machines-go-on : (next : ℕ) → e ≡ Ends.At next → MachinesLeft n from types s next k (i + 1)
-      machines-go-on next q =
+      pub machines_go_on : (next : ℕ) → e ≡ Ends.At next → MachinesLeft n from types s next k (i + 1)
+      machines_go_on next q =
           let w = went_on _ types k _ next (subst (Counted _ types k _) q h) in
           let c = w.1.1 in
           record {
@@ -207,8 +207,8 @@ module _ (n from types : ℕ) (s : List ℕ) where
           }
 
     -- and after the last machine the offset and the counts are kept.
-    pub machines-end : i ≤ n → n ≤ i → Counted n types rows (read_machines n s from (no_machines types)) (Ends.At at)
-    machines-end within done =
+    pub machines_end : i ≤ n → n ≤ i → Counted n types rows (read_machines n s from (no_machines types)) (Ends.At at)
+    machines_end within done =
         let h = left.counts in
         kept _ _ _ _ (Ends.At at) left.plant
         (record { machines = omega (arith, h.machines); types = h.types; rows = h.rows })
@@ -221,4 +221,4 @@ pub plant_kept : (s : List ℕ) (machines types rows a b : ℕ) (e r : End) → 
     → Counted machines types rows (read_machines machines s b (no_machines types)) e → ((p : Plant) → end_found r p ≡ and_then (end_found e p) (file_end s))
     → Counted machines types rows (read_plant s) r
 plant_kept s machines types rows a b e r f g h ends =
-    subst (λ (x : Found Plant). Counted machines types rows x r) (file-read s machines a f types b g) (file_kept machines types rows s _ e r h ends)
+    subst (λ (x : Found Plant). Counted machines types rows x r) (file_read s machines a f types b g) (file_kept machines types rows s _ e r h ends)

@@ -17,12 +17,12 @@ use Rattle.row_bytes.proofs.StoreLaws.{stored_then}
 -- ---- the map byte
 
 -- Kind 1 is bit 2, kind 2 is bit 3, and kind 3 is both,
-pub kind-bits : (kind : ℕ) → kind < 4 → kind * 4 ≡ cond (sends kind) 4 0 + cond (takes kind) 8 0
-kind-bits zero h = refl
-kind-bits (suc zero) h = refl
-kind-bits (suc (suc zero)) h = refl
-kind-bits (suc (suc (suc zero))) h = refl
-kind-bits (suc (suc (suc (suc n)))) h = let z : 1 ≤ 0 = omega (arith, h) in absurd (not-suc-le-zero z)
+pub kind_bits : (kind : ℕ) → kind < 4 → kind * 4 ≡ cond (sends kind) 4 0 + cond (takes kind) 8 0
+kind_bits zero h = refl
+kind_bits (suc zero) h = refl
+kind_bits (suc (suc zero)) h = refl
+kind_bits (suc (suc (suc zero))) h = refl
+kind_bits (suc (suc (suc (suc n)))) h = let z : 1 ≤ 0 = omega (arith, h) in absurd (not-suc-le-zero z)
 
 -- and progress is bit 4.
 pub progress_bit : (progress : ℕ) → progress < 2 → progress * 16 ≡ cond (eqb progress 1) 16 0

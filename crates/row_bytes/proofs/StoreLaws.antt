@@ -12,8 +12,8 @@ use Rattle.plant_files.specs.Files.{byte_if}
 use Rattle.row_bytes.specs.Stores.{Stored}
 
 -- No byte,
-pub stored-none : (l : List ℕ) (pos : ℕ) → Stored l l pos [] pos
-stored-none l pos = record { ends = sym (add-zero pos); front = sym (append-nil (take pos l)) }
+pub stored_none : (l : List ℕ) (pos : ℕ) → Stored l l pos [] pos
+stored_none l pos = record { ends = sym (add-zero pos); front = sym (append-nil (take pos l)) }
 
 -- and bytes behind bytes.
 pub stored_then : (before middle after : List ℕ) (pos one two : ℕ) (xs ys : List ℕ) → Stored before middle pos xs one → Stored middle after one ys two

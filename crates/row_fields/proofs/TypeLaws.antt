@@ -13,13 +13,13 @@ use Rattle.plant.specs.declared.FieldStep.TheVariants as FieldSteps
 use Rattle.plant.proofs.Bounds.{byte_in_each, each_found}
 use Rattle.row_fields.specs.Fields.{type_found}
 
-type-itself : (b : ℕ) → b < 64 → type_of b ≡ some b
-type-itself b l = simp (lt-ltb b 64 l)
+type_itself : (b : ℕ) → b < 64 → type_of b ≡ some b
+type_itself b l = simp (lt-ltb b 64 l)
 
 -- What a type field means where its bit stands: the byte, as a type.
 pub type_of_byte : (types : ℕ) (s : List ℕ) (at : ℕ) (r : FieldStep) → types ≤ 64 → field_found r ≡ byte_in 0 types 6 s at
     → type_found r ≡ and_then (byte_in 0 types 6 s at) (λ b next. found (some b) next)
 type_of_byte types s at (FieldSteps.Value f) l e =
     let h = each_found f.value f.next (byte_in_each s at 0 types 6 (omega arith) (omega arith)) (sym e) in
-    rw (← e, type-itself f.value (omega (arith, h.1.1)))
+    rw (← e, type_itself f.value (omega (arith, h.1.1)))
 type_of_byte types s at (FieldSteps.Fault f) l e = rw (← e)

@@ -30,19 +30,19 @@ module _ (contents : List ℕ) (allowed room : ℕ) (P : Plant) (end : ℕ) wher
 
   module _ (few : P.types ≤ 6) where
     -- Too large an allowed weight: fault 30.
-    pub refuse-allowed : 6 < allowed → fault 30 0 ≡ checked_given contents allowed room P end
+    pub refuse_allowed : 6 < allowed → fault 30 0 ≡ checked_given contents allowed room P end
     unfolding checked_search
-    refuse-allowed h = rw (le-ltb 6 P.types few, lt-ltb 6 allowed h)
+    refuse_allowed h = rw (le-ltb 6 P.types few, lt-ltb 6 allowed h)
 
     module _ (low : allowed ≤ 6) where
       -- Otherwise the contents are checked, then the output list.
-      sizes-good : and_then (checked_contents contents [] P end) (λ R b. checked_output room R b) ≡ checked_given contents allowed room P end
+      sizes_good : and_then (checked_contents contents [] P end) (λ R b. checked_output room R b) ≡ checked_given contents allowed room P end
       unfolding checked_search
-      sizes-good = rw (le-ltb 6 P.types few, le-ltb 6 allowed low)
+      sizes_good = rw (le-ltb 6 P.types few, le-ltb 6 allowed low)
 
       -- What quoting's check says with zeros for g and d, and without 22, is what it says of the contents alone.
-      contents-checked : (r : Check) → Checks P.types contents (0 ∷ 0 ∷ []) true r → check_found r P end ≡ checked_contents contents [] P end
-      contents-checked r h = h P end refl ∙ same (checked_contents contents (0 ∷ 0 ∷ []) P end) ∙ zero_last contents (0 ∷ []) P end ∙ zero_last contents [] P end
+      contents_checked : (r : Check) → Checks P.types contents (0 ∷ 0 ∷ []) true r → check_found r P end ≡ checked_contents contents [] P end
+      contents_checked r h = h P end refl ∙ same (checked_contents contents (0 ∷ 0 ∷ []) P end) ∙ zero_last contents (0 ∷ []) P end ∙ zero_last contents [] P end
         where
           same : (x : Found Plant) → and_then x (λ Q e. found Q e) ≡ x
           same (found Q e) = refl
@@ -50,23 +50,23 @@ module _ (contents : List ℕ) (allowed room : ℕ) (P : Plant) (end : ℕ) wher
 
       module _ (r : Check) (checked : Checks P.types contents (0 ∷ 0 ∷ []) true r) where
         -- A fault of the contents is the fault,
-        pub refuse-contents : (number place : ℕ) → check_found r P end ≡ fault number place → fault number place ≡ checked_given contents allowed room P end
-        refuse-contents number place e =
-            ap (λ (x : Found Plant). and_then x (λ R b. checked_output room R b)) (sym e ∙ contents-checked r checked) ∙ sizes-good
+        pub refuse_contents : (number place : ℕ) → check_found r P end ≡ fault number place → fault number place ≡ checked_given contents allowed room P end
+        refuse_contents number place e =
+            ap (λ (x : Found Plant). and_then x (λ R b. checked_output room R b)) (sym e ∙ contents_checked r checked) ∙ sizes_good
 
         module _ (good : check_found r P end ≡ found P end) where
           -- and after good contents the output list decides: fault 9,
-          given-output : checked_output room P end ≡ checked_given contents allowed room P end
-          given-output = ap (λ (x : Found Plant). and_then x (λ R b. checked_output room R b)) (sym good ∙ contents-checked r checked) ∙ sizes-good
+          given_output : checked_output room P end ≡ checked_given contents allowed room P end
+          given_output = ap (λ (x : Found Plant). and_then x (λ R b. checked_output room R b)) (sym good ∙ contents_checked r checked) ∙ sizes_good
 
-          pub refuse-output : room ≢ P.types → fault 9 0 ≡ checked_given contents allowed room P end
+          pub refuse_output : room ≢ P.types → fault 9 0 ≡ checked_given contents allowed room P end
           unfolding checked_output
-          refuse-output h = rw (ne_eqb room P.types h) at given-output
+          refuse_output h = rw (ne_eqb room P.types h) at given_output
 
           -- or none.
           pub refuse_none : room ≡ P.types → found P end ≡ checked_given contents allowed room P end
           unfolding checked_output
-          refuse_none h = rw (eq-eqb room P.types h) at given-output
+          refuse_none h = rw (eq-eqb room P.types h) at given_output
 
 -- ---- what is known of a plant that is judged
 

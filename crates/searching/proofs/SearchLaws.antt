@@ -17,7 +17,7 @@ use Rattle.livelock.specs.Cycles.{Walk}
 use Rattle.livelock.proofs.ListLaws.{all_append, all_front, all_back, all_weaken}
 use Rattle.livelock.proofs.SumLaws.{sum-append}
 use Rattle.livelock.proofs.Pigeonhole.{left_once}
-use Rattle.livelock.proofs.Walks.{visited, walk-append, HasCycle, distinct-or-cycle}
+use Rattle.livelock.proofs.Walks.{visited, walk-append, HasCycle, distinct_or_cycle}
 use Rattle.livelock.specs.Graphs.{Graph, IsEdge, Cycle}
 use Rattle.deciding.specs.Rounds.{NoneBelow}
 use Rattle.closed_walks.specs.ClosedWalks.{ClosedWalk, origin, heaviest, Closes, entry, FirstEdge, FirstEdges, LeastFrom}
@@ -55,28 +55,28 @@ module _ (g : Graph) (a e : ℕ) (es : List ℕ) (w : ClosedWalk g a (e ∷ es))
     abbrev rest : List ℕ
     rest = e ∷ (c.front ++ c.back)
 
-    edges-in-parts : All (IsEdge g) (c.front ++ (c.cycle ++ c.back))
+    edges_in_parts : All (IsEdge g) (c.front ++ (c.cycle ++ c.back))
     unfolding All
-    edges-in-parts = subst (All (IsEdge g)) c.parts w.edges.1
+    edges_in_parts = subst (All (IsEdge g)) c.parts w.edges.1
 
-    edges-from-cycle : All (IsEdge g) (c.cycle ++ c.back)
-    edges-from-cycle = all_back (IsEdge g) c.front (c.cycle ++ c.back) edges-in-parts
+    edges_from_cycle : All (IsEdge g) (c.cycle ++ c.back)
+    edges_from_cycle = all_back (IsEdge g) c.front (c.cycle ++ c.back) edges_in_parts
 
-    edges-of-rest : All (IsEdge g) rest
+    edges_of_rest : All (IsEdge g) rest
     unfolding All
-    edges-of-rest = (
+    edges_of_rest = (
       w.edges.0,
       all_append
           (IsEdge g)
           c.front
           c.back
-          (all_front (IsEdge g) c.front (c.cycle ++ c.back) edges-in-parts)
-          (all_back (IsEdge g) c.cycle c.back edges-from-cycle),
+          (all_front (IsEdge g) c.front (c.cycle ++ c.back) edges_in_parts)
+          (all_back (IsEdge g) c.cycle c.back edges_from_cycle),
     )
 
-    rest-closed : Walk g.src g.dst a rest a
+    rest_closed : Walk g.src g.dst a rest a
     unfolding Walk
-    rest-closed = (w.closed.0, walk-append g.src g.dst (g.dst e) c.at a c.front c.back c.arrives c.goes_on)
+    rest_closed = (w.closed.0, walk-append g.src g.dst (g.dst e) c.at a c.front c.back c.arrives c.goes_on)
 
     sum_parts : (f : ℕ → ℕ) → sum f (e ∷ es) ≡ sum f c.cycle + sum f rest
     unfolding sum
@@ -99,8 +99,8 @@ module _ (g : Graph) (a e : ℕ) (es : List ℕ) (w : ClosedWalk g a (e ∷ es))
           length-append c.front c.back,
         )
 
-    no-cycle-within : ⊥
-    no-cycle-within = go (dec_le (sum g.minus c.cycle) (sum g.plus c.cycle))
+    no_cycle_within : ⊥
+    no_cycle_within = go (dec_le (sum g.minus c.cycle) (sum g.plus c.cycle))
       where
         go : Dec (sum g.minus c.cycle ≤ sum g.plus c.cycle) → ⊥
         go (yes h) =
@@ -109,24 +109,24 @@ module _ (g : Graph) (a e : ℕ) (es : List ℕ) (w : ClosedWalk g a (e ∷ es))
             c.cycle
             c.non_empty
             (omega (arith, length_parts))
-            (record { edges = all_front (IsEdge g) c.cycle c.back edges-from-cycle; closed = c.closed; weighs = h })
+            (record { edges = all_front (IsEdge g) c.cycle c.back edges_from_cycle; closed = c.closed; weighs = h })
         go (no h) =
             none
             a
             rest
             (omega arith)
             (omega (arith, length_parts, c.non_empty))
-            (record { edges = edges-of-rest; closed = rest-closed; weighs = omega (arith, w.weighs, sum_parts g.minus, sum_parts g.plus) })
+            (record { edges = edges_of_rest; closed = rest_closed; weighs = omega (arith, w.weighs, sum_parts g.minus, sum_parts g.plus) })
 
   leaves_once : Distinct (map g.src (e ∷ es))
   unfolding Distinct Walk
-  leaves_once = go (distinct-or-cycle g.src g.dst (g.dst e) a es w.closed.1)
+  leaves_once = go (distinct_or_cycle g.src g.dst (g.dst e) a es w.closed.1)
     where
       go : Distinct (visited g.src es a) ⊎ HasCycle g.src g.dst (g.dst e) a es → Distinct (map g.src (e ∷ es))
       go (inl d) =
           let r = visited_once g.src es a d in
           (subst (λ (x : ℕ). All (λ y. x ≢ y) (map g.src es)) (sym w.closed.0) r.0, r.1)
-      go (inr c) = absurd (no-cycle-within c)
+      go (inr c) = absurd (no_cycle_within c)
 
 -- So it is a simple cycle.
 pub shortest_is_cycle : (g : Graph) (a : ℕ) (es : List ℕ) → 0 < length es → ClosedWalk g a es → NoneShorter g (length es) → Cycle g es
@@ -287,18 +287,18 @@ module _ {g : Graph} {states start k : ℕ} (ok : Searchable g states) (closing 
 
   module _ {row : ℕ → ℕ} {before : List ℕ} {s i : ℕ} {after : List ℕ} (w : Walking g row start k before s i after) where
     -- There is a walk on from s,
-    walk-alive : 0 < heaviest g start (k - i) s
-    walk-alive = omega (arith, w.weighs, sum_light ok w.walk w.edges, w.long, w.within, closing.few, ok.states_in)
+    walk_alive : 0 < heaviest g start (k - i) s
+    walk_alive = omega (arith, w.weighs, sum_light ok w.walk w.edges, w.long, w.within, closing.few, ok.states_in)
 
     -- s is one of the states,
-    pub walk-in : s < states
-    walk-in = walk_end_in ok start s w.walk closing.start_in w.edges w.joined
+    pub walk_in : s < states
+    walk_in = walk_end_in ok start s w.walk closing.start_in w.edges w.joined
 
     -- and the first edge of the walk on is noted.
-    pub walk-leads : (noted : List ℕ) → i < k → FirstEdges g states start k noted → FirstEdge g start (k - i - 1) s (entry noted ((k - i - 1) * 64) s)
-    walk-leads noted l first =
+    pub walk_leads : (noted : List ℕ) → i < k → FirstEdges g states start k noted → FirstEdge g start (k - i - 1) s (entry noted ((k - i - 1) * 64) s)
+    walk_leads noted l first =
         let q : k - i ≡ suc (k - i - 1) = omega arith in
-        first (k - i - 1) s (omega arith) walk-in (rw q at walk-alive)
+        first (k - i - 1) s (omega arith) walk_in (rw q at walk_alive)
 
     module _ (l : i < k) (room : 64 ≤ length before) (e : ℕ) (h : FirstEdge g start (k - i - 1) s e) where
       abbrev shown : List ℕ → List ℕ
@@ -320,9 +320,9 @@ module _ {g : Graph} {states start k : ℕ} (ok : Searchable g states) (closing 
           ∙ rw (add-one i, map-append row w.walk (e ∷ []))
 
       -- One edge more.
-      pub walk-goes-on : Walking g row start k before (g.dst e) (i + 1) (set after i (row e))
+      pub walk_goes_on : Walking g row start k before (g.dst e) (i + 1) (set after i (row e))
       unfolding All Walk sum
-      walk-goes-on =
+      walk_goes_on =
           let z : k - (i + 1) ≡ k - i - 1 = omega arith in
           let q : k - i ≡ suc (k - i - 1) = omega arith in
           let weighs = rw q at w.weighs in
@@ -338,9 +338,9 @@ module _ {g : Graph} {states start k : ℕ} (ok : Searchable g states) (closing 
           }
 
     -- All k edges are written. No edges lead on from s, and yet there is a walk to the start: so s is the start, and the walk is closed.
-    pub walk-closed : k ≤ i → WalkWritten g row start k before after
+    pub walk_closed : k ≤ i → WalkWritten g row start k before after
     unfolding heaviest
-    walk-closed h = go (eqb s start) refl
+    walk_closed h = go (eqb s start) refl
       where
         all : i ≡ k
         all = omega (arith, w.within)
@@ -362,7 +362,7 @@ module _ {g : Graph} {states start k : ℕ} (ok : Searchable g states) (closing 
                   };
               shown = rw (← all) w.written;
             }
-        go false t = absurd (omega (arith, rw (z, t) at walk-alive))
+        go false t = absurd (omega (arith, rw (z, t) at walk_alive))
 
 -- The walk that was written is a shortest one that weighs zero or more, so it is a simple cycle.
 pub written_simple : {g : Graph} {states start k : ℕ} {row : ℕ → ℕ} {before after : List ℕ} → Searchable g states → Least g states start k
@@ -371,11 +371,11 @@ written_simple {g} {states} {start} {k} ok found w =
     record {
       cycle = w.walk;
       long = w.long;
-      simple = shortest_is_cycle g start w.walk (omega (arith, w.long, found.closing.some_edge)) w.closed none-shorter;
+      simple = shortest_is_cycle g start w.walk (omega (arith, w.long, found.closing.some_edge)) w.closed none_shorter;
       weighs = w.closed.weighs;
       shown = w.shown;
     }
   where
-    none-shorter : NoneShorter g (length w.walk)
-    none-shorter a es x y c =
+    none_shorter : NoneShorter g (length w.walk)
+    none_shorter a es x y c =
         found.least a (length es) (begins_in ok a a es x c.edges c.closed) x (omega (arith, w.long)) (walk_closes c)

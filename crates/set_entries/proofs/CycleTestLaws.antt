@@ -12,8 +12,8 @@ use borrow.Author.Tests.{eqb-true, eq-eqb}
 use Rattle.livelock.specs.Lists.{All, Distinct}
 use Rattle.livelock.specs.Plants.{Row, Plant, has_progress}
 use Rattle.livelock.specs.Cycles.{Walk, leaves, enters, RowOf, first_left, SimpleCycle, Quiet}
-use Rattle.livelock.proofs.ListLaws.{all_weaken, all_always, all_both, all_of_map, all-map_of, get_d_replicate_default}
-use Rattle.livelock.proofs.Tests.{same_test, and-iff, both_iff, equal_iff, not_iff, simple_cycle_iff, quiet_iff}
+use Rattle.livelock.proofs.ListLaws.{all_weaken, all_always, all_both, all_of_map, all_map_of, get_d_replicate_default}
+use Rattle.livelock.proofs.Tests.{same_test, and_iff, both_iff, equal_iff, not_iff, simple_cycle_iff, quiet_iff}
 use Rattle.tables.specs.Tables.{row_in}
 use Rattle.set_entries.specs.Sets.{is_quiet_cycle_of}
 use Rattle.set_entries.specs.Entries.{TableOf}
@@ -59,7 +59,7 @@ module _ (P : Plant) (rows : ℕ) (c : List ℕ) (is : TableOf P rows c) (m end 
   unfolding leads All Distinct Walk
   leading s seen [] room l e = record { of_machine = tt; quiet = tt; walk = eqb-true s end e; unmarked = tt; once = tt }
   leading s seen (k ∷ ks) room l e =
-      let b = (and-iff (goes_on (row_in c k) m s seen) _).0 e in
+      let b = (and_iff (goes_on (row_in c k) m s seen) _).0 e in
       let g = (goes_on_iff (row_in c k) m s seen).0 b.0 in
       let here : leaves P k ≡ s = ap (λ (r : Row). r.left) (is.row_is k l.0) ∙ g.1.1.0 in
       let byte : s < length seen = omega (arith, room, here, is.byte k l.0) in
@@ -81,7 +81,7 @@ module _ (P : Plant) (rows : ℕ) (c : List ℕ) (is : TableOf P rows c) (m end 
   leads_so s seen [] l w = eq-eqb s end w.walk
   leads_so s seen (k ∷ ks) l w =
       let here : leaves P k ≡ s = w.walk.0 in
-      (and-iff (goes_on (row_in c k) m s seen) _).1 (
+      (and_iff (goes_on (row_in c k) m s seen) _).1 (
         (goes_on_iff (row_in c k) m s seen).1 (
           sym (ap (λ (r : Row). r.machine) (is.row_is k l.0)) ∙ w.of_machine.0.1,
           (sym (ap has_progress (is.row_is k l.0)) ∙ w.quiet.0, (sym (ap (λ (r : Row). r.left) (is.row_is k l.0)) ∙ here, rw (← here) w.unmarked.0)),
@@ -97,7 +97,7 @@ module _ (P : Plant) (rows : ℕ) (c : List ℕ) (is : TableOf P rows c) (m end 
                   _
                   (λ j h. get_or-set_other seen s (leaves P j) true false (λ q. h.1 (here ∙ sym q)) ∙ h.0)
                   ks
-                  (all_both _ _ ks w.unmarked.1 (all-map_of (λ y. leaves P k ≢ y) (leaves P) ks w.once.0));
+                  (all_both _ _ ks w.unmarked.1 (all_map_of (λ y. leaves P k ≢ y) (leaves P) ks w.once.0));
               once = w.once.1;
             }),
       )

@@ -27,17 +27,17 @@ use Rattle.set_entries.proofs.CycleTestLaws.{leads_is}
 -- ---- the test of the rows in the list
 
 -- For row numbers that the list has, the test over the columns tells whether they are a quiet simple cycle of the plant.
-rows-test : (P : Plant) (rows : ℕ) (c : List ℕ) → TableOf P rows c → (set : List ℕ) (m a b : ℕ) → a < b → NumbersBelow rows set a b
+rows_test : (P : Plant) (rows : ℕ) (c : List ℕ) → TableOf P rows c → (set : List ℕ) (m a b : ℕ) → a < b → NumbersBelow rows set a b
     → leads c m (row_in c (get_or set a 0)).left (row_in c (get_or set a 0)).left (replicate 256 false) (part set a b) ≡ is_quiet_cycle_of P m (part set a b)
-rows-test P rows c is set m a b l h =
+rows_test P rows c is set m a b l h =
     subst (λ (s : ℕ). leads c m s s (replicate 256 false) (part set a b) ≡ is_quiet_cycle_of P m (part set a b)) first_is
     (leads_is P rows c is m (part set a b) (omega (arith, part_length set a b h.there)) (part_below rows set (b - a) a b (omega arith) h))
   where
-    first-number : get_or (part set a b) 0 0 ≡ get_or set a 0
-    first-number = get_or-take (b - a) _ 0 0 (omega arith) ∙ (get_or-drop a set 0 0 ∙ ap (λ (i : ℕ). get_or set i 0) (add-zero a))
+    first_number : get_or (part set a b) 0 0 ≡ get_or set a 0
+    first_number = get_or-take (b - a) _ 0 0 (omega arith) ∙ (get_or-drop a set 0 0 ∙ ap (λ (i : ℕ). get_or set i 0) (add-zero a))
 
     first_is : first_left P (part set a b) ≡ (row_in c (get_or set a 0)).left
-    first_is = rw first-number (ap (λ (r : Row). r.left) (is.row_is (get_or set a 0) (h.small a (le_refl a) l)))
+    first_is = rw first_number (ap (λ (r : Row). r.left) (is.row_is (get_or set a 0) (h.small a (le_refl a) l)))
 
 -- ---- where an entry ends
 
@@ -45,7 +45,7 @@ module _ (c : List ℕ) (set : List ℕ) (at end : ℕ) (some : at + 3 < end) (b
     (b-is : b ≡ leads c (get_or set at 0) (row_in c (get_or set (at + 3) 0)).left (row_in c (get_or set (at + 3) 0)).left (replicate 256 false) (part set (at + 3) end)) where
   -- What the code's test says is what the definition's test says.
   tested_so : (P : Plant) (rows : ℕ) → TableOf P rows c → NumbersBelow rows set (at + 3) end → is_quiet_cycle_of P (get_or set at 0) (part set (at + 3) end) ≡ b
-  tested_so P rows is below = sym (b-is ∙ rows-test P rows c is set (get_or set at 0) (at + 3) end some below)
+  tested_so P rows is below = sym (b-is ∙ rows_test P rows c is set (get_or set at 0) (at + 3) end some below)
 
   -- "not a quiet simple cycle of that machine"
   pub cycle_stops : b ≡ false → JudgedEnd c set at end (Ends.Fault (record { number = 17; place = at }))
@@ -104,9 +104,9 @@ module _ (c : List ℕ) (rows machines : ℕ) (set : List ℕ) (at : ℕ) where
     counted = omega arith
 
     -- A fault at a row number is the entry's.
-    pub rows-stop : (number place : ℕ) → rows_at (end - (at + 3)) rows set (at + 3) ≡ fault number place → Reads (fault number place)
+    pub rows_stop : (number place : ℕ) → rows_at (end - (at + 3)) rows set (at + 3) ≡ fault number place → Reads (fault number place)
     unfolding entry_at
-    rows-stop number place h P is e = rw (e, three.first, three.second, three.third, is.rows_are, rw counted at h)
+    rows_stop number place h P is e = rw (e, three.first, three.second, three.third, is.rows_are, rw counted at h)
 
     -- There is at least one row.
     pub some_row : at + 3 < end
@@ -114,25 +114,25 @@ module _ (c : List ℕ) (rows machines : ℕ) (set : List ℕ) (at : ℕ) where
 
     module _ (next : ℕ) (fourth : rows_at (end - (at + 3)) rows set (at + 3) ≡ found (part set (at + 3) end) next) where
       -- The row numbers that were read.
-      entry-rows : RowsRead (count_at set at) rows set (at + 3) (part set (at + 3) end) next
-      entry-rows =
+      entry_rows : RowsRead (count_at set at) rows set (at + 3) (part set (at + 3) end) next
+      entry_rows =
           rows_read (count_at set at) rows set (at + 3) (part set (at + 3) end) next (omega (arith, (number_read 1 65 set (at + 2) (count_at set at) (at + 3) three.third).there))
           (subst (λ (n : ℕ). rows_at n rows set (at + 3) ≡ found (part set (at + 3) end) next) counted fourth)
 
       -- All are rows of the plant.
       pub rows_below : NumbersBelow rows set (at + 3) end
-      rows_below = entry-rows.below
+      rows_below = entry_rows.below
 
       -- The rows, as the definition of the entry reads them.
-      fourth-is : rows_at (count_at set at) rows set (at + 3) ≡ found (part set (at + 3) end) end
-      fourth-is =
-          subst (λ (x : ℕ). rows_at (count_at set at) rows set (at + 3) ≡ found (part set (at + 3) end) x) entry-rows.next_is
+      fourth_is : rows_at (count_at set at) rows set (at + 3) ≡ found (part set (at + 3) end) end
+      fourth_is =
+          subst (λ (x : ℕ). rows_at (count_at set at) rows set (at + 3) ≡ found (part set (at + 3) end) x) entry_rows.next_is
           (subst (λ (n : ℕ). rows_at n rows set (at + 3) ≡ found (part set (at + 3) end) next) counted fourth)
 
       -- Once its numbers are read, what is judged where it ends is what the entry reads as.
-      pub entry-ended : (r : End) → JudgedEnd c set at end r → Reads (value_found (entry_in set at) r)
+      pub entry_ended : (r : End) → JudgedEnd c set at end r → Reads (value_found (entry_in set at) r)
       unfolding entry_at
-      entry-ended r h P is e = h P rows is rows_below ∙ rw (e, three.first, three.second, three.third, is.rows_are, fourth-is)
+      entry_ended r h P is e = h P rows is rows_below ∙ rw (e, three.first, three.second, three.third, is.rows_are, fourth_is)
 
 -- ---- an entry that was read
 

@@ -18,8 +18,8 @@ use Rattle.set_entries.proofs.ChainLaws.{Chained, chained}
 -- ---- parts
 
 -- The first number of a part, and the rest.
-pub part-first : (set : List ℕ) (i end : ℕ) → i < end → i < length set → part set i end ≡ get_or set i 0 ∷ part set (i + 1) end
-part-first set i end h l =
+pub part_first : (set : List ℕ) (i end : ℕ) → i < end → i < length set → part set i end ≡ get_or set i 0 ∷ part set (i + 1) end
+part_first set i end h l =
     let n : end - i ≡ suc (end - (i + 1)) = omega arith in
     rw (n, add-one i, drop-cons set i 0 l)
 
@@ -32,7 +32,7 @@ pub part_below : (limit : ℕ) (set : List ℕ) (n a b : ℕ) → a + n ≡ b �
 unfolding All
 part_below limit set zero a b e h = rw (part_empty set a b (omega arith)) tt
 part_below limit set (suc n) a b e h =
-    rw (part-first set a b (omega arith) (omega (arith, h.there))) (
+    rw (part_first set a b (omega arith) (omega (arith, h.there))) (
       h.small a (omega arith) (omega arith),
       part_below limit set n (a + 1) b (omega arith) (record { there = h.there; small = λ i p q. h.small i (omega arith) q }),
     )
@@ -56,12 +56,12 @@ rows_joined n rows set at ks next c rest =
     let r = rest d.value d.next (omega (arith, k.there)) (subst (λ (a : ℕ). rows_at n rows set a ≡ found d.value d.next) k.next_is d.first) in
     record {
       next_is = omega (arith, place_same d.second, r.next_is);
-      are = sym (value_same d.second) ∙ one-and-rest k.there k.is r.are;
+      are = sym (value_same d.second) ∙ one_and_rest k.there k.is r.are;
       below = record { there = omega (arith, r.below.there); small = λ i p q. each i p q k.is k.below_end r.below (ℕ_discrete i at) };
     }
   where
-    one-and-rest : {v : ℕ} {js : List ℕ} → at < length set → v ≡ get_or set at 0 → js ≡ part set (at + 1) (at + 1 + n) → v ∷ js ≡ part set at (at + suc n)
-    one-and-rest l e q = let same : at + suc n ≡ at + 1 + n = omega arith in rw (e, q, same, part-first set at (at + 1 + n) (omega arith) l)
+    one_and_rest : {v : ℕ} {js : List ℕ} → at < length set → v ≡ get_or set at 0 → js ≡ part set (at + 1) (at + 1 + n) → v ∷ js ≡ part set at (at + suc n)
+    one_and_rest l e q = let same : at + suc n ≡ at + 1 + n = omega arith in rw (e, q, same, part_first set at (at + 1 + n) (omega arith) l)
 
     each : (i : ℕ) → at ≤ i → i < at + suc n → {v : ℕ} → v ≡ get_or set at 0 → v < rows → NumbersBelow rows set (at + 1) (at + 1 + n) → Dec (i ≡ at) → get_or set i 0 < rows
     each i p q e l h (yes z) = rw z (omega (arith, e, l))

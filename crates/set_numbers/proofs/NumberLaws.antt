@@ -47,14 +47,14 @@ module _ (low end : ℕ) (set : List ℕ) (at : ℕ) where
 
     module _ (enough : low ≤ get_or set at 0) where
       -- or above them.
-      pub number-above : end ≤ get_or set at 0 → fault 16 at ≡ number_in low end set at
+      pub number_above : end ≤ get_or set at 0 → fault 16 at ≡ number_in low end set at
       unfolding number_in
-      number-above h = rw (lt-ltb at (length set) there, le-leb low (get_or set at 0) enough, le-ltb (get_or set at 0) end h)
+      number_above h = rw (lt-ltb at (length set) there, le-leb low (get_or set at 0) enough, le-ltb (get_or set at 0) end h)
 
       -- Otherwise it is the number.
-      pub number-good : get_or set at 0 < end → found (get_or set at 0) (at + 1) ≡ number_in low end set at
+      pub number_good : get_or set at 0 < end → found (get_or set at 0) (at + 1) ≡ number_in low end set at
       unfolding number_in
-      number-good h = rw (lt-ltb at (length set) there, le-leb low (get_or set at 0) enough, lt-ltb (get_or set at 0) end h)
+      number_good h = rw (lt-ltb at (length set) there, le-leb low (get_or set at 0) enough, lt-ltb (get_or set at 0) end h)
 
 -- What a number that was found is.
 pub record NumberRead (low end : ℕ) (set : List ℕ) (at v next : ℕ) : Type 0 where
@@ -114,12 +114,12 @@ module _ (rows : ℕ) (set : List ℕ) (at end : ℕ) where
       one_more = let e : end - i ≡ suc (end - (i + 1)) = omega arith in rw e at h
 
       -- a fault at one row number is the fault,
-      pub row-stops : (number place : ℕ) → number_in 0 rows set i ≡ fault number place → fault number place ≡ rows_at (end - at) rows set at
-      row-stops number place e = rw e at one_more
+      pub row_stops : (number place : ℕ) → number_in 0 rows set i ≡ fault number place → fault number place ≡ rows_at (end - at) rows set at
+      row_stops number place e = rw e at one_more
 
       -- one that is read joins those before it,
-      pub row-goes-on : (next : ℕ) → number_in 0 rows set i ≡ found (get_or set i 0) next → RowsSoFar next
-      row-goes-on next e =
+      pub row_goes_on : (next : ℕ) → number_in 0 rows set i ≡ found (get_or set i 0) next → RowsSoFar next
+      row_goes_on next e =
           let r = number_read 0 rows set i (get_or set i 0) next e in
           subst RowsSoFar (sym r.next_is)
           (rw (part_next set at i from r.there) (sym (behind (part set at i) (get_or set i 0) (rows_at (end - (i + 1)) rows set (i + 1))) ∙ (rw (e, r.next_is) at one_more)))

@@ -18,7 +18,7 @@ use Rattle.livelock.specs.Plants.{Row}
 use Rattle.livelock.specs.Cycles.{is_of_type}
 use Rattle.livelock.proofs.SumLaws.{sum-append}
 use Rattle.livelock.specs.Differences.{Difference}
-use Rattle.livelock.proofs.Differences.{difference-shift, difference_plus, difference_neg}
+use Rattle.livelock.proofs.Differences.{difference_shift, difference_plus, difference_neg}
 use Rattle.plant.specs.Steps.{type_of}
 use Rattle.tables.specs.Tables.{row_in}
 use Rattle.set_sums.specs.Sums.{raised, Within, having, Added}
@@ -48,52 +48,52 @@ module _ (s : List ℤ) where
 
   module _ (room : length s ≡ 64) where
     -- There are as many sums as before.
-    raised-room : (x : ℕ) (z : ℤ) → length (raised s x z) ≡ 64
+    raised_room : (x : ℕ) (z : ℤ) → length (raised s x z) ≡ 64
     unfolding raised
-    raised-room x z = go (ltb x 64)
+    raised_room x z = go (ltb x 64)
       where
         go : (b : Bool) → length (cond b (changed x z) s) ≡ 64
         go true = length-set s x _ ∙ room
         go false = room
 
     -- The sum of the type changes,
-    changed-same : (t : ℕ) (z : ℤ) → t < 64 → get_or (changed t z) t (pos 0) ≡ get_or s t (pos 0) +ℤ z
-    changed-same t z l = get_or-set_same s t (get_or s t (pos 0) +ℤ z) (pos 0) (omega arith)
+    changed_same : (t : ℕ) (z : ℤ) → t < 64 → get_or (changed t z) t (pos 0) ≡ get_or s t (pos 0) +ℤ z
+    changed_same t z l = get_or-set_same s t (get_or s t (pos 0) +ℤ z) (pos 0) (omega arith)
 
     -- and the others stay.
-    changed-other : (t i : ℕ) (z : ℤ) → (i ≡ t → ⊥) → get_or (changed t z) i (pos 0) ≡ get_or s i (pos 0)
-    changed-other t i z n = get_or-set_other s t i (get_or s t (pos 0) +ℤ z) (pos 0) n
+    changed_other : (t i : ℕ) (z : ℤ) → (i ≡ t → ⊥) → get_or (changed t z) i (pos 0) ≡ get_or s i (pos 0)
+    changed_other t i z n = get_or-set_other s t i (get_or s t (pos 0) +ℤ z) (pos 0) n
 
     -- The sum of the message's type changes by z, where z is p − q, and the others stay.
-    raised-difference : (x : ℕ) (z : ℤ) (p q t a b : ℕ) → Difference z p q → Difference (get_or s t (pos 0)) a b
+    raised_difference : (x : ℕ) (z : ℤ) (p q t a b : ℕ) → Difference z p q → Difference (get_or s t (pos 0)) a b
         → Difference (get_or (raised s x z) t (pos 0)) (a + p * one x t) (b + q * one x t)
     unfolding raised
-    raised-difference x z p q t a b i j = go (ltb x 64) refl
+    raised_difference x z p q t a b i j = go (ltb x 64) refl
       where
         kept : (y : ℤ) → y ≡ get_or s t (pos 0) → Difference y (a + p * 0) (b + q * 0)
-        kept y e = rw e (difference-shift (get_or s t (pos 0)) a b (a + p * 0) (b + q * 0) (omega arith) j)
+        kept y e = rw e (difference_shift (get_or s t (pos 0)) a b (a + p * 0) (b + q * 0) (omega arith) j)
 
-        at-type : x < 64 → Dec (t ≡ x) → Difference (get_or (changed x z) t (pos 0)) (a + p * cond (eqb t x) 1 0) (b + q * cond (eqb t x) 1 0)
-        at-type h (yes e) =
-            rw (← e, eq-eqb t t refl, changed-same t z (omega arith))
-            (difference-shift (get_or s t (pos 0) +ℤ z) (a + p) (b + q) (a + p * 1) (b + q * 1) (omega arith) (difference_plus (get_or s t (pos 0)) z a b p q j i))
-        at-type h (no n) = rw (ne_eqb t x n) (kept _ (changed-other x t z n))
+        at_type : x < 64 → Dec (t ≡ x) → Difference (get_or (changed x z) t (pos 0)) (a + p * cond (eqb t x) 1 0) (b + q * cond (eqb t x) 1 0)
+        at_type h (yes e) =
+            rw (← e, eq-eqb t t refl, changed_same t z (omega arith))
+            (difference_shift (get_or s t (pos 0) +ℤ z) (a + p) (b + q) (a + p * 1) (b + q * 1) (omega arith) (difference_plus (get_or s t (pos 0)) z a b p q j i))
+        at_type h (no n) = rw (ne_eqb t x n) (kept _ (changed_other x t z n))
 
         go : (h : Bool) → ltb x 64 ≡ h → Difference (get_or (cond h (changed x z) s) t (pos 0)) (a + p * cond (is_of_type (cond h (some x) none) t) 1 0) (b + q * cond (is_of_type (cond h (some x) none) t) 1 0)
-        go true e = at-type (ltb-true x 64 e) (ℕ_discrete t x)
+        go true e = at_type (ltb-true x 64 e) (ℕ_discrete t x)
         go false e = kept _ refl
 
     -- No sum grows by more than the size of z.
-    raised-within : (x : ℕ) (z : ℤ) (b y : ℕ) → nat_abs z ≤ y → Within b s → Within (b + y) (raised s x z)
+    raised_within : (x : ℕ) (z : ℤ) (b y : ℕ) → nat_abs z ≤ y → Within b s → Within (b + y) (raised s x z)
     unfolding raised
-    raised-within x z b y h w i = go (ltb x 64) refl
+    raised_within x z b y h w i = go (ltb x 64) refl
       where
-        at-type : x < 64 → Dec (i ≡ x) → nat_abs (get_or (changed x z) i (pos 0)) ≤ b + y
-        at-type l (yes e) = rw (e, changed-same x z l) (omega (arith, w x, size_plus (get_or s x (pos 0)) z))
-        at-type l (no n) = rw (changed-other x i z n) (omega (arith, w i))
+        at_type : x < 64 → Dec (i ≡ x) → nat_abs (get_or (changed x z) i (pos 0)) ≤ b + y
+        at_type l (yes e) = rw (e, changed_same x z l) (omega (arith, w x, size_plus (get_or s x (pos 0)) z))
+        at_type l (no n) = rw (changed_other x i z n) (omega (arith, w i))
 
         go : (h : Bool) → ltb x 64 ≡ h → nat_abs (get_or (cond h (changed x z) s) i (pos 0)) ≤ b + y
-        go true e = at-type (ltb-true x 64 e) (ℕ_discrete i x)
+        go true e = at_type (ltb-true x 64 e) (ℕ_discrete i x)
         go false e = omega (arith, w i)
 
 -- ---- one row
@@ -101,7 +101,7 @@ module _ (s : List ℤ) where
 module _ (repeats : ℕ) (few : repeats ≤ 1000000) (now : List ℤ) (room : length now ≡ 64) where
   -- One more message sent changes no sum by more than 1,000,000,
   sent_within : (m x : ℕ) → Within x now → Within (x + 1000000) (raised now m (pos repeats))
-  sent_within m x w = raised-within now room m (pos repeats) x 1000000 few w
+  sent_within m x w = raised_within now room m (pos repeats) x 1000000 few w
 
   -- and leaves room in 64 bits to take one from the sums.
   pub sent_small : Within (2 ^ 61 + 128000000) now → (m : ℕ) (mid : List ℤ) → mid ≡ raised now m (to_z w64 repeats) → Within (2 ^ 62) mid
@@ -114,7 +114,7 @@ module _ (repeats : ℕ) (few : repeats ≤ 1000000) (now : List ℤ) (room : le
     up = raised now x (pos repeats)
 
     up_room : length up ≡ 64
-    up_room = raised-room now room x (pos repeats)
+    up_room = raised_room now room x (pos repeats)
 
     -- and takes from that of what it takes.
     abbrev down : List ℤ
@@ -123,7 +123,7 @@ module _ (repeats : ℕ) (few : repeats ≤ 1000000) (now : List ℤ) (room : le
     -- In all it changes no sum by more than 2,000,000.
     row_within : (n : ℕ) → Within n now → Within (n + 1 * 2000000) down
     row_within n w i =
-        omega (arith, raised-within up up_room y (neg_ℤ (pos repeats)) (n + 1000000) 1000000 (omega (arith, size_neg repeats)) (sent_within x n w) i)
+        omega (arith, raised_within up up_room y (neg_ℤ (pos repeats)) (n + 1000000) 1000000 (omega (arith, size_neg repeats)) (sent_within x n w) i)
 
     -- Whether the row has a type, as a count.
     one_row_lem : (field : Row → Option ℕ) (z : ℕ) → type_of z ≡ field (row_in table k) → (t : ℕ) → repeats * having field table t (k ∷ []) ≡ repeats * one z t
@@ -131,21 +131,21 @@ module _ (repeats : ℕ) (few : repeats ≤ 1000000) (now : List ℤ) (room : le
     one_row_lem field z is t = omega (arith, ap (λ (o : Option ℕ). repeats * cond (is_of_type o t) 1 0) is)
 
     -- After row k, it is added.
-    row-added : Added table repeats (k ∷ []) now down
-    row-added =
+    row_added : Added table repeats (k ∷ []) now down
+    row_added =
         record {
-          room = raised-room up up_room y (neg_ℤ (pos repeats));
+          room = raised_room up up_room y (neg_ℤ (pos repeats));
           sums = λ t a b i.
-              let u = raised-difference now room x (pos repeats) repeats 0 t a b (omega arith) i in
-              let d = raised-difference up up_room y (neg_ℤ (pos repeats)) 0 repeats t (a + repeats * one x t) (b + 0 * one x t) (difference_neg repeats) u in
-              difference-shift (get_or down t (pos 0)) _ _ (a + repeats * having (λ r. r.sent) table t (k ∷ [])) (b + repeats * having (λ r. r.taken) table t (k ∷ [])) (omega (arith, one_row_lem (λ r. r.sent) x sends t, one_row_lem (λ r. r.taken) y takes t)) d;
+              let u = raised_difference now room x (pos repeats) repeats 0 t a b (omega arith) i in
+              let d = raised_difference up up_room y (neg_ℤ (pos repeats)) 0 repeats t (a + repeats * one x t) (b + 0 * one x t) (difference_neg repeats) u in
+              difference_shift (get_or down t (pos 0)) _ _ (a + repeats * having (λ r. r.sent) table t (k ∷ [])) (b + repeats * having (λ r. r.taken) table t (k ∷ [])) (omega (arith, one_row_lem (λ r. r.sent) x sends t, one_row_lem (λ r. r.taken) y takes t)) d;
           within = row_within;
         }
 
     -- The same as the code does it, in 64 bits.
     pub row_stored : (mid after : List ℤ) → mid ≡ raised now x (to_z w64 repeats) → after ≡ raised mid y (to_z w64 (of_z w64 (pos 0 -ℤ to_z w64 repeats)))
         → Added table repeats (k ∷ []) now after
-    row_stored mid after e f = subst (Added table repeats (k ∷ []) now) (sym (f ∙ rw (e, less_is repeats few, times_is repeats few))) row-added
+    row_stored mid after e f = subst (Added table repeats (k ∷ []) now) (sym (f ∙ rw (e, less_is repeats few, times_is repeats few))) row_added
 
 -- ---- the rows one after the other
 
@@ -155,7 +155,7 @@ unfolding sum
 none_added table repeats before room =
     record {
       room = room;
-      sums = λ t a b i. difference-shift (get_or before t (pos 0)) a b (a + repeats * 0) (b + repeats * 0) (omega arith) i;
+      sums = λ t a b i. difference_shift (get_or before t (pos 0)) a b (a + repeats * 0) (b + repeats * 0) (omega arith) i;
       within = λ x w i. omega (arith, w i);
     }
 
@@ -174,7 +174,7 @@ module _ (table : List ℕ) (repeats : ℕ) (rows : List ℕ) (before now : List
       record {
         room = j.room;
         sums = λ t a b i.
-            difference-shift (get_or after t (pos 0)) _ _ (a + repeats * having (λ r. r.sent) table t (rows ++ (k ∷ []))) (b + repeats * having (λ r. r.taken) table t (rows ++ (k ∷ [])))
+            difference_shift (get_or after t (pos 0)) _ _ (a + repeats * having (λ r. r.sent) table t (rows ++ (k ∷ []))) (b + repeats * having (λ r. r.taken) table t (rows ++ (k ∷ [])))
             (omega (arith, one_more (λ r. r.sent) k t, one_more (λ r. r.taken) k t))
             (j.sums t (a + repeats * having (λ r. r.sent) table t rows) (b + repeats * having (λ r. r.taken) table t rows) (h.sums t a b i));
         within = λ x w i. omega (arith, length-append rows (k ∷ []), j.within (x + length rows * 2000000) (h.within x w) i);

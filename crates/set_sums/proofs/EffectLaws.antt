@@ -16,11 +16,11 @@ use Rattle.tables.specs.Tables.{row_in}
 use Rattle.set_sums.specs.Sums.{having}
 
 -- A difference is one number.
-pub difference-unique : (y z : ℤ) (a b : ℕ) → Difference y a b → Difference z a b → y ≡ z
-difference-unique (pos x) (pos y) a b i j = ap pos (omega arith)
-difference-unique (pos x) (negsuc y) a b i j = absurd (omega arith)
-difference-unique (negsuc x) (pos y) a b i j = absurd (omega arith)
-difference-unique (negsuc x) (negsuc y) a b i j = ap negsuc (omega arith)
+pub difference_unique : (y z : ℤ) (a b : ℕ) → Difference y a b → Difference z a b → y ≡ z
+difference_unique (pos x) (pos y) a b i j = ap pos (omega arith)
+difference_unique (pos x) (negsuc y) a b i j = absurd (omega arith)
+difference_unique (negsuc x) (pos y) a b i j = absurd (omega arith)
+difference_unique (negsuc x) (negsuc y) a b i j = ap negsuc (omega arith)
 
 -- Where rows of a table are those of a plant, as many of them have a type in a field.
 pub having_is : (field : Row → Option ℕ) (P : Plant) (table : List ℕ) (t : ℕ) (ks : List ℕ) → All (λ k. row_at P k ≡ row_in table k) ks

@@ -21,8 +21,8 @@ use Rattle.closed_walks.proofs.WalkLaws.{edges_searchable}
 use Rattle.searching.specs.Searches.{Written, ShownWithin}
 use Rattle.searching.proofs.SearchLaws.{cycle_few, none_at_all}
 use Rattle.machines.specs.Machines.{Weighable, FailingRows, FirstFailing}
-use Rattle.machines.proofs.MachineLaws.{machine-long}
-use Rattle.machines.proofs.TurnLaws.{machines_are, edges-fail}
+use Rattle.machines.proofs.MachineLaws.{machine_long}
+use Rattle.machines.proofs.TurnLaws.{machines_are, edges_fail}
 use Rattle.shortest_cycles.specs.ShortestCycles.{ShownShortest}
 use Rattle.shortest_cycles.specs.Inner.Turns.{MachineSearched, ShortestOf}
 
@@ -83,46 +83,46 @@ module _ (s : Shape) (table ws : List ℕ) (ok : Weighable s table ws) where
 
   module _ (m : ℕ) (within : m < s.machines) {count : ℕ} {edges : List ℤ} (machine : FailingRows table ws (get_or s.first m 0) (get_or s.first (m + 1) 0) count edges) where
     -- The first k of a list in which a cycle of k edges was written are the rows of a failing cycle.
-    written-fails : {k : ℕ} {before after : List ℕ} → Written (edge_graph count edges) (λ i. (edge_in edges i).row) k before after → FailingCycle (plant_of s table) ws (take k after)
-    written-fails {k} {before} {after} w =
+    written_fails : {k : ℕ} {before after : List ℕ} → Written (edge_graph count edges) (λ i. (edge_in edges i).row) k before after → FailingCycle (plant_of s table) ws (take k after)
+    written_fails {k} {before} {after} w =
         let rows : List ℕ = map (λ i. (edge_in edges i).row) w.cycle in
         let long : length rows ≡ k = length-map w.cycle (λ i. (edge_in edges i).row) ∙ w.long in
         let front : rows ≡ take k after = sym (ap (take k) w.shown ∙ subst (λ (n : ℕ). take n (rows ++ drop k before) ≡ rows) long (take-append_seam rows (drop k before))) in
-        subst (FailingCycle (plant_of s table) ws) front (edges-fail s table ws ok m within machine w.cycle w.simple w.weighs)
+        subst (FailingCycle (plant_of s table) ws) front (edges_fail s table ws ok m within machine w.cycle w.simple w.weighs)
 
     -- Where no failing cycle of the machines before has fewer than k rows, and no cycle of the machine's edges has, none up to it has.
-    fewest-with : (k : ℕ) → ((c : List ℕ) (f : FailingCycle (plant_of s table) ws c) → f.machine < m → k ≤ length c) → NoneBelow (edge_graph count edges) k
+    fewest_with : (k : ℕ) → ((c : List ℕ) (f : FailingCycle (plant_of s table) ws c) → f.machine < m → k ≤ length c) → NoneBelow (edge_graph count edges) k
         → (c : List ℕ) (f : FailingCycle (plant_of s table) ws c) → f.machine < m + 1 → k ≤ length c
-    fewest-with k before here c f l = go (dec_lt f.machine m)
+    fewest_with k before here c f l = go (dec_lt f.machine m)
       where
         go : Dec (f.machine < m) → k ≤ length c
         go (yes x) = before c f x
         go (no x) =
             let same : f.machine ≡ m = omega arith in
             let simple = subst (λ (i : ℕ). SimpleCycle (plant_of s table) i c) same f.simple in
-            machine-long s table ok.ready ok.limits ws m within count edges machine.listed k here c simple f.quiet f.weighs
+            machine_long s table ok.ready ok.limits ws m within count edges machine.listed k here c simple f.quiet f.weighs
 
     -- The first machine that fails is searched up to its number of states. It has a cycle that is zero or more, so one was written.
-    pub first-searched : {size k : ℕ} {before after : List ℕ} → FirstFailing s table ws 0 m count edges → EdgesIn size count edges → ShownWithin count edges size k before after
+    pub first_searched : {size k : ℕ} {before after : List ℕ} → FirstFailing s table ws 0 m count edges → EdgesIn size count edges → ShownWithin count edges size k before after
         → ShortestOf (plant_of s table) ws (m + 1) k after
-    first-searched {size} {k} failing in-edges r =
+    first_searched {size} {k} failing in-edges r =
         let x = machine.zero_or_more in
         let found : k ≤ size = omega (arith, r.fewest x.0 x.1 x.2, cycle_few (edges_searchable in-edges) x.0 x.1) in
         record {
           some_row = r.some_row;
           few = omega (arith, found, in-edges.states_in);
-          fewest = fewest-with k (λ c f l. absurd (none_passing failing f l (omega arith))) r.fewest;
-          shown = written-fails (r.written found);
+          fewest = fewest_with k (λ c f l. absurd (none_passing failing f l (omega arith))) r.fewest;
+          shown = written_fails (r.written found);
         }
 
     -- A later one is searched for a shorter cycle. For the machines before it the least number only falls.
-    machine-searched : {k least : ℕ} {before after : List ℕ} → ShortestOf (plant_of s table) ws m least before → ShownWithin count edges (least - 1) k before after
+    machine_searched : {k least : ℕ} {before after : List ℕ} → ShortestOf (plant_of s table) ws m least before → ShownWithin count edges (least - 1) k before after
         → ShortestOf (plant_of s table) ws (m + 1) k after
-    machine-searched {k} {least} {before} {after} h r =
+    machine_searched {k} {least} {before} {after} h r =
         record {
           some_row = r.some_row;
           few = omega (arith, falls, h.few);
-          fewest = fewest-with k (λ c f l. omega (arith, falls, h.fewest c f l)) r.fewest;
+          fewest = fewest_with k (λ c f l. omega (arith, falls, h.fewest c f l)) r.fewest;
           shown = shown (dec_lt k least);
         }
       where
@@ -130,7 +130,7 @@ module _ (s : Shape) (table ws : List ℕ) (ok : Weighable s table ws) where
         falls = omega (arith, r.few, h.some_row)
 
         shown : Dec (k < least) → FailingCycle (plant_of s table) ws (take k after)
-        shown (yes l) = written-fails (r.written (omega (arith, l)))
+        shown (yes l) = written_fails (r.written (omega (arith, l)))
         shown (no l) =
             let same : least ≡ k = omega (arith, falls) in
             let kept : before ≡ after = sym (r.kept (omega (arith, h.some_row))) in
@@ -142,7 +142,7 @@ module _ (s : Shape) (table ws : List ℕ) (ok : Weighable s table ws) where
   turn_searched {m = m} {least = least} {k = k} {before = before} {after = after} failing h r = go (dec_lt m s.machines)
     where
       go : Dec (m < s.machines) → ShortestOf (plant_of s table) ws (m + 1) k after
-      go (yes within) = machine-searched m within (failing.fails within) (passing_skipped failing h) (r.some within)
+      go (yes within) = machine_searched m within (failing.fails within) (passing_skipped failing h) (r.some within)
       go (no beyond) =
           let kept = r.none (omega (arith, beyond)) in
           let all = passing_skipped failing h in

@@ -122,8 +122,8 @@ module _ (into : List ℕ) (start free : ℕ) where
             omega (arith, mark_or x l live more, mark_and x l (column into s) (bit_xor free live), e, i, d)
         go (no n) = omega (arith, mark_or x l live more, mark_lt x l live, mark_lt x l more)
 
-    pub growing-step : Growing into start free (bit_or live more) (bit_or turned more)
-    growing-step =
+    pub growing_step : Growing into start free (bit_or live more) (bit_or turned more)
+    growing_step =
         record {
           from_start = λ x l i f. omega (arith, mark_or x l live more, g.from_start x l i f, mark_lt x l more);
           from_done = λ x y l m a b i f. go x y l m a b i f (ℕ_discrete y s);

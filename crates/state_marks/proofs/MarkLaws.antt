@@ -11,10 +11,10 @@ use Rattle.livelock.proofs.BitLaws.{or_lowest}
 use Rattle.state_marks.specs.Marks.{marks_of}
 
 -- There is a mark for each state.
-pub marks-length : (n bits : ℕ) → length (marks_of n bits) ≡ n
+pub marks_length : (n bits : ℕ) → length (marks_of n bits) ≡ n
 unfolding marks_of
-marks-length zero bits = refl
-marks-length (suc n) bits = ap suc (marks-length n (bits / 2))
+marks_length zero bits = refl
+marks_length (suc n) bits = ap suc (marks_length n (bits / 2))
 
 -- The mark of state s is bit s.
 pub mark_bit : (n bits s : ℕ) → s < n → get_or (marks_of n bits) s 0 ≡ bits / 2 ^ s % 2

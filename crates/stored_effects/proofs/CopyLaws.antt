@@ -15,8 +15,8 @@ use mir.Facts.{to_z-of_z}
 use Rattle.stored_effects.specs.StoredEffects.{Copied}
 
 -- Before the first sum nothing is copied.
-pub none-copied : (at : ℕ) (sums effects : List ℤ) → Copied 0 at sums effects effects
-none-copied at sums effects = record { long = refl; there = λ t l. absurd (not-suc-le-zero l); others = λ i o. refl }
+pub none_copied : (at : ℕ) (sums effects : List ℤ) → Copied 0 at sums effects effects
+none_copied at sums effects = record { long = refl; there = λ t l. absurd (not-suc-le-zero l); others = λ i o. refl }
 
 -- The next sum joins those before it.
 module _ (n at : ℕ) (sums before now : List ℤ) (h : Copied n at sums before now) (room : at + n < length before) where

@@ -16,23 +16,23 @@ use Rattle.livelock.specs.Cycles.{messages_sent, messages_taken, effect}
 use Rattle.livelock.specs.Weights.{weight, cycle_weight, Passes}
 use Rattle.livelock.specs.Differences.{Difference}
 use Rattle.livelock.proofs.ListLaws.{all_weaken, all_below, get_d_replicate_default}
-use Rattle.livelock.proofs.Differences.{difference-shift}
+use Rattle.livelock.proofs.Differences.{difference_shift}
 use Rattle.livelock.proofs.CycleWeights.{effect_difference}
 use Rattle.livelock.proofs.QuietGraphs.{QuietRowOf}
 use Rattle.livelock.proofs.QuietWalks.{QuietWalk, walk_fails}
 use Rattle.tables.specs.Tables.{row_in}
 use Rattle.decoding.specs.Tables.{plant_of}
 use Rattle.decoding.specs.declared.Shape.{Shape}
-use Rattle.decoding.proofs.TableLaws.{rows-counted, plant_row_is}
+use Rattle.decoding.proofs.TableLaws.{rows_counted, plant_row_is}
 use Rattle.set_sums.specs.Sums.{Within, having}
-use Rattle.set_sums.proofs.EffectLaws.{difference-unique, having_is}
+use Rattle.set_sums.proofs.EffectLaws.{difference_unique, having_is}
 use Rattle.stored_effects.specs.StoredEffects.{effect_weight, WalkEffect, Stored, StoredIn, KnownToFail}
 use Rattle.stored_effects.proofs.RowsLaws.{zeros_within}
 use Rattle.stored_effects.proofs.WeightLaws.{signed_sum_equal, term}
 
 -- A list of small numbers has no effect of a walk yet.
-pub none-stored : (P : Plant) (effects : List ℤ) → length effects ≡ 384 → Within 128000000 effects → Stored P 0 effects
-none-stored P effects room small =
+pub none_stored : (P : Plant) (effects : List ℤ) → length effects ≡ 384 → Within 128000000 effects → Stored P 0 effects
+none_stored P effects room small =
     record { places = record { few = omega arith; room = room; small = small }; each = λ k l. absurd (not-suc-le-zero l) }
 
 module _ (s : Shape) (table : List ℕ) where
@@ -42,14 +42,14 @@ module _ (s : Shape) (table : List ℕ) where
 
   module _ (count : ℕ) (before after : List ℤ) (rows : List ℕ) (i : StoredIn table rows count before after) where
     -- The number stored for a type is what the rows send of it less what they take.
-    sums-difference : (t : ℕ) → Difference (get_or i.sums t (pos 0)) (having (λ r. r.sent) table t rows) (having (λ r. r.taken) table t rows)
-    sums-difference t =
-        difference-shift (get_or i.sums t (pos 0)) _ _ (having (λ r. r.sent) table t rows) (having (λ r. r.taken) table t rows) (omega arith)
+    sums_difference : (t : ℕ) → Difference (get_or i.sums t (pos 0)) (having (λ r. r.sent) table t rows) (having (λ r. r.taken) table t rows)
+    sums_difference t =
+        difference_shift (get_or i.sums t (pos 0)) _ _ (having (λ r. r.sent) table t rows) (having (λ r. r.taken) table t rows) (omega arith)
         (i.added.sums t 0 0 (subst (λ (z : ℤ). Difference z 0 0) (sym (get_d_replicate_default 64 (pos 0) t)) refl))
 
     -- No number of the list is large, in the place or in the others.
-    still-small : Within 128000000 before → Within 128000000 after
-    still-small small j = go (dec_lt j (6 * count)) (dec_lt j (6 * count + 6))
+    still_small : Within 128000000 before → Within 128000000 after
+    still_small small j = go (dec_lt j (6 * count)) (dec_lt j (6 * count + 6))
       where
         kept : (j < 6 * count) ⊎ (6 * count + 6 ≤ j) → nat_abs (get_or after j (pos 0)) ≤ 128000000
         kept o = rw (i.copied.others j o) (small j)
@@ -65,26 +65,26 @@ module _ (s : Shape) (table : List ℕ) where
     module _ (walk : QuietWalk P rows) where
       -- The rows of the walk are rows of the table,
       rows_are : All (λ k. row_at P k ≡ row_in table k) rows
-      rows_are = all_weaken (QuietRowOf P walk.machine) _ (λ k r. plant_row_is s table k (omega (arith, r.0.0, rows-counted s table))) rows walk.rows
+      rows_are = all_weaken (QuietRowOf P walk.machine) _ (λ k r. plant_row_is s table k (omega (arith, r.0.0, rows_counted s table))) rows walk.rows
 
       -- so the sums are the effect of the walk.
-      sums-are : (t : ℕ) → get_or i.sums t (pos 0) ≡ effect P rows t
-      sums-are t =
-          difference-unique (get_or i.sums t (pos 0)) (effect P rows t) (messages_sent P rows t) (messages_taken P rows t)
-          (rw (← having_is (λ r. r.sent) P table t rows rows_are, ← having_is (λ r. r.taken) P table t rows rows_are) (sums-difference t))
+      sums_are : (t : ℕ) → get_or i.sums t (pos 0) ≡ effect P rows t
+      sums_are t =
+          difference_unique (get_or i.sums t (pos 0)) (effect P rows t) (messages_sent P rows t) (messages_taken P rows t)
+          (rw (← having_is (λ r. r.sent) P table t rows rows_are, ← having_is (λ r. r.taken) P table t rows rows_are) (sums_difference t))
           (effect_difference P rows t)
 
       -- With its effect in the next place, there is one effect more.
-      pub one-stored : Stored P count before → count < 64 → s.types ≤ 6 → Stored P (count + 1) after
-      one-stored h l types =
+      pub one_stored : Stored P count before → count < 64 → s.types ≤ 6 → Stored P (count + 1) after
+      one_stored h l types =
           record {
-            places = record { few = omega arith; room = i.copied.long ∙ h.places.room; small = still-small h.places.small };
+            places = record { few = omega arith; room = i.copied.long ∙ h.places.room; small = still_small h.places.small };
             each = λ k m. each k m (ℕ_discrete k count);
           }
         where
           each : (k : ℕ) → k < count + 1 → Dec (k ≡ count) → WalkEffect P after k
           each k m (yes e) =
-              record { walk = rows; quiet = walk; is = λ t q. rw e (i.copied.there t (omega arith) ∙ sums-are t) }
+              record { walk = rows; quiet = walk; is = λ t q. rw e (i.copied.there t (omega arith) ∙ sums_are t) }
           each k m (no e) =
               let w = h.each k (omega arith) in
               record { walk = w.walk; quiet = w.quiet; is = λ t q. i.copied.others (6 * k + t) (inl (omega arith)) ∙ w.is t q }

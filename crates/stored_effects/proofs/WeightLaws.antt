@@ -62,11 +62,11 @@ module _ (w : ℕ) (e : ℤ) (light : w ≤ 6) (small : nat_abs e ≤ 128000000)
 
   -- So it is when it is added to a small sum.
   module _ (z : ℤ) (few : nat_abs z ≤ 4608000000) where
-    pub turn-fits : SFits w64 (z +ℤ to_z w64 (of_z w64 (to_z w64 w *ℤ to_z w64 (of_z w64 e))))
-    turn-fits = rw (product_is, back (pos w *ℤ e) (omega (arith, product_size))) (size_fits (z +ℤ pos w *ℤ e) (omega (arith, size_plus z (pos w *ℤ e), product_size)))
+    pub turn_fits : SFits w64 (z +ℤ to_z w64 (of_z w64 (to_z w64 w *ℤ to_z w64 (of_z w64 e))))
+    turn_fits = rw (product_is, back (pos w *ℤ e) (omega (arith, product_size))) (size_fits (z +ℤ pos w *ℤ e) (omega (arith, size_plus z (pos w *ℤ e), product_size)))
 
     turn_is : to_z w64 (of_z w64 (z +ℤ to_z w64 (of_z w64 (to_z w64 w *ℤ to_z w64 (of_z w64 e))))) ≡ z +ℤ pos w *ℤ e
-    turn_is = to_z-of_z turn-fits ∙ rw (product_is, back (pos w *ℤ e) (omega (arith, product_size)))
+    turn_is = to_z-of_z turn_fits ∙ rw (product_is, back (pos w *ℤ e) (omega (arith, product_size)))
 
 -- ---- the weight of an effect
 

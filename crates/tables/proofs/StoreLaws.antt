@@ -54,37 +54,37 @@ module _ (t : List ℕ) (at a b c d e f : ℕ) where
 
   -- and those are what was stored.
   module _ (room : at + 6 ≤ length t) where
-    is-0 : get_or six at 0 ≡ a
-    is-0 =
+    is_0 : get_or six at 0 ≡ a
+    is_0 =
         get_or-set_other t5 (at + 5) at f 0 (λ q. omega arith)
         ∙ (get_or-set_other t4 (at + 4) at e 0 (λ q. omega arith)
         ∙ (get_or-set_other t3 (at + 3) at d 0 (λ q. omega arith)
         ∙ (get_or-set_other t2 (at + 2) at c 0 (λ q. omega arith)
         ∙ (get_or-set_other t1 (at + 1) at b 0 (λ q. omega arith) ∙ get_or-set_same t at a 0 (omega arith)))))
 
-    is-1 : get_or six (at + 1) 0 ≡ b
-    is-1 =
+    is_1 : get_or six (at + 1) 0 ≡ b
+    is_1 =
         get_or-set_other t5 (at + 5) (at + 1) f 0 (λ q. omega arith)
         ∙ (get_or-set_other t4 (at + 4) (at + 1) e 0 (λ q. omega arith)
         ∙ (get_or-set_other t3 (at + 3) (at + 1) d 0 (λ q. omega arith)
         ∙ (get_or-set_other t2 (at + 2) (at + 1) c 0 (λ q. omega arith) ∙ get_or-set_same t1 (at + 1) b 0 (simp length-set (omega arith)))))
 
-    is-2 : get_or six (at + 2) 0 ≡ c
-    is-2 =
+    is_2 : get_or six (at + 2) 0 ≡ c
+    is_2 =
         get_or-set_other t5 (at + 5) (at + 2) f 0 (λ q. omega arith)
         ∙ (get_or-set_other t4 (at + 4) (at + 2) e 0 (λ q. omega arith)
         ∙ (get_or-set_other t3 (at + 3) (at + 2) d 0 (λ q. omega arith) ∙ get_or-set_same t2 (at + 2) c 0 (simp length-set (omega arith))))
 
-    is-3 : get_or six (at + 3) 0 ≡ d
-    is-3 =
+    is_3 : get_or six (at + 3) 0 ≡ d
+    is_3 =
         get_or-set_other t5 (at + 5) (at + 3) f 0 (λ q. omega arith)
         ∙ (get_or-set_other t4 (at + 4) (at + 3) e 0 (λ q. omega arith) ∙ get_or-set_same t3 (at + 3) d 0 (simp length-set (omega arith)))
 
-    is-4 : get_or six (at + 4) 0 ≡ e
-    is-4 = get_or-set_other t5 (at + 5) (at + 4) f 0 (λ q. omega arith) ∙ get_or-set_same t4 (at + 4) e 0 (simp length-set (omega arith))
+    is_4 : get_or six (at + 4) 0 ≡ e
+    is_4 = get_or-set_other t5 (at + 5) (at + 4) f 0 (λ q. omega arith) ∙ get_or-set_same t4 (at + 4) e 0 (simp length-set (omega arith))
 
-    is-5 : get_or six (at + 5) 0 ≡ f
-    is-5 = get_or-set_same t5 (at + 5) f 0 (simp length-set (omega arith))
+    is_5 : get_or six (at + 5) 0 ≡ f
+    is_5 = get_or-set_same t5 (at + 5) f 0 (simp length-set (omega arith))
 
 -- Six bytes that are stored at 8 × k are row k, and every other row is kept.
 module _ (t : List ℕ) (k m : ℕ) (r : RowFields) (p : ℕ) (bit : p ≡ cond r.progress 1 0) (room : RoomFor (k + 1) t) where
@@ -100,12 +100,12 @@ module _ (t : List ℕ) (k m : ℕ) (r : RowFields) (p : ℕ) (bit : p ≡ cond 
       record {
         stored =
             rw (
-              is-0 t (8 * k) m r.left r.entered r.sent r.taken p within,
-              is-1 t (8 * k) m r.left r.entered r.sent r.taken p within,
-              is-2 t (8 * k) m r.left r.entered r.sent r.taken p within,
-              is-3 t (8 * k) m r.left r.entered r.sent r.taken p within,
-              is-4 t (8 * k) m r.left r.entered r.sent r.taken p within,
-              is-5 t (8 * k) m r.left r.entered r.sent r.taken p within,
+              is_0 t (8 * k) m r.left r.entered r.sent r.taken p within,
+              is_1 t (8 * k) m r.left r.entered r.sent r.taken p within,
+              is_2 t (8 * k) m r.left r.entered r.sent r.taken p within,
+              is_3 t (8 * k) m r.left r.entered r.sent r.taken p within,
+              is_4 t (8 * k) m r.left r.entered r.sent r.taken p within,
+              is_5 t (8 * k) m r.left r.entered r.sent r.taken p within,
               bit,
               bit_is r.progress,
             );

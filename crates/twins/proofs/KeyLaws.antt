@@ -17,7 +17,7 @@ use borrow.Author.Tests.{eqb-true, eq-eqb, ltb-true}
 use Rattle.livelock.specs.Lists.{All}
 use Rattle.livelock.specs.Plants.{Row, TypeIn}
 use Rattle.livelock.proofs.ListLaws.{all_append, all_weaken}
-use Rattle.livelock.proofs.BitLaws.{bit-same, or_bit}
+use Rattle.livelock.proofs.BitLaws.{bit_same, or_bit}
 use Rattle.livelock.proofs.Tests.{same_test}
 use Rattle.plant.specs.Limits.{rows_in}
 use Rattle.plant.specs.Steps.{type_of}
@@ -61,7 +61,7 @@ key_same q r f g m e =
       entered = entered.0 i;
       sent = number_same q.sent r.sent f.sent g.sent sent.0 i;
       taken = number_same q.taken r.taken f.taken g.taken taken.0 i;
-      progress = bit-same q.progress r.progress taken.1 i;
+      progress = bit_same q.progress r.progress taken.1 i;
     }
 
 -- ---- a key among those kept
@@ -123,12 +123,12 @@ module _ (m n : ℕ) (rows : List Row) (keys : List ℕ) (states : ℕ) (k : Row
   pub twin_told : (eqb (state_bit states r.left) 1 && is_in (key_of r) (take n keys)) ≡ has_twin r rows
   twin_told =
       rw (k.keys_are, key_is_in m r (rows_in m rows) own g (rows_in_machine m rows) k.small, own_twin m r rows own)
-      (and-implied _ _ λ t. eq-eqb _ _ (bit_of_twin states r (rows_in m rows) k.leave t))
+      (and_implied _ _ λ t. eq-eqb _ _ (bit_of_twin states r (rows_in m rows) k.leave t))
     where
-      and-implied : (a b : Bool) → (b ≡ true → a ≡ true) → (a && b) ≡ b
-      and-implied true b h = refl
-      and-implied false true h = h refl
-      and-implied false false h = refl
+      and_implied : (a b : Bool) → (b ≡ true → a ≡ true) → (a && b) ≡ b
+      and_implied true b h = refl
+      and_implied false true h = h refl
+      and_implied false false h = refl
 
   -- and its key is kept behind the others, with the bit of that state.
   pub one_kept : n < length keys → RowsKept m (n + 1) (rows ++ (r ∷ [])) (set keys n (key_of r)) (bit_or states (1 * 2 ^ (r.left % 64)))

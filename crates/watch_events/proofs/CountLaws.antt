@@ -11,10 +11,10 @@ use Rattle.watched_runs.specs.Inner.Counts.{capped, CountsAre}
 use Rattle.watch_events.specs.Counting.{EventCounted, CountedUpTo, one_more}
 
 -- The count at `at`, which is not the first, and then the first are stored.
-pub event-stored : (counts : List ℕ) (at most more left : ℕ) → length counts ≡ 3 → 1 ≤ at → at < 3 → get_or counts at 0 < most
+pub event_stored : (counts : List ℕ) (at most more left : ℕ) → length counts ≡ 3 → 1 ≤ at → at < 3 → get_or counts at 0 < most
     → left ≡ capped (get_or (set counts at (get_or counts at 0 + 1)) 0 0 + more)
     → CountedUpTo at most more counts (set (set counts at (get_or counts at 0 + 1)) 0 left) true
-event-stored counts at most more left three some few below e = one_more below (record { left_is = first; own = own; others = others }) refl
+event_stored counts at most more left three some few below e = one_more below (record { left_is = first; own = own; others = others }) refl
   where
     v : ℕ
     v = get_or counts at 0 + 1

@@ -4,7 +4,7 @@ use mathlib.Core.Bool.{Bool, true, false, ◌&&◌, false≢true}
 use mathlib.Core.List.{List}
 use Prim.Native.Nat.{ℕ, ◌<◌}
 use Rattle.livelock.specs.Runs.{row, doubling}
-use Rattle.livelock.proofs.Tests.{and-iff}
+use Rattle.livelock.proofs.Tests.{and_iff}
 use lib.ListN.{get_or}
 use lib.Dec.{ltb}
 use borrow.Author.Tests.{ltb-true}
@@ -16,19 +16,19 @@ use Rattle.watched_runs.specs.Keeping.{Kept, rows_in, types_in, left_in, per_pro
 use Rattle.watched_runs.specs.Owed.{Steps}
 use Rattle.watched_runs.specs.Inner.Counts.{row_held, message_held}
 use Rattle.watched_runs.proofs.StepLaws.{moved}
-use Rattle.watched_runs.proofs.EventSteps.{steps-late, steps-progress, steps-quiet, steps_late_doubling, steps_doubled}
+use Rattle.watched_runs.proofs.EventSteps.{steps_late, steps_progress, steps_quiet, steps_late_doubling, steps_doubled}
 use Rattle.watch_events.specs.Counting.{CountedUpTo, at_most, one_more, RowCounted, quiet_row, progress_row}
 use Rattle.watch_events.proofs.CountLaws.{progress_counts, doubling_counts}
 
 -- A row that is held is one of the rows, and a table has room for it.
-pub held-row : (sizes : List ℕ) (k : ℕ) → row_held sizes k ≡ true → (k < rows_in sizes) × (k < 1024)
-held-row sizes k h = let a = (and-iff (ltb k (rows_in sizes)) (ltb k 1024)).0 h in (ltb-true k (rows_in sizes) a.0, ltb-true k 1024 a.1)
+pub held_row : (sizes : List ℕ) (k : ℕ) → row_held sizes k ≡ true → (k < rows_in sizes) × (k < 1024)
+held_row sizes k h = let a = (and_iff (ltb k (rows_in sizes)) (ltb k 1024)).0 h in (ltb-true k (rows_in sizes) a.0, ltb-true k 1024 a.1)
 
 -- The type of a message that is held has room for its content.
 pub held_type : (sizes contents : List ℕ) (t : ℕ) → message_held sizes contents t ≡ true → t < 64
 held_type sizes contents t h =
-    let a = (and-iff (ltb t (types_in sizes)) (ltb t 64 && ltb 0 (get_or contents t 0))).0 h in
-    ltb-true t 64 ((and-iff (ltb t 64) (ltb 0 (get_or contents t 0))).0 a.1).0
+    let a = (and_iff (ltb t (types_in sizes)) (ltb t 64 && ltb 0 (get_or contents t 0))).0 h in
+    ltb-true t 64 ((and_iff (ltb t 64) (ltb 0 (get_or contents t 0))).0 a.1).0
 
 -- Nothing was stored.
 kept : (s : Kept) (counts : List ℕ) → counts ≡ s.counts → s ≡ moved s s.states s.contents counts
@@ -43,15 +43,15 @@ module _ (s : Kept) (k : ℕ) (held : row_held s.sizes k ≡ true) (x : TableRow
   row_late a counts e (progress_row p (one_more l c h)) = absurd (false≢true h)
   row_late a counts e (progress_row p (at_most l c h)) =
       subst (λ (b : Answer). Steps s (row k) b (moved s s.states s.contents counts)) (sym e)
-      (subst (Steps s (row k) (refused 29 0)) (kept s counts c) (steps-late s k (held-row s.sizes k held).0 x same true can refl p l))
+      (subst (Steps s (row k) (refused 29 0)) (kept s counts c) (steps_late s k (held_row s.sizes k held).0 x same true can refl p l))
 
   -- It was counted, and moved.
   pub row_taken : (states contents counts : List ℕ) → RowCounted x.progress (per_progress_in s.sizes) s.counts counts true
       → RowMoves x s.states s.contents states contents → Steps s (row k) (remaining (left_in counts)) (moved s states contents counts)
-  row_taken states contents counts (quiet_row p c h) moves = steps-quiet s k (held-row s.sizes k held).0 x same true can refl states contents counts moves p c
+  row_taken states contents counts (quiet_row p c h) moves = steps_quiet s k (held_row s.sizes k held).0 x same true can refl states contents counts moves p c
   row_taken states contents counts (progress_row p (at_most l c h)) moves = absurd (false≢true (sym h))
   row_taken states contents counts (progress_row p (one_more l c h)) moves =
-      steps-progress s k (held-row s.sizes k held).0 x same true can refl states contents counts moves p l
+      steps_progress s k (held_row s.sizes k held).0 x same true can refl states contents counts moves p l
       (progress_counts (per_progress_in s.sizes) s.counts counts c)
 
 module _ (s : Kept) (t : ℕ) (held : message_held s.sizes s.contents t ≡ true) where

@@ -10,7 +10,7 @@ use Rattle.livelock.specs.Lists.{sum, count}
 use Rattle.livelock.specs.Plants.{Plant, row_at, has_progress}
 use Rattle.livelock.specs.Runs.{Configuration, Event, row, loss, doubling, update, removed, added, can_happen, changed, after, after_all, run}
 use Rattle.livelock.specs.Runs.{is_quiet_row, is_progress_row, is_doubling, quiet_rows, progress_rows, doublings}
-use Rattle.livelock.proofs.RunLaws.{count-run, count-append}
+use Rattle.livelock.proofs.RunLaws.{count_run, count-append}
 use Rattle.livelock.proofs.SumLaws.{update_same, update_other}
 
 module _ (P : Plant) where
@@ -22,18 +22,18 @@ module _ (P : Plant) where
 
   module _ (c : Configuration) (done : List Event) (e : Event) (h : can_happen P (after_all P c done) e ≡ true) where
     -- so where it can happen it changes that,
-    pub last-changes : after_all P c (done ++ (e ∷ [])) ≡ changed P (after_all P c done) e
+    pub last_changes : after_all P c (done ++ (e ∷ [])) ≡ changed P (after_all P c done) e
     unfolding after
-    last-changes = rw (last_leaves c done e, h) refl
+    last_changes = rw (last_leaves c done e, h) refl
 
     -- and it counts if it passes the test.
-    pub last-counts : (f : Event → Bool) → count f (run P c (done ++ (e ∷ []))) ≡ count f (run P c done) + cond (f e) 1 0
+    pub last_counts : (f : Event → Bool) → count f (run P c (done ++ (e ∷ []))) ≡ count f (run P c done) + cond (f e) 1 0
     unfolding run sum
-    last-counts f =
+    last_counts f =
         omega (
           arith,
           count-append f P c done (e ∷ []),
-          count-run f P (after_all P c done) e [],
+          count_run f P (after_all P c done) e [],
           ap {B = ℕ} (λ (x : Bool). cond x (cond (f e) 1 0) 0) h,
         )
 
@@ -88,7 +88,7 @@ module _ (P : Plant) where
         arith,
         one_most c e t,
         content_most (after P c e) es t,
-        count-run (is_quiet_row P) P c e es,
-        count-run (is_progress_row P) P c e es,
-        count-run is_doubling P c e es,
+        count_run (is_quiet_row P) P c e es,
+        count_run (is_progress_row P) P c e es,
+        count_run is_doubling P c e es,
       )

@@ -11,7 +11,7 @@ use borrow.Author.Tests.{lt-ltb, ltb-true}
 use Rattle.livelock.specs.Plants.{Row, row_at, row_count, has_progress}
 use Rattle.livelock.specs.Runs.{Event, row, loss, doubling, removed, added, can_happen, changed, is_quiet_row, is_progress_row, is_doubling}
 use Rattle.livelock.proofs.CycleWeights.{row_fits}
-use Rattle.livelock.proofs.Tests.{and-iff}
+use Rattle.livelock.proofs.Tests.{and_iff}
 use Rattle.plant.proofs.FileBounds.{within_limits}
 use Rattle.tables.specs.Tables.{row_in, row_of}
 use Rattle.tables.specs.declared.TableRow.{TableRow}
@@ -24,11 +24,11 @@ use Rattle.watched_runs.specs.Keeping.{Kept, rows_in, types_in, per_progress_in,
 use Rattle.watched_runs.specs.Owed.{Stepped, Steps}
 use Rattle.watched_runs.specs.Inner.Counts.{capped, CountsAre, row_held, message_held}
 use Rattle.watched_runs.proofs.StepLaws.{moved, OnPlant, with_row_lem, with_type, few_rows, few_types, no_row, no_type_lost, no_type_doubled}
-use Rattle.watched_runs.proofs.StepLaws.{room, progress-fits, doubling-fits, cannot-happen, late-row, late_doubling, some_left, accepted-step}
+use Rattle.watched_runs.proofs.StepLaws.{room, progress_fits, doubling_fits, cannot_happen, late_row, late_doubling, some_left, accepted_step}
 
 -- Two tests that are true.
 both_true : (a b : Bool) → a ≡ true → b ≡ true → (a && b) ≡ true
-both_true a b p q = (and-iff a b).1 (p, q)
+both_true a b p q = (and_iff a b).1 (p, q)
 
 -- ---- the contract of one event
 
@@ -80,8 +80,8 @@ module _ (s : Kept) (k : ℕ) (l : k < rows_in s.sizes) where
           omega (arith, (row_fits o.P limits.formed k there).machine, limits.few_machines, ap (λ (y : Row). y.machine) row_same)
 
       -- the test is that of the run,
-      can-row : (b : Bool) → can ≡ b → can_happen o.P (configuration_of s) (row k) ≡ b
-      can-row b h = sym (test.same machine o.P k there row_same) ∙ h
+      can_row : (b : Bool) → can ≡ b → can_happen o.P (configuration_of s) (row k) ≡ b
+      can_row b h = sym (test.same machine o.P k there row_same) ∙ h
 
       -- and the mark says whether it is a progress row.
       marked : (b : Bool) → x.progress ≡ b → is_progress_row o.P (row k) ≡ b
@@ -92,46 +92,46 @@ module _ (s : Kept) (k : ℕ) (l : k < rows_in s.sizes) where
       unfolding is_quiet_row
       unmarked b h = ap not (sym (ap has_progress row_same) ∙ (sym (row_progress x) ∙ h))
 
-      no-doubling : is_doubling (row k) ≡ false
+      no_doubling : is_doubling (row k) ≡ false
       unfolding is_doubling
-      no-doubling = refl
+      no_doubling = refl
 
     -- It cannot happen,
-    pub steps-cannot : can ≡ false → Steps s (row k) (refused 27 0) s
-    steps-cannot h = refuses s (row k) 27 (λ w holds. cannot-happen s w holds (o w holds) (row k) (can-row w holds false h))
+    pub steps_cannot : can ≡ false → Steps s (row k) (refused 27 0) s
+    steps_cannot h = refuses s (row k) 27 (λ w holds. cannot_happen s w holds (o w holds) (row k) (can_row w holds false h))
 
     -- it is a progress row too many,
-    pub steps-late : can ≡ true → x.progress ≡ true → 1000000 ≤ progress_in s.counts → Steps s (row k) (refused 29 0) s
-    steps-late h p n = refuses s (row k) 29 (λ w holds. late-row s w holds (o w holds) (row k) (can-row w holds true h) (marked w holds true p) n)
+    pub steps_late : can ≡ true → x.progress ≡ true → 1000000 ≤ progress_in s.counts → Steps s (row k) (refused 29 0) s
+    steps_late h p n = refuses s (row k) 29 (λ w holds. late_row s w holds (o w holds) (row k) (can_row w holds true h) (marked w holds true p) n)
 
     -- or it is accepted: with progress it adds G, and else it takes one away.
     module _ (h : can ≡ true) (states contents counts : List ℕ) (moves : RowMoves x s.states s.contents states contents) where
-      pub steps-progress : x.progress ≡ true → progress_in s.counts < 1000000
+      pub steps_progress : x.progress ≡ true → progress_in s.counts < 1000000
           → CountsAre (capped (left_in s.counts + per_progress_in s.sizes)) (progress_in s.counts + 1) (doublings_in s.counts) counts
           → Steps s (row k) (remaining (left_in counts)) (moved s states contents counts)
-      steps-progress p n c =
+      steps_progress p n c =
           remains s (moved s states contents counts) (row k) (left_in counts)
           (λ w holds.
-          accepted-step s w holds (o w holds) (row k) (can-row w holds true h) false true false (unmarked w holds true p) (marked w holds true p) (no-doubling w holds)
+          accepted_step s w holds (o w holds) (row k) (can_row w holds true h) false true false (unmarked w holds true p) (marked w holds true p) (no_doubling w holds)
           (λ t. n) (λ t. absurd (false≢true t)) states contents counts
           (moves.moves (room s w holds (o w holds)) (o w holds).P k (row_same w holds))
-          (omega (arith, c.left_is, progress-fits s w holds (o w holds)))
+          (omega (arith, c.left_is, progress_fits s w holds (o w holds)))
           (omega (arith, c.progress_is))
           (omega (arith, c.doublings_is)))
 
-      pub steps-quiet : x.progress ≡ false
+      pub steps_quiet : x.progress ≡ false
           → CountsAre (left_in s.counts - 1) (progress_in s.counts) (doublings_in s.counts) counts
           → Steps s (row k) (remaining (left_in counts)) (moved s states contents counts)
-      steps-quiet p c =
+      steps_quiet p c =
           remains s (moved s states contents counts) (row k) (left_in counts)
           (λ w holds.
-          accepted-step s w holds (o w holds) (row k) (can-row w holds true h) true false false (unmarked w holds false p) (marked w holds false p) (no-doubling w holds)
+          accepted_step s w holds (o w holds) (row k) (can_row w holds true h) true false false (unmarked w holds false p) (marked w holds false p) (no_doubling w holds)
           (λ t. absurd (false≢true t)) (λ t. absurd (false≢true t)) states contents counts
           (moves.moves (room s w holds (o w holds)) (o w holds).P k (row_same w holds))
           (omega (
             arith,
             c.left_is,
-            some_left s w holds (o w holds) (row k) (can-row w holds true h) (unmarked w holds false p) (marked w holds false p) (no-doubling w holds),
+            some_left s w holds (o w holds) (row k) (can_row w holds true h) (unmarked w holds false p) (marked w holds false p) (no_doubling w holds),
           ))
           (omega (arith, c.progress_is))
           (omega (arith, c.doublings_is)))
@@ -169,16 +169,16 @@ module _ (s : Kept) (t : ℕ) where
         → Dec (t < types_in s.sizes) → Stepped w e (refused 28 0) s
     absent w holds e i unknown cannot (no n) = unknown (omega (arith, n))
     absent w holds e i unknown cannot (yes l) =
-        subst (λ (x : ℕ). Stepped w e (refused x 0) s) i (cannot-happen s w holds (with_type s w holds t l) e (cannot l))
+        subst (λ (x : ℕ). Stepped w e (refused x 0) s) i (cannot_happen s w holds (with_type s w holds t l) e (cannot l))
 
-    pub steps-none-lost : Steps s (loss t) (refused 28 0) s
-    steps-none-lost =
+    pub steps_none_lost : Steps s (loss t) (refused 28 0) s
+    steps_none_lost =
         refuses s (loss t) 28
         (λ w holds.
         absent w holds (loss t) refl (no_type_lost s w holds t) (λ l. can_lose s t l w holds false (none w holds l)) (dec_lt t (types_in s.sizes)))
 
-    pub steps-none-doubled : Steps s (doubling t) (refused 28 0) s
-    steps-none-doubled =
+    pub steps_none_doubled : Steps s (doubling t) (refused 28 0) s
+    steps_none_doubled =
         refuses s (doubling t) 28
         (λ w holds.
         absent w holds (doubling t) refl (no_type_doubled s w holds t) (λ l. can_double s t l w holds false (none w holds l)) (dec_lt t (types_in s.sizes)))
@@ -187,8 +187,8 @@ module _ (s : Kept) (t : ℕ) where
 module _ (s : Kept) (t : ℕ) (held : message_held s.sizes s.contents t ≡ true) where
   parts : (t < types_in s.sizes) × (t < 64) × (0 < get_or s.contents t 0)
   parts =
-      let a = (and-iff (ltb t (types_in s.sizes)) (ltb t 64 && ltb 0 (get_or s.contents t 0))).0 held in
-      let b = (and-iff (ltb t 64) (ltb 0 (get_or s.contents t 0))).0 a.1 in
+      let a = (and_iff (ltb t (types_in s.sizes)) (ltb t 64 && ltb 0 (get_or s.contents t 0))).0 held in
+      let b = (and_iff (ltb t 64) (ltb 0 (get_or s.contents t 0))).0 a.1 in
       (ltb-true t (types_in s.sizes) a.0, ltb-true t 64 b.0, ltb-true 0 (get_or s.contents t 0) b.1)
 
   abbrev known : t < types_in s.sizes
@@ -203,7 +203,7 @@ module _ (s : Kept) (t : ℕ) (held : message_held s.sizes s.contents t ≡ true
   steps_lost contents r =
       remains s (moved s s.states contents s.counts) (loss t) (left_in s.counts)
       (λ w holds.
-      accepted-step s w holds (on s t known w holds) (loss t) (can_lose s t known w holds true one) false false false refl refl refl
+      accepted_step s w holds (on s t known w holds) (loss t) (can_lose s t known w holds true one) false false false refl refl refl
       (λ x. absurd (false≢true x)) (λ x. absurd (false≢true x)) s.states contents s.counts
       (λ i. record { state = λ m. get_or s.states m 0; content = (r.removes ∙ ap (removed (content_in s.contents)) (a_type t parts.1)) i })
       (omega arith) (omega arith) (omega arith))
@@ -219,9 +219,9 @@ module _ (s : Kept) (t : ℕ) (held : message_held s.sizes s.contents t ≡ true
   steps_doubled contents counts a n c =
       remains s (moved s s.states contents counts) (doubling t) (left_in counts)
       (λ w holds.
-      accepted-step s w holds (on s t known w holds) (doubling t) (can_double s t known w holds true one) false false true refl refl refl
+      accepted_step s w holds (on s t known w holds) (doubling t) (can_double s t known w holds true one) false false true refl refl refl
       (λ x. absurd (false≢true x)) (λ x. n) s.states contents counts
       (λ i. record { state = λ m. get_or s.states m 0; content = (a.adds (room s w holds (on s t known w holds)) ∙ ap (added (content_in s.contents)) (a_type t parts.1)) i })
-      (omega (arith, c.left_is, doubling-fits s w holds (on s t known w holds)))
+      (omega (arith, c.left_is, doubling_fits s w holds (on s t known w holds)))
       (omega (arith, c.progress_is))
       (omega (arith, c.doublings_is)))

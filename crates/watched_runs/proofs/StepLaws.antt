@@ -22,7 +22,7 @@ use Rattle.watched_runs.specs.WatchedRuns.{is_spent, judged_in, judged, stepped_
 use Rattle.watched_runs.specs.Keeping.{Kept, rows_in, types_in, per_progress_in, per_doubling_in, left_in, progress_in, doublings_in, configuration_of}
 use Rattle.watched_runs.specs.Keeping.{HoldsPlant, HoldsRun, Limited, Inside, no_plant, a_plant, Holds}
 use Rattle.watched_runs.specs.Owed.{Stepped}
-use Rattle.watched_runs.proofs.EventLaws.{last-changes, last-counts, content_most}
+use Rattle.watched_runs.proofs.EventLaws.{last_changes, last_counts, content_most}
 
 -- A test that is false where another is true.
 test : {b : Bool} (a : Bool) → (a ≡ true → b ≡ false) → (a && b) ≡ false
@@ -116,8 +116,8 @@ module _ (s : Kept) (w : WatchedRun) (holds : Holds s w) where
     -- ---- nothing wraps
 
     -- No ceiling so far is above the largest,
-    ceiling-fits : ceiling_so_far P w ≤ largest_ceiling
-    ceiling-fits =
+    ceiling_fits : ceiling_so_far P w ≤ largest_ceiling
+    ceiling_fits =
         omega (
           arith,
           o.limited.fits,
@@ -136,39 +136,39 @@ module _ (s : Kept) (w : WatchedRun) (holds : Holds s w) where
           o.run.left,
           o.limited.few_progress,
           o.limited.few_doublings,
-          ceiling-fits,
+          ceiling_fits,
         )
 
     -- and to what is left G or n × w can be added.
-    pub progress-fits : left_in s.counts + per_progress_in s.sizes < 2 ^ 63
-    progress-fits = omega (arith, o.run.left, ceiling-fits, o.plant.per_progress, o.limited.fits)
+    pub progress_fits : left_in s.counts + per_progress_in s.sizes < 2 ^ 63
+    progress_fits = omega (arith, o.run.left, ceiling_fits, o.plant.per_progress, o.limited.fits)
 
-    pub doubling-fits : left_in s.counts + per_doubling_in s.sizes < 2 ^ 63
-    doubling-fits = omega (arith, o.run.left, ceiling-fits, o.plant.per_doubling, o.limited.fits)
+    pub doubling_fits : left_in s.counts + per_doubling_in s.sizes < 2 ^ 63
+    doubling_fits = omega (arith, o.run.left, ceiling_fits, o.plant.per_doubling, o.limited.fits)
 
     -- ---- how an event is judged
 
-    judged-by : (e : Event) (b d : Bool) → can_happen P (reached P w) e ≡ b → is_spent P w e ≡ d
+    judged_by : (e : Event) (b d : Bool) → can_happen P (reached P w) e ≡ b → is_spent P w e ≡ d
         → judged w e ≡ cond b (cond d (fault 29 0) (found P o.end)) (fault (impossible e) 0)
     unfolding judged_in
-    judged-by e b d h q =
+    judged_by e b d h q =
         ap (judged_in w e) o.reads
         ∙ (ap (λ (y : Bool). cond y (cond (is_spent P w e) (fault 29 0) (found P o.end)) (fault (impossible e) 0)) h
         ∙ ap (λ (y : Bool). cond b (cond y (fault 29 0) (found P o.end)) (fault (impossible e) 0)) q)
 
     -- Whether the configuration kept lets it happen.
-    can-kept : (e : Event) (b : Bool) → can_happen P (configuration_of s) e ≡ b → can_happen P (reached P w) e ≡ b
-    can-kept e b h = sym (ap (λ (c : Configuration). can_happen P c e) o.run.now) ∙ h
+    can_kept : (e : Event) (b : Bool) → can_happen P (configuration_of s) e ≡ b → can_happen P (reached P w) e ≡ b
+    can_kept e b h = sym (ap (λ (c : Configuration). can_happen P c e) o.run.now) ∙ h
 
-    pub cannot-happen : (e : Event) → can_happen P (configuration_of s) e ≡ false → Stepped w e (refused (impossible e) 0) s
-    cannot-happen e h = refused_step e (impossible e) (judged-by e false _ (can-kept e false h) refl)
+    pub cannot_happen : (e : Event) → can_happen P (configuration_of s) e ≡ false → Stepped w e (refused (impossible e) 0) s
+    cannot_happen e h = refused_step e (impossible e) (judged_by e false _ (can_kept e false h) refl)
 
     -- A progress row or a doubling that is one too many.
-    pub late-row : (e : Event) → can_happen P (configuration_of s) e ≡ true → is_progress_row P e ≡ true → 1000000 ≤ progress_in s.counts → Stepped w e (refused 29 0) s
+    pub late_row : (e : Event) → can_happen P (configuration_of s) e ≡ true → is_progress_row P e ≡ true → 1000000 ≤ progress_in s.counts → Stepped w e (refused 29 0) s
     unfolding is_spent
-    late-row e h p n =
+    late_row e h p n =
         let m : 1000000 ≤ progress_so_far P w = omega (arith, o.run.progress) in
-        refused_step e 29 (judged-by e true true (can-kept e true h)
+        refused_step e 29 (judged_by e true true (can_kept e true h)
         (ap (λ (b : Bool). (b && leb 1000000 (progress_so_far P w)) || (is_doubling e && leb 1000000 (doublings_so_far P w))) p
         ∙ ap (λ (b : Bool). b || (is_doubling e && leb 1000000 (doublings_so_far P w))) (le-leb 1000000 (progress_so_far P w) m)))
 
@@ -176,7 +176,7 @@ module _ (s : Kept) (w : WatchedRun) (holds : Holds s w) where
     unfolding is_spent is_progress_row is_doubling
     late_doubling t h n =
         let m : 1000000 ≤ doublings_so_far P w = omega (arith, o.run.doublings) in
-        refused_step (doubling t) 29 (judged-by (doubling t) true true (can-kept (doubling t) true h) (le-leb 1000000 (doublings_so_far P w) m))
+        refused_step (doubling t) 29 (judged_by (doubling t) true true (can_kept (doubling t) true h) (le-leb 1000000 (doublings_so_far P w) m))
 
     -- ---- an accepted event
 
@@ -185,7 +185,7 @@ module _ (s : Kept) (w : WatchedRun) (holds : Holds s w) where
       counted : (f : Event → Bool) (b : Bool) → f e ≡ b
           → count f (run P w.opening (w.accepted ++ (e ∷ []))) ≡ count f (run P w.opening w.accepted) + cond b 1 0
       counted f b h =
-          last-counts P w.opening w.accepted e (can-kept e true can) f
+          last_counts P w.opening w.accepted e (can_kept e true can) f
           ∙ ap {B = ℕ} (λ (x : Bool). count f (run P w.opening w.accepted) + cond x 1 0) h
 
       -- Of a quiet row one at least is left: the bound holds of the run with it.
@@ -228,7 +228,7 @@ module _ (s : Kept) (w : WatchedRun) (holds : Holds s w) where
                 ap (λ (x : Bool). x || (d' && leb 1000000 (doublings_so_far P w))) a ∙ b
 
         accepted : judged w e ≡ found P o.end
-        accepted = judged-by e true false (can-kept e true can) unspent
+        accepted = judged_by e true false (can_kept e true can) unspent
 
         -- what is left is exact,
         exact : left_in counts + quiet_so_far P (with_event w e) ≡ ceiling_so_far P (with_event w e)
@@ -242,8 +242,8 @@ module _ (s : Kept) (w : WatchedRun) (holds : Holds s w) where
               o.run.left,
             )
 
-        holds-plant : HoldsPlant after w.weights P
-        holds-plant =
+        holds_plant : HoldsPlant after w.weights P
+        holds_plant =
             record {
               rows = o.plant.rows;
               each_row = o.plant.each_row;
@@ -252,13 +252,13 @@ module _ (s : Kept) (w : WatchedRun) (holds : Holds s w) where
               per_doubling = o.plant.per_doubling;
             }
 
-        holds-run : HoldsRun after (with_event w e) P
-        holds-run =
+        holds_run : HoldsRun after (with_event w e) P
+        holds_run =
             record {
               now =
                   changes
                   ∙ (ap (λ (c : Configuration). changed P c e) o.run.now
-                  ∙ sym (last-changes P w.opening w.accepted e (can-kept e true can)));
+                  ∙ sym (last_changes P w.opening w.accepted e (can_kept e true can)));
               left = exact;
               progress = omega (arith, progress-after, o.run.progress, counted (is_progress_row P) p progress);
               doublings = omega (arith, doublings-after, o.run.doublings, counted is_doubling d doubles);
@@ -276,19 +276,19 @@ module _ (s : Kept) (w : WatchedRun) (holds : Holds s w) where
               fits = o.limited.fits;
             }
 
-        holds-next : Holds after (with_event w e)
-        holds-next =
+        holds_next : Holds after (with_event w e)
+        holds_next =
             record {
               few = holds.few;
               copy = holds.copy;
-              inside = subst (Inside after (with_event w e)) (sym o.reads) (a_plant holds-plant holds-run limited);
+              inside = subst (Inside after (with_event w e)) (sym o.reads) (a_plant holds_plant holds_run limited);
             }
 
         -- and so the event is answered.
-        pub accepted-step : Stepped w e (remaining (left_in counts)) after
-        accepted-step =
+        pub accepted_step : Stepped w e (remaining (left_in counts)) after
+        accepted_step =
             let r : left_in counts ≡ ceiling_so_far P (with_event w e) - quiet_so_far P (with_event w e) = omega (arith, exact) in
             record {
               answer = ap remaining r ∙ sym (ap (answered_for w e) accepted);
-              held = subst (λ (x : Found Plant). Holds after (stepped_to w e x)) (sym accepted) holds-next;
+              held = subst (λ (x : Found Plant). Holds after (stepped_to w e x)) (sym accepted) holds_next;
             }

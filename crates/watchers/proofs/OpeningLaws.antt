@@ -25,7 +25,7 @@ use Rattle.plant.specs.declared.End.TheVariants as Ends
 use Rattle.plant.proofs.FileBounds.{longest_file_lem}
 use Rattle.decoding.specs.Tables.{plant_of}
 use Rattle.decoding.specs.declared.Shape.{Shape}
-use Rattle.decoding.proofs.TableLaws.{rows-counted, plant_row_is}
+use Rattle.decoding.proofs.TableLaws.{rows_counted, plant_row_is}
 use Rattle.figures.specs.FigureSums.{figures_in}
 use Rattle.figures.specs.declared.Figures.{Figures}
 use Rattle.figures.proofs.FigureLaws.{most_limit, base_limit, per_progress_limit, per_doubling_limit}
@@ -90,10 +90,10 @@ wide_is xs wide h t = go (dec_lt t (length xs))
 module _ (file ws : List ℕ) (v : Verdict) (owed : OwedVerdict ws (Weighed.judgement_of v) (judged_weights file ws)) where
   owed_figures : (j : Weighed.Judgement) → Weighed.judgement_of v ≡ j → (P : Plant) (end : ℕ) → judged_weights file ws ≡ found P end → Passes P ws
       → j ≡ Weighed.passing (figures_of P ws)
-  owed_figures j q P end good ok = sym q ∙ at-plant (subst (OwedVerdict ws (Weighed.judgement_of v)) good owed)
+  owed_figures j q P end good ok = sym q ∙ at_plant (subst (OwedVerdict ws (Weighed.judgement_of v)) good owed)
     where
-      at-plant : OwedVerdict ws (Weighed.judgement_of v) (found P end) → Weighed.judgement_of v ≡ Weighed.passing (figures_of P ws)
-      at-plant (verdict_for_plant passing failing) = (passing ok).figures
+      at_plant : OwedVerdict ws (Weighed.judgement_of v) (found P end) → Weighed.judgement_of v ≡ Weighed.passing (figures_of P ws)
+      at_plant (verdict_for_plant passing failing) = (passing ok).figures
 
   -- The figures that weighing hands back are those of the plant,
   pub figures_passing : (f : Figures) → Weighed.judgement_of v ≡ Weighed.passing (figures_in f) → FiguresFor file ws f
@@ -118,8 +118,8 @@ pub tabled : (file : List ℕ) (end : End) (shape : Shape) (s : Kept) → end_fo
 tabled file end shape s reads rows types P next e =
     subst (Tabled s) (decoded_plant end (plant_of shape s.table) P next (reads ∙ e))
     (record {
-      rows = rows ∙ sym (rows-counted shape s.table);
-      each_row = λ k l. sym (plant_row_is shape s.table k (omega (arith, rows-counted shape s.table)));
+      rows = rows ∙ sym (rows_counted shape s.table);
+      each_row = λ k l. sym (plant_row_is shape s.table k (omega (arith, rows_counted shape s.table)));
       types = types;
     })
 
@@ -159,10 +159,10 @@ module _ (file ws contents : List ℕ) (figure class : ℕ)
 
   -- and the figure is the ceiling.
   figure_is : figure ≡ Quoting.ceiling_for P ws contents 0 0
-  figure_is = at-plant (subst (Quoting.Owed ws contents 0 0 (QuotingAnswers.quoted figure class)) quotable.2 owed)
+  figure_is = at_plant (subst (Quoting.Owed ws contents 0 0 (QuotingAnswers.quoted figure class)) quotable.2 owed)
     where
-      at-plant : Quoting.Owed ws contents 0 0 (QuotingAnswers.quoted figure class) (found P quotable.1) → figure ≡ Quoting.ceiling_for P ws contents 0 0
-      at-plant (Quoting.for_plant passing failing) = let e = (passing quotable.3).quote in cc
+      at_plant : Quoting.Owed ws contents 0 0 (QuotingAnswers.quoted figure class) (found P quotable.1) → figure ≡ Quoting.ceiling_for P ws contents 0 0
+      at_plant (Quoting.for_plant passing failing) = let e = (passing quotable.3).quote in cc
 
   checked : (end : ℕ) × (judged_weights file ws ≡ found P end) × (length contents ≡ P.types)
   checked =
@@ -191,8 +191,8 @@ module _ (file ws contents : List ℕ) (figure class : ℕ)
     same_figures : figures_in f ≡ figures_of P ws
     same_figures = figures P checked.0 checked.1 quotable.3
 
-    opened-plant : HoldsPlant s ws P
-    opened-plant =
+    opened_plant : HoldsPlant s ws P
+    opened_plant =
         let t = b.tabled P reading.0 reading.1 in
         record {
           rows = t.rows;
@@ -202,9 +202,9 @@ module _ (file ws contents : List ℕ) (figure class : ℕ)
           per_doubling = b.per_doubling ∙ ap (λ (x : Theory.Figures). x.per_doubling) same_figures;
         }
 
-    opened-run : HoldsRun s (opened_on file ws contents) P
+    opened_run : HoldsRun s (opened_on file ws contents) P
     unfolding after_all run sum
-    opened-run =
+    opened_run =
         record {
           now =
               λ i.
@@ -217,9 +217,9 @@ module _ (file ws contents : List ℕ) (figure class : ℕ)
           doublings = b.counts.doublings_is;
         }
 
-    opened-limits : Limited (opened_on file ws contents) P
+    opened_limits : Limited (opened_on file ws contents) P
     unfolding run sum
-    opened-limits =
+    opened_limits =
         record {
           bounded = ceiling P within.limits.formed ws quotable.3;
           small = within.small;
@@ -228,8 +228,8 @@ module _ (file ws contents : List ℕ) (figure class : ℕ)
           fits = largest;
         }
 
-    pub opens-quoted : Opens file ws contents (remaining figure) s
-    opens-quoted =
+    pub opens_quoted : Opens file ws contents (remaining figure) s
+    opens_quoted =
         record {
           quote = QuotingAnswers.quoted figure class;
           owed = owed;
@@ -238,7 +238,7 @@ module _ (file ws contents : List ℕ) (figure class : ℕ)
               record {
                 few = omega (arith, b.length_is, lengths.0);
                 copy = ap (λ (n : ℕ). take n s.copy) b.length_is ∙ b.copy;
-                inside = subst (Inside s (opened_on file ws contents)) (sym reading.1) (a_plant opened-plant opened-run opened-limits);
+                inside = subst (Inside s (opened_on file ws contents)) (sym reading.1) (a_plant opened_plant opened_run opened_limits);
               };
           cleared = λ n p q. absurd (false≢true cc);
         }

@@ -16,8 +16,8 @@ use Rattle.weighing.specs.Weighing.{OnPassing, Owed, for_fault, for_plant}
 use Rattle.weighing.proofs.WeighingLaws.{passed_iff}
 
 -- Figures are not owed for a fault.
-pub no-figures : (ws before after : List ℕ) (a : Answer) (number place : ℕ) → Owed ws before after a (fault number place) → HasFigures a → ⊥
-no-figures ws before after a number place (for_fault h) f = let e = sym h.refusal ∙ f.1 in false≢true cc
+pub no_figures : (ws before after : List ℕ) (a : Answer) (number place : ℕ) → Owed ws before after a (fault number place) → HasFigures a → ⊥
+no_figures ws before after a number place (for_fault h) f = let e = sym h.refusal ∙ f.1 in false≢true cc
 
 -- For weights that pass, what is owed on passing is owed.
 on_passing : {ws before after : List ℕ} {a : Answer} {P : Plant} {end : ℕ} → Owed ws before after a (found P end) → Passes P ws → OnPassing P ws before after a
@@ -30,7 +30,7 @@ module _ (file ws before after : List ℕ) (a : Answer) (P : Plant) (end : ℕ) 
   passed_owed = go (judged file ws (length before)) refl
     where
       go : (x : Found Plant) → judged file ws (length before) ≡ x → Passes P ws × OnPassing P ws before after a
-      go (fault number place) e = absurd (no-figures ws before after a number place (subst (Owed ws before after a) e owed) figures)
+      go (fault number place) e = absurd (no_figures ws before after a number place (subst (Owed ws before after a) e owed) figures)
       go (found Q k) e =
           let same = judged_read file ws (length before) P Q end k reads e in
           let passes = (passed_iff file ws before after a Q k e owed).0 figures in

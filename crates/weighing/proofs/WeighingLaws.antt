@@ -20,14 +20,14 @@ use Rattle.decoding.specs.Tables.{plant_of, Ready}
 use Rattle.plant.specs.Steps.{end_found}
 use Rattle.plant.specs.declared.End.{End}
 use Rattle.decoding.specs.declared.Shape.{Shape}
-use Rattle.plant.proofs.OneToOne.{same-fault}
+use Rattle.plant.proofs.OneToOne.{same_fault}
 use Rattle.weight_checks.specs.Checks.{checked_weights, judged_weights, checked_room, judged, WeightsChecked, RoomChecked}
 use Rattle.weight_checks.proofs.CheckLaws.{none_above, judged_weights_lem, judged_good, judged_limits}
 use Rattle.weighing.specs.Answers.{Answer, passed, cycle, refused, answer_of, HasFigures, Judgement, judgement_of}
 use Rattle.weighing.specs.Answers as Answers
 use Rattle.weighing.specs.Weighing.{OnPassing, OnFailing, Owed, for_fault, for_plant, OnPassingVerdict, OwedVerdict, verdict_for_fault, verdict_for_plant}
 use Rattle.machines.specs.Machines.{Weighable, FirstFailing}
-use Rattle.machines.proofs.TurnLaws.{machines_are, one-fails}
+use Rattle.machines.proofs.TurnLaws.{machines_are, one_fails}
 use Rattle.weighing.specs.Inner.Judging.{OwedTable, OwedTableVerdict}
 use Rattle.figures.specs.FigureSums.{figures_in, FiguresOf}
 use Rattle.shortest_cycles.specs.ShortestCycles.{ShownShortest}
@@ -47,19 +47,19 @@ module _ (s : Shape) (table ws : List ℕ) (ok : Weighable s table ws) where
     figures_are = figures (plant_of s table) refl (sym ok.one_each)
 
     -- and so is n among them.
-    pub most-is : f.most_states ≡ most_states (plant_of s table)
-    most-is = ap (λ (x : Theory.Figures). x.most_states) figures_are
+    pub most_is : f.most_states ≡ most_states (plant_of s table)
+    most_is = ap (λ (x : Theory.Figures). x.most_states) figures_are
 
     -- Where the weights pass, the bound holds; the verdict with these figures is owed,
-    pub passing-verdict : Passes (plant_of s table) ws → OwedTableVerdict s table ws (Answers.passing (figures_in f))
-    passing-verdict p end =
+    pub passing_verdict : Passes (plant_of s table) ws → OwedTableVerdict s table ws (Answers.passing (figures_in f))
+    passing_verdict p end =
         verdict_for_plant
         (λ q. record { figures = ap Answers.passing figures_are; bounded = ceiling (plant_of s table) ok.limits.formed ws p })
         (λ q. absurd (q p))
 
     -- and the answer with them, the list being kept.
-    pub passing-owed : Passes (plant_of s table) ws → (before : List ℕ) → OwedTable s table ws before before (passed (figures_in f))
-    passing-owed p before end =
+    pub passing_owed : Passes (plant_of s table) ws → (before : List ℕ) → OwedTable s table ws before before (passed (figures_in f))
+    passing_owed p before end =
         for_plant
         (λ q. record { figures = ap passed figures_are; whole_kept = refl; bounded = ceiling (plant_of s table) ok.limits.formed ws p })
         (λ q. absurd (q p))
@@ -67,8 +67,8 @@ module _ (s : Shape) (table ws : List ℕ) (ok : Weighable s table ws) where
   -- Machine m is the first that fails, and the first `size` edges are its.
   module _ (m size : ℕ) (edges : List ℤ) (failing : FirstFailing s table ws 0 m size edges) where
     -- Where there is none, the weights pass.
-    pub none-fails : s.machines ≤ m → Passes (plant_of s table) ws
-    none-fails h k rows c q =
+    pub none_fails : s.machines ≤ m → Passes (plant_of s table) ws
+    none_fails h k rows c q =
         failing.before
         k
         (omega (arith, cycle_machine (plant_of s table) ok.limits.formed k rows c, machines_are s table ws ok))
@@ -78,8 +78,8 @@ module _ (s : Shape) (table ws : List ℕ) (ok : Weighable s table ws) where
         q
 
     -- Else the verdict that they do not is owed.
-    pub failing-verdict : m < s.machines → OwedTableVerdict s table ws Answers.failing
-    failing-verdict within end = verdict_for_plant (λ p. absurd (one-fails s table ws ok m within (failing.fails within) p)) (λ q. refl)
+    pub failing_verdict : m < s.machines → OwedTableVerdict s table ws Answers.failing
+    failing_verdict within end = verdict_for_plant (λ p. absurd (one_fails s table ws ok m within (failing.fails within) p)) (λ q. refl)
 
   -- A shortest cycle that is shown is owed.
   pub shown_owed : {k : ℕ} {before after : List ℕ} → ShownShortest (plant_of s table) ws k before after → OwedTable s table ws before after (cycle k)
@@ -215,7 +215,7 @@ one_to_one (Variants.Refused f) (Variants.Cycle k') e = cc
 one_to_one (Variants.Refused f) (Variants.Refused g) e =
     let n : f.number ≡ g.number = cc in
     let q : f.place ≡ g.place = cc in
-    ap Variants.Refused (same-fault f g n q)
+    ap Variants.Refused (same_fault f g n q)
 
 -- ---- what a verdict says
 
@@ -266,11 +266,11 @@ pub verdict_owed : {ws : List ℕ} {f : Theory.Figures} (before : List ℕ) (x :
 verdict_owed before (fault n q) (verdict_for_fault h) = absurd (omega (arith, ap sort_of_verdict h))
 verdict_owed before (found P end) (verdict_for_plant passes fails) =
     for_plant
-    (λ p. let h = passes p in record { figures = passing-is h.figures; whole_kept = refl; bounded = h.bounded })
+    (λ p. let h = passes p in record { figures = passing_is h.figures; whole_kept = refl; bounded = h.bounded })
     (λ q. absurd (omega (arith, ap sort_of_verdict (fails q))))
   where
-    passing-is : {f g : Theory.Figures} → Answers.passing f ≡ Answers.passing g → passed f ≡ passed g
-    passing-is e = cc
+    passing_is : {f g : Theory.Figures} → Answers.passing f ≡ Answers.passing g → passed f ≡ passed g
+    passing_is e = cc
 
 -- Different verdicts never mean the same.
 pub verdicts_differ : (a b : Verdict) → judgement_of a ≡ judgement_of b → a ≡ b
@@ -287,4 +287,4 @@ verdicts_differ (Verdicts.Refused f) Verdicts.Fails e = cc
 verdicts_differ (Verdicts.Refused f) (Verdicts.Refused g) e =
     let n : f.number ≡ g.number = cc in
     let q : f.place ≡ g.place = cc in
-    ap Verdicts.Refused (same-fault f g n q)
+    ap Verdicts.Refused (same_fault f g n q)

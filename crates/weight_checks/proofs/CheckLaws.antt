@@ -63,14 +63,14 @@ module _ (ws : List ℕ) (P : Plant) (end : ℕ) where
 
   module _ (one_each : length ws ≡ P.types) where
     -- A weight above 1,000: fault 10 at the first.
-    pub refuse-10 : (i : ℕ) → i ≡ first_above 1000 ws → i < length ws → fault 10 i ≡ checked_weights ws P end
+    pub refuse_10 : (i : ℕ) → i ≡ first_above 1000 ws → i < length ws → fault 10 i ≡ checked_weights ws P end
     unfolding checked_weights checked_sizes
-    refuse-10 i q l = rw (q, eq-eqb (length ws) P.types one_each, lt-ltb (first_above 1000 ws) (length ws) (rw (← q) l))
+    refuse_10 i q l = rw (q, eq-eqb (length ws) P.types one_each, lt-ltb (first_above 1000 ws) (length ws) (rw (← q) l))
 
     -- Otherwise the weights are good.
-    pub accept-weights : length ws ≤ first_above 1000 ws → found P end ≡ checked_weights ws P end
+    pub accept_weights : length ws ≤ first_above 1000 ws → found P end ≡ checked_weights ws P end
     unfolding checked_weights checked_sizes
-    accept-weights light = rw (eq-eqb (length ws) P.types one_each, le-ltb (first_above 1000 ws) (length ws) light)
+    accept_weights light = rw (eq-eqb (length ws) P.types one_each, le-ltb (first_above 1000 ws) (length ws) light)
 
 -- A lent list shorter than 64: fault 11.
 pub refuse_11 : (room : ℕ) (P : Plant) (end : ℕ) → room < 64 → fault 11 0 ≡ checked_room room P end
@@ -86,7 +86,7 @@ accept_room room (fault number place) l = refl
 -- With good weights and room, the plant of a file is weighed.
 pub refuse_none : (file ws : List ℕ) (room : ℕ) (P : Plant) (end : ℕ) → read_plant file ≡ found P end → length ws ≡ P.types → length ws ≤ first_above 1000 ws
     → 64 ≤ room → found P end ≡ judged file ws room
-refuse_none file ws room P end reads one_each light l = rw (reads, ← accept-weights ws P end one_each light) (accept_room room (found P end) l)
+refuse_none file ws room P end reads one_each light l = rw (reads, ← accept_weights ws P end one_each light) (accept_room room (found P end) l)
 
 -- A list of 64 is long enough.
 pub judged_64 : (file ws : List ℕ) → judged file ws 64 ≡ judged_weights file ws

@@ -4,9 +4,9 @@ use mathlib.Core.Option.{none, some}
 use mathlib.Core.List.{[], ◌∷◌}
 use Rattle.weight_lists.specs.Counting.{next_up}
 
-last-type-first : next_up 6 (0 ∷ 0 ∷ 0 ∷ []) ≡ some (0 ∷ 0 ∷ 1 ∷ [])
+last_type_first : next_up 6 (0 ∷ 0 ∷ 0 ∷ []) ≡ some (0 ∷ 0 ∷ 1 ∷ [])
 unfolding next_up
-last-type-first = refl
+last_type_first = refl
 
 carries : next_up 6 (0 ∷ 6 ∷ 6 ∷ []) ≡ some (1 ∷ 0 ∷ 0 ∷ [])
 unfolding next_up

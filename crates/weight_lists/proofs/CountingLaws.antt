@@ -72,9 +72,9 @@ module _ (allowed : ℕ) where
       same x (inl s) q = inl (rw (q, s))
       same x (inr b) q = inr (inr (q, b))
 
-      with-next : (x : List ℕ) → (Before vs x → (vs ≡ ws) ⊎ Before vs ws) → Before (v ∷ vs) (w ∷ x) → ((v ∷ vs) ≡ (w ∷ ws)) ⊎ ((v < w) ⊎ ((v ≡ w) × Before vs ws))
-      with-next x ih (inl b) = inr (inl b)
-      with-next x ih (inr b) = same x (ih b.1) b.0
+      with_next : (x : List ℕ) → (Before vs x → (vs ≡ ws) ⊎ Before vs ws) → Before (v ∷ vs) (w ∷ x) → ((v ∷ vs) ≡ (w ∷ ws)) ⊎ ((v < w) ⊎ ((v ≡ w) × Before vs ws))
+      with_next x ih (inl b) = inr (inl b)
+      with_next x ih (inr b) = same x (ih b.1) b.0
 
       carry : Dec (v ≡ w) → (vs ≡ ws) ⊎ Before vs ws → Before (v ∷ vs) (suc w ∷ zeros) → ((v ∷ vs) ≡ (w ∷ ws)) ⊎ ((v < w) ⊎ ((v ≡ w) × Before vs ws))
       carry (yes q) ih b = same zeros ih q
@@ -84,7 +84,7 @@ module _ (allowed : ℕ) where
       go : (x : Option (List ℕ)) (b : Bool) → ltb w allowed ≡ b
           → ((y : List ℕ) → x ≡ some y → Before vs y → (vs ≡ ws) ⊎ Before vs ws) → (x ≡ none → (vs ≡ ws) ⊎ Before vs ws)
           → carried allowed w ws x ≡ some us → ((v ∷ vs) ≡ (w ∷ ws)) ⊎ ((v < w) ⊎ ((v ≡ w) × Before vs ws))
-      go (some y) b t ih last r = with-next y (ih y refl) (subst (Before (v ∷ vs)) (sym (some_same r)) h)
+      go (some y) b t ih last r = with_next y (ih y refl) (subst (Before (v ∷ vs)) (sym (some_same r)) h)
       go none true t ih last r = carry (ℕ_discrete v w) (last refl) (subst (Before (v ∷ vs)) (sym (some_same (rw t at r))) h)
       go none false t ih last r = no_some (rw t at r)
 
@@ -157,7 +157,7 @@ module _ (allowed : ℕ) where
   -- The loop from the last type on: behind type t all weights were the allowed one and are 0 now, and those before it are as they were.
   pub record Turning (ws₀ ws : List ℕ) (t : ℕ) : Type 0 where
     pub within : t ≤ length ws₀
-    pub now-is : ws ≡ take t ws₀ ++ replicate (length ws₀ - t) 0
+    pub now_is : ws ≡ take t ws₀ ++ replicate (length ws₀ - t) 0
     pub last : next_up allowed (drop t ws₀) ≡ none
 
   -- Before the first turn.
@@ -166,7 +166,7 @@ module _ (allowed : ℕ) where
   turning ws₀ =
       record {
         within = omega arith;
-        now-is = rw (take-length ws₀, sub_self (length ws₀)) (sym (append-nil ws₀));
+        now_is = rw (take-length ws₀, sub_self (length ws₀)) (sym (append-nil ws₀));
         last = rw (drop_of_length-le ws₀ {i = length ws₀} (omega arith));
       }
 
@@ -186,7 +186,7 @@ module _ (allowed : ℕ) where
     -- So the list is what it was up to type t, and zeros.
     seam : ws ≡ take t ws₀ ++ (get_or ws₀ t 0 ∷ zeros)
     unfolding zeros
-    seam = g.now-is ∙ rw (take-suc ws₀ t 0 there, append_assoc (take t ws₀) (get_or ws₀ t 0 ∷ []) (replicate (length ws₀ - suc t) 0))
+    seam = g.now_is ∙ rw (take-suc ws₀ t 0 there, append_assoc (take t ws₀) (get_or ws₀ t 0 ∷ []) (replicate (length ws₀ - suc t) 0))
 
     -- The weight of type t is as it was.
     pub untouched : get_or ws t 0 ≡ get_or ws₀ t 0
@@ -215,14 +215,14 @@ module _ (allowed : ℕ) where
         ∙ ap some (ap (λ (k : ℕ). take t ws₀ ++ (suc (get_or ws₀ t 0) ∷ replicate k 0)) behind-length ∙ sym (stored (suc (get_or ws₀ t 0))) ∙ ap (set ws t) (sym up))
 
     -- otherwise it goes back to 0, and the loop goes on.
-    pub back-to-zero : allowed ≤ get_or ws t 0 → Turning ws₀ (set ws t 0) t
+    pub back_to_zero : allowed ≤ get_or ws t 0 → Turning ws₀ (set ws t 0) t
     unfolding zeros
-    back-to-zero l =
+    back_to_zero l =
         let h : allowed ≤ get_or ws₀ t 0 = omega (arith, untouched) in
         let k : length ws₀ - t ≡ suc (length ws₀ - suc t) = omega (arith, there) in
         record {
           within = omega (arith, there);
-          now-is = stored 0 ∙ ap (λ (n : ℕ). take t ws₀ ++ replicate n 0) (sym k);
+          now_is = stored 0 ∙ ap (λ (n : ℕ). take t ws₀ ++ replicate n 0) (sym k);
           last = ap (next_up allowed) (drop-cons ws₀ t 0 there) ∙ stays_last (get_or ws₀ t 0) (drop (suc t) ws₀) g.last h;
         }
 

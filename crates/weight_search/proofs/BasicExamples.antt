@@ -5,9 +5,9 @@ use Rattle.livelock.specs.Lists.{below, sum, greatest}
 use Rattle.livelock.proofs.BasicExamples.{panel_and_probe, plant_a}
 use Rattle.quoting.specs.Quoting.{ceiling_for}
 
-ceiling-1-0 : ceiling_for plant_a (1 ∷ 0 ∷ []) (3 ∷ 4 ∷ []) 0 0 ≡ 12
+ceiling_1_0 : ceiling_for plant_a (1 ∷ 0 ∷ []) (3 ∷ 4 ∷ []) 0 0 ≡ 12
 unfolding panel_and_probe below sum greatest
-ceiling-1-0 = refl
+ceiling_1_0 = refl
 
 ceiling_0_6 : ceiling_for plant_a (0 ∷ 6 ∷ []) (3 ∷ 4 ∷ []) 0 0 ≡ 74
 unfolding panel_and_probe below sum greatest

@@ -23,10 +23,10 @@ use Rattle.weight_search.specs.Searching.{Owed, for_fault}
 use Rattle.weight_search.specs.Inner.Tables.{Searchable, OwedTable}
 
 -- The front of a list of zeros is one.
-pub zeros-front : (n m : ℕ) → n ≤ m → take {A = ℕ} n (replicate m 0) ≡ replicate n 0
-zeros-front zero m l = refl
-zeros-front (suc n) zero l = absurd (not-suc-le-zero l)
-zeros-front (suc n) (suc m) l = ap (λ (x : List ℕ). 0 ∷ x) (zeros-front n m (le_of_suc-le-suc l))
+pub zeros_front : (n m : ℕ) → n ≤ m → take {A = ℕ} n (replicate m 0) ≡ replicate n 0
+zeros_front zero m l = refl
+zeros_front (suc n) zero l = absurd (not-suc-le-zero l)
+zeros_front (suc n) (suc m) l = ap (λ (x : List ℕ). 0 ∷ x) (zeros_front n m (le_of_suc-le-suc l))
 
 -- A fault found is owed its number and place, with the list kept.
 refusal : {contents before : List ℕ} {allowed figure number place : ℕ} {x : Found Plant} → fault number place ≡ x
@@ -43,28 +43,28 @@ module _ (file contents before : List ℕ) (allowed figure : ℕ) (s : Shape) (t
 
   module _ (end : ℕ) (read_at : read ≡ Ends.At end) (check : Check) (checked : GivenChecked s.types contents allowed (length before) check) where
     -- Otherwise the numbers given are judged,
-    given-judged : check_found check (plant_of s table) end ≡ judged file contents allowed (length before)
-    given-judged =
+    given_judged : check_found check (plant_of s table) end ≡ judged file contents allowed (length before)
+    given_judged =
         checked (plant_of s table) end refl
         ∙ ap (λ (x : Found Plant). and_then x (checked_given contents allowed (length before))) (sym (ap (λ (x : End). end_found x (plant_of s table)) read_at) ∙ reads)
 
     -- a fault of theirs is the answer,
-    pub given-refused : (f : Fault) → check ≡ Checks.Fault f
+    pub given_refused : (f : Fault) → check ≡ Checks.Fault f
         → Owed contents allowed figure before before (refused f.number f.place) (judged file contents allowed (length before))
-    given-refused f e = refusal (sym (ap (λ (x : Check). check_found x (plant_of s table) end) e) ∙ given-judged)
+    given_refused f e = refusal (sym (ap (λ (x : Check). check_found x (plant_of s table) end) e) ∙ given_judged)
 
     module _ (good : check ≡ Checks.Good) where
       -- The plant is the one that was read,
-      judged-plant : judged file contents allowed (length before) ≡ found (plant_of s table) end
-      judged-plant = sym given-judged ∙ ap (λ (x : Check). check_found x (plant_of s table) end) good
+      judged_plant : judged file contents allowed (length before) ≡ found (plant_of s table) end
+      judged_plant = sym given_judged ∙ ap (λ (x : Check). check_found x (plant_of s table) end) good
 
       -- and without one the table is searched,
-      pub given-searchable : Ready s table → Searchable s table contents allowed (take {A = ℕ} s.types (replicate 6 0)) before
-      given-searchable ready =
-          let g = judged_given file contents allowed (length before) (plant_of s table) end judged-plant in
-          record { ready = ready; limits = g.0; given = g.1; zeros = zeros-front s.types 6 g.1.few_types }
+      pub given_searchable : Ready s table → Searchable s table contents allowed (take {A = ℕ} s.types (replicate 6 0)) before
+      given_searchable ready =
+          let g = judged_given file contents allowed (length before) (plant_of s table) end judged_plant in
+          record { ready = ready; limits = g.0; given = g.1; zeros = zeros_front s.types 6 g.1.few_types }
 
       -- and what is owed for it is owed for the input.
-      pub table-owed : {after : List ℕ} {a : Answer} → OwedTable s table contents allowed figure before after a
+      pub table_owed : {after : List ℕ} {a : Answer} → OwedTable s table contents allowed figure before after a
           → Owed contents allowed figure before after a (judged file contents allowed (length before))
-      table-owed {after} {a} h = subst (Owed contents allowed figure before after a) (sym judged-plant) (h end)
+      table_owed {after} {a} h = subst (Owed contents allowed figure before after a) (sym judged_plant) (h end)

@@ -6,12 +6,12 @@ use mathlib.Core.List.{List}
 use Prim.Native.Nat.{ℕ}
 use Rattle.livelock.specs.Plants.{Plant}
 use Rattle.plant.specs.Found.{Found, found}
-use Rattle.plant.proofs.OneToOne.{same-fault}
+use Rattle.plant.proofs.OneToOne.{same_fault}
 use Rattle.weight_search.specs.declared.Search.{Search}
 use Rattle.weight_search.specs.declared.Search.TheVariants as Variants
 use Rattle.weight_search.specs.Answers.{Answer, weights, no_weights, answer_of}
 use Rattle.livelock.specs.Orders.{Before}
-use Rattle.livelock.proofs.Orders.{before-asymmetric}
+use Rattle.livelock.proofs.Orders.{before_asymmetric}
 use Rattle.weight_search.specs.Searching.{Suits, First, Owed, for_fault, for_weights, for_none}
 
 module _ {contents : List ℕ} {allowed figure : ℕ} where
@@ -22,7 +22,7 @@ module _ {contents : List ℕ} {allowed figure : ℕ} where
       go : (vs ≡ ws) ⊎ Before vs ws → (ws ≡ vs) ⊎ Before ws vs → vs ≡ ws
       go (inl e) y = e
       go (inr b) (inl e) = sym e
-      go (inr b) (inr c) = absurd (before-asymmetric vs ws b c)
+      go (inr b) (inr c) = absurd (before_asymmetric vs ws b c)
 
   module _ {before : List ℕ} where
     -- For every input the answer and the list after the call are determined.
@@ -35,10 +35,10 @@ module _ {contents : List ℕ} {allowed figure : ℕ} where
     determined x after after' a b (for_none p n k) (for_none q m l) = (p ∙ sym q, k ∙ sym l)
 
     -- "None" comes exactly when no weights up to the allowed one do so.
-    pub none-iff : (P : Plant) (end : ℕ) (after : List ℕ) (a : Answer) → Owed contents allowed figure before after a (found P end)
+    pub none_iff : (P : Plant) (end : ℕ) (after : List ℕ) (a : Answer) → Owed contents allowed figure before after a (found P end)
         → (a ≡ no_weights) ↔ ((ws : List ℕ) → Suits P contents allowed figure ws → ⊥)
-    none-iff P end after a (for_weights p f c) = (λ e. absurd (false≢true cc), λ n. absurd (n after f.suits))
-    none-iff P end after a (for_none p n k) = (λ e. n, λ m. p)
+    none_iff P end after a (for_weights p f c) = (λ e. absurd (false≢true cc), λ n. absurd (n after f.suits))
+    none_iff P end after a (for_none p n k) = (λ e. n, λ m. p)
 
 -- Different answers never mean the same.
 pub one_to_one : (a b : Search) → answer_of a ≡ answer_of b → a ≡ b
@@ -53,4 +53,4 @@ one_to_one (Variants.Refused f) Variants.NoWeights e = cc
 one_to_one (Variants.Refused f) (Variants.Refused g) e =
     let n : f.number ≡ g.number = cc in
     let q : f.place ≡ g.place = cc in
-    ap Variants.Refused (same-fault f g n q)
+    ap Variants.Refused (same_fault f g n q)

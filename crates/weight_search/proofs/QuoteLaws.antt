@@ -12,7 +12,7 @@ use Rattle.livelock.specs.Weights.{Passes}
 use Rattle.plant.specs.Found.{Found, found, fault, and_then}
 use Rattle.plant.specs.Reading.{read_plant}
 use Rattle.weight_checks.specs.Checks.{first_above, checked_weights, judged_weights}
-use Rattle.weight_checks.proofs.CheckLaws.{then_found, accept-weights}
+use Rattle.weight_checks.proofs.CheckLaws.{then_found, accept_weights}
 use Rattle.price_classes.specs.Classes.{class_of}
 use Rattle.contents.specs.Contents.{checked_contents}
 use Rattle.contents.proofs.ZeroLast.{zero_last}
@@ -42,7 +42,7 @@ module _ (file contents ws : List ℕ) (allowed figure room : ℕ) (P : Plant) (
       let x = then_found (read_plant file) (checked_given contents allowed room) P end is in
       let g = given_good contents allowed room x.0 P x.1 end x.3 in
       let one_each : length ws ≡ x.0.types = s.up_to.one_each ∙ ap (λ (Q : Plant). Q.types) (sym g.same) in
-      let good = accept-weights ws x.0 x.1 one_each (none_above allowed 1000 (omega (arith, g.low)) ws s.up_to.none_above) in
+      let good = accept_weights ws x.0 x.1 one_each (none_above allowed 1000 (omega (arith, g.low)) ws s.up_to.none_above) in
       let weighed : judged_weights file ws ≡ found x.0 x.1 = ap (λ (y : Found Plant). and_then y (checked_weights ws)) x.2 ∙ sym good in
       let c = given_found contents allowed room x.0 P x.1 end x.3 in (
         c.0,

@@ -34,28 +34,28 @@ module _ (states ws : List ℕ) (with : PlantWith states ws) where
     of_plant = figures with.plant with.states_are with.types_are
 
     -- F and n are within their limits,
-    pub figures-fit : (f.base ≤ 64513008) × (f.most_states ≤ 64)
-    figures-fit = (
+    pub figures_fit : (f.base ≤ 64513008) × (f.most_states ≤ 64)
+    figures_fit = (
       omega (arith, ap (λ (x : Theory.Figures). x.base) of_plant, base_limit with.plant with.limits ws (λ t l. light t)),
       omega (arith, ap (λ (x : Theory.Figures). x.most_states) of_plant, most_limit with.plant with.limits),
     )
 
     module _ (contents : List ℕ) (small : AllAtMost 1000000 contents) (w : ℕ) (is : w ≡ weight_of_contents ws contents) where
       -- W is within its limit,
-      weight-limit : w ≤ 64000000000
-      weight-limit = subst (λ (x : ℕ). x ≤ 64000000000) (sym is) (contents_limit ws contents (length ws) few_weights light small)
+      weight_limit : w ≤ 64000000000
+      weight_limit = subst (λ (x : ℕ). x ≤ 64000000000) (sym is) (contents_limit ws contents (length ws) few_weights light small)
 
       -- so n × W
       pub product_fits : f.most_states * w ≤ 4096000000000
-      product_fits = mul-le-mul figures-fit.1 weight-limit
+      product_fits = mul-le-mul figures_fit.1 weight_limit
 
       -- and the ceiling fit 64 bits,
-      pub ceiling-fits : f.base + f.most_states * w ≤ 4096064513008
-      ceiling-fits = omega (arith, figures-fit.0, product_fits)
+      pub ceiling_fits : f.base + f.most_states * w ≤ 4096064513008
+      ceiling_fits = omega (arith, figures_fit.0, product_fits)
 
       -- and it is the ceiling of every plant with these states.
-      pub within-is : (figure : ℕ) → CeilingWithin states ws contents figure (leb (f.base + f.most_states * w) figure)
-      within-is figure P s t =
+      pub within_is : (figure : ℕ) → CeilingWithin states ws contents figure (leb (f.base + f.most_states * w) figure)
+      within_is figure P s t =
           let g = figures P s t in
           let weighs : w ≡ contents_weight P ws (content contents) =
           is ∙ ap (λ (n : ℕ). sum (λ i. weight ws i * content contents i) (below n)) (sym t) in

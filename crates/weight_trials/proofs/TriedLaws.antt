@@ -10,8 +10,8 @@ use Rattle.decoding.specs.Tables.{plant_of}
 use Rattle.decoding.specs.declared.Shape.{Shape}
 use Rattle.machines.specs.Machines.{Weighable, FirstFailing}
 use Rattle.machines.specs.declared.Failing.{Failing}
-use Rattle.machines.proofs.TurnLaws.{one-fails}
-use Rattle.weighing.proofs.WeighingLaws.{none-fails}
+use Rattle.machines.proofs.TurnLaws.{one_fails}
+use Rattle.weighing.proofs.WeighingLaws.{none_fails}
 use Rattle.stored_effects.specs.StoredEffects.{KnownToFail}
 use Rattle.stored_effects.proofs.StoredLaws.{known_fails}
 use Rattle.weight_trials.specs.Trials.{FailsAt, Remembered, Tried}
@@ -29,13 +29,13 @@ module _ {s : Shape} {table ws : List ℕ} (ok : Weighable s table ws) {f : Fail
 
   module _ {m count : ℕ} {edges : List ℤ} (failing : FirstFailing s table ws 0 m count edges) where
     -- No machine fails: it passes.
-    pub passes-tried : s.machines ≤ m → Tried (plant_of s table) ws (record { passes = true; failures = f }) effects
-    passes-tried none = record { decided = (λ q. none-fails s table ws ok m count edges failing none, λ p. refl); remembered = kept }
+    pub passes_tried : s.machines ≤ m → Tried (plant_of s table) ws (record { passes = true; failures = f }) effects
+    passes_tried none = record { decided = (λ q. none_fails s table ws ok m count edges failing none, λ p. refl); remembered = kept }
 
     -- One fails: it does not.
-    pub fails-tried : m < s.machines → Tried (plant_of s table) ws (record { passes = false; failures = f }) effects
-    fails-tried within =
-        record { decided = (λ q. absurd (false≢true q), λ p. absurd (one-fails s table ws ok m within (failing.fails within) p)); remembered = kept }
+    pub fails_tried : m < s.machines → Tried (plant_of s table) ws (record { passes = false; failures = f }) effects
+    fails_tried within =
+        record { decided = (λ q. absurd (false≢true q), λ p. absurd (one_fails s table ws ok m within (failing.fails within) p)); remembered = kept }
 
 -- The first machine that fails, with its edges.
 pub machine_fails : {s : Shape} {table ws : List ℕ} → Weighable s table ws → length ws ≤ 6 → (failing : Failing) {edges : List ℤ}

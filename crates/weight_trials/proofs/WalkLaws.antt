@@ -12,12 +12,12 @@ use Rattle.livelock.proofs.QuietGraphs.{QuietRowOf}
 use Rattle.livelock.proofs.QuietWalks.{QuietWalk}
 use Rattle.decoding.specs.Tables.{plant_of}
 use Rattle.decoding.specs.declared.Shape.{Shape}
-use Rattle.decoding.proofs.TableLaws.{rows-counted}
+use Rattle.decoding.proofs.TableLaws.{rows_counted}
 use Rattle.edge_lists.specs.EdgeLists.{edge_in}
 use Rattle.deciding.specs.Rounds.{EdgesIn}
 use Rattle.machines.specs.declared.Failing.{Failing}
-use Rattle.machines.proofs.MachineLaws.{machine-walk}
-use Rattle.machines.proofs.TurnLaws.{turn-edges}
+use Rattle.machines.proofs.MachineLaws.{machine_walk}
+use Rattle.machines.proofs.TurnLaws.{turn_edges}
 use Rattle.searching.specs.Searches.{ClosingFrom}
 use Rattle.set_entries.specs.Entries.{RowsThere}
 use Rattle.weight_trials.specs.Trials.{FailsAt}
@@ -29,7 +29,7 @@ module _ {s : Shape} {table : List ℕ} {failing : Failing} {edges : List ℤ} (
 
   -- The edges are between the states of the machine.
   pub failing_edges : {n : ℕ} → n ≡ get_or s.states failing.machine 0 → EdgesIn n failing.count edges
-  failing_edges {n} e = turn-edges s table f.weights f.weighable failing.machine f.within _ _ refl refl failing.count edges f.listed n e
+  failing_edges {n} e = turn_edges s table f.weights f.weighable failing.machine f.within _ _ refl refl failing.count edges f.listed n e
 
   -- A closed walk of k edges was written to a list.
   module _ {states start k : ℕ} {before after : List ℕ} (h : ClosingFrom failing.count edges states start k before after) (found : k ≤ states) where
@@ -49,24 +49,24 @@ module _ {s : Shape} {table : List ℕ} {failing : Failing} {edges : List ℤ} (
         ∙ subst (λ (n : ℕ). take n (rows ++ drop k before) ≡ rows) rows_long (take-append_seam rows (drop k before)))
 
     -- They are a quiet closed walk of the plant,
-    rows-quiet : QuietWalk P rows
-    rows-quiet =
+    rows_quiet : QuietWalk P rows
+    rows_quiet =
         let w = h.written found in
-        machine-walk s table f.weighable.ready f.weighable.limits f.weights failing.machine f.within failing.count edges f.listed start w.walk
+        machine_walk s table f.weighable.ready f.weighable.limits f.weights failing.machine f.within failing.count edges f.listed start w.walk
         (omega (arith, w.long, h.some_edge)) w.closed.edges w.closed.closed
 
     -- and so are the first k numbers of the list,
-    pub walk-quiet : QuietWalk P (take k after)
-    walk-quiet = subst (QuietWalk P) front rows-quiet
+    pub walk_quiet : QuietWalk P (take k after)
+    walk_quiet = subst (QuietWalk P) front rows_quiet
 
     -- which the table has as rows.
-    pub walk-there : RowsThere table after 0 k
-    walk-there =
+    pub walk_there : RowsThere table after 0 k
+    walk_there =
         record {
           there = omega (arith, ap length (h.written found).shown, length-append rows (drop k before), rows_long);
           room = λ i a l.
-              let row = all_at (QuietRowOf P rows-quiet.machine) 0 rows rows-quiet.rows i (omega (arith, rows_long)) in
+              let row = all_at (QuietRowOf P rows_quiet.machine) 0 rows rows_quiet.rows i (omega (arith, rows_long)) in
               let same : get_or after i 0 ≡ get_or rows i 0 =
               ap (λ (x : List ℕ). get_or x i 0) (h.written found).shown ∙ get_or-append rows (drop k before) 0 i (omega (arith, rows_long)) in
-              omega (arith, same, row.0.0, rows-counted s table, f.weighable.ready.sound.room);
+              omega (arith, same, row.0.0, rows_counted s table, f.weighable.ready.sound.room);
         }

@@ -19,9 +19,9 @@ use Rattle.quoting.specs.Answers as QuotingAnswers
 use Rattle.quoting.specs.Quoting as Quoting
 
 -- An answer of weighing that is owed for a plant in which the weights pass has their figures.
-figures-of : {ws before after : List ℕ} {a : Answer} {P : Plant} {end : ℕ} → Owed ws before after a (found P end) → Passes P ws
+figures_of_lem : {ws before after : List ℕ} {a : Answer} {P : Plant} {end : ℕ} → Owed ws before after a (found P end) → Passes P ws
     → a ≡ passed (figures_of P ws)
-figures-of (for_plant passing failing) p = (passing p).figures
+figures_of_lem (for_plant passing failing) p = (passing p).figures
 
 -- Where they do not pass, it shows a cycle.
 failing_of : {ws before after : List ℕ} {a : Answer} {P : Plant} {end : ℕ} → Owed ws before after a (found P end) → (Passes P ws → ⊥) → OnFailing P ws before after a
@@ -33,7 +33,7 @@ pub figures_owed : (file ws before after : List ℕ) (a : Answer) (P : Plant) (e
     → a ≡ passed (figures_of P ws)
 figures_owed file ws before after a P end reads one_each light p room owed =
     let is : found P end ≡ judged file ws (length before) = refuse_none file ws (length before) P end reads one_each light room in
-    figures-of (owed_same ws before after a (judged file ws (length before)) (found P end) (sym is) owed) p
+    figures_of_lem (owed_same ws before after a (judged file ws (length before)) (found P end) (sym is) owed) p
 
 -- A cycle with the fewest rows fails: so it shows one of as many rows.
 pub shown_owed : (file ws before after rows : List ℕ) (a : Answer) (P : Plant) (end : ℕ) → read_plant file ≡ found P end → length ws ≡ P.types

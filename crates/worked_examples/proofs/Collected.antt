@@ -32,13 +32,13 @@ use Rattle.worked_examples.proofs.Plants.{passes_1_0, shown_1_2, one_state_passe
 use Rattle.worked_examples.proofs.AnswerLaws.{figures_owed, shown_owed, quote_owed}
 
 -- The probe's cycle is the one of machine 1, and takes 3 entries.
-needs-3 : Listing.judged file_a 1 3 ≡ found (2 ∷ 2 ∷ 3 ∷ []) 20
+needs_3 : Listing.judged file_a 1 3 ≡ found (2 ∷ 2 ∷ 3 ∷ []) 20
 unfolding panel_and_probe below sum joined selected unleft paths cycles_through flattened Listing.checked_room Listing.checked_size Listing.checked
-needs-3 = rw reads_A
+needs_3 = rw reads_A
 
 -- A list of 3 holds them and nothing else.
 fills_3 : (before : List ℕ) → length before ≡ 3 → Listing.filled (Listing.judged file_a 1 (length before)) before ≡ (2 ∷ 2 ∷ 3 ∷ [])
-fills_3 before e = let short : length before ≤ 3 = omega (arith, e) in rw (e, needs-3, drop_of_length-le before short)
+fills_3 before e = let short : length before ≤ 3 = omega (arith, e) in rw (e, needs_3, drop_of_length-le before short)
 
 -- Weights 2, 1 pass in plant A, so with contents 3, 4, g 1 and a d that is checked without a fault every answer has the ceiling for them.
 quoted_A : (d : ℕ) → checked_contents (3 ∷ 4 ∷ []) (1 ∷ d ∷ []) plant_a 20 ≡ found plant_a 20
@@ -91,7 +91,7 @@ examples =
       both_cycles = rw reads_B;
       none_in_B = record { plant = plant_b; end = 20; reads = reads_B; none = λ ws long p. none_pass_in_B ws p };
       panel_alone = rw reads_B;
-      listing_1 = record { answer = ap Listing.answered needs-3; filled = fills_3 };
+      listing_1 = record { answer = ap Listing.answered needs_3; filled = fills_3 };
       one_state = λ before after a room owed. figures_owed one_state_file [] before after a one_plant 4 reads_one_state refl (le_refl 0) one_state_passes room owed;
       quiet_row = record { plant = row_plant _; end = 5; reads = reads_quiet_row; none = λ ws long p. quiet_row_fails ws p };
       progress_row = record { plant = row_plant _; end = 5; reads = reads_progress_row; all = λ ws long. progress_row_passes ws };

@@ -16,7 +16,7 @@ use Rattle.livelock.specs.Graphs.{via}
 use Rattle.livelock.proofs.Graphs.{longest}
 use Rattle.livelock.proofs.Decision.{state_potential, passing_iff}
 use Rattle.livelock.proofs.BasicExamples.{panel_and_probe, plant_a, plant_b, probe_cycle, probe_quiet}
-use Rattle.livelock.proofs.PassingExamples.{formed-A}
+use Rattle.livelock.proofs.PassingExamples.{formed_A}
 use Rattle.plant.specs.Found.{found}
 use Rattle.plant.specs.Reading.{byte_at, byte_that, byte_in, map_byte, state_field, type_field, read_row, read_rows, rows_byte, read_machine, read_machines, read_plant}
 use Rattle.worked_examples.specs.Files.{panel_and_probe_bytes, file_a, file_b, one_state_file, one_row_file}
@@ -66,7 +66,7 @@ reads_progress_row = refl
 -- The weights 1, 0 pass in plant A.
 pub passes_1_0 : Passes plant_a (1 ∷ 0 ∷ [])
 unfolding panel_and_probe below greatest every state_potential longest via has_progress
-passes_1_0 = (passing_iff plant_a formed-A (1 ∷ 0 ∷ [])).0 refl
+passes_1_0 = (passing_iff plant_a formed_A (1 ∷ 0 ∷ [])).0 refl
 
 -- With weights 1, 2 the probe's cycle weighs 1 and may be shown.
 pub shown_1_2 : FailingCycle plant_a (1 ∷ 2 ∷ []) (2 ∷ 3 ∷ [])

@@ -11,9 +11,9 @@ use Rattle.writing.specs.Answers.{wrote, refused}
 use Rattle.writing.specs.Writing.{answer_for, buffer_for}
 
 -- A buffer of 22 bytes keeps its last two.
-writes-A : (answer_for (found plant_a 26) 22 ≡ wrote 20) × (buffer_for (found plant_a 26) (replicate 22 7) ≡ panel_and_probe_file 0x1B ++ (7 ∷ 7 ∷ []))
+writes_A : (answer_for (found plant_a 26) 22 ≡ wrote 20) × (buffer_for (found plant_a 26) (replicate 22 7) ≡ panel_and_probe_file 0x1B ++ (7 ∷ 7 ∷ []))
 unfolding panel_and_probe panel_and_probe_file row_bytes rows_bytes rows_in machines_as
-writes-A = (refl, refl)
+writes_A = (refl, refl)
 
 -- One of 20 bytes is just long enough,
 just_enough : (answer_for (found plant_a 26) 20 ≡ wrote 20) × (buffer_for (found plant_a 26) (replicate 20 7) ≡ panel_and_probe_file 0x1B)

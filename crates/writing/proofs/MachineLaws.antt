@@ -16,7 +16,7 @@ use Rattle.plant_files.specs.Inner.Parts.{with_rows}
 use Rattle.plant_files.proofs.PlantParts.{machine_more, numbered_more}
 use Rattle.plant_lists.specs.Lists.{count_number, rows_number, listed_rows, listed_machine, listed_machines}
 use Rattle.row_bytes.specs.Stores.{Stored}
-use Rattle.row_bytes.proofs.StoreLaws.{stored-none, stored_then}
+use Rattle.row_bytes.proofs.StoreLaws.{stored_none, stored_then}
 use Rattle.written_rows.specs.declared.Point.{Point}
 use Rattle.written_rows.specs.declared.Step.{Step}
 use Rattle.written_rows.specs.declared.Step.TheVariants as Steps
@@ -25,9 +25,9 @@ use Rattle.writing.specs.Inner.Steps.{MachineStored, machine_stored, machine_ref
 use Rattle.writing.specs.Inner.Steps.{MachinesGoing, MachinesStored, machines_stored, machines_refused}
 
 -- What ends at most at a limit ends at most at a further one.
-pub near-more : (s : List ℕ) (limit most : ℕ) (step : Step) → limit ≤ most → Near s limit step → Near s most step
-near-more s limit most (Steps.Fault f) l h = tt
-near-more s limit most (Steps.At point) l h = (h.0, h.1, omega (arith, h.2, l))
+pub near_more : (s : List ℕ) (limit most : ℕ) (step : Step) → limit ≤ most → Near s limit step → Near s most step
+near_more s limit most (Steps.Fault f) l h = tt
+near_more s limit most (Steps.At point) l h = (h.0, h.1, omega (arith, h.2, l))
 
 -- ---- one machine
 
@@ -73,7 +73,7 @@ module _ (n from : ℕ) (s : List ℕ) (types : ℕ) (before : List ℕ) (pos : 
         count = refl;
         total = refl;
         numbered = tt;
-        stored = stored-none before pos;
+        stored = stored_none before pos;
         rest = ap (λ (k : ℕ). listed_machines k s from (no_machines types)) (sub-zero n);
       }
 
@@ -83,13 +83,13 @@ module _ (n from : ℕ) (s : List ℕ) (types : ℕ) (before : List ℕ) (pos : 
       unfolding listed_machines
       one_more = let e : n - i ≡ suc (n - (i + 1)) = omega arith in rw e
 
-      found-then : (x : Found Plant) → listed_machine s at g.q ≡ x → and_then x (λ q next. listed_machines (n - (i + 1)) s next q) ≡ listed_machines n s from (no_machines types)
-      found-then x e = sym (one_more ∙ ap (λ (y : Found Plant). and_then y (λ q next. listed_machines (n - (i + 1)) s next q)) e) ∙ g.rest
+      found_then : (x : Found Plant) → listed_machine s at g.q ≡ x → and_then x (λ q next. listed_machines (n - (i + 1)) s next q) ≡ listed_machines n s from (no_machines types)
+      found_then x e = sym (one_more ∙ ap (λ (y : Found Plant). and_then y (λ q next. listed_machines (n - (i + 1)) s next q)) e) ∙ g.rest
 
       -- after a machine that was read and stored,
-      pub machines-next : (step : Step) (point : Point) (file' : List ℕ) (rows' : ℕ) → step ≡ Steps.At point → MachineStored g.q file file' end rows' (listed_machine s at g.q) step
+      pub machines_next : (step : Step) (point : Point) (file' : List ℕ) (rows' : ℕ) → step ≡ Steps.At point → MachineStored g.q file file' end rows' (listed_machine s at g.q) step
           → MachinesGoing n from s types before pos (i + 1) point.at file' point.pos rows'
-      machines-next step point file' rows' is h =
+      machines_next step point file' rows' is h =
           go point.at point.pos (listed_machine s at g.q) (subst (λ (z : Step). MachineStored g.q file file' end rows' (listed_machine s at g.q) z) is h) refl
         where
           go : (next end' : ℕ) (x : Found Plant) → MachineStored g.q file file' end rows' x (Steps.At (record { at = next; pos = end' })) → listed_machine s at g.q ≡ x
@@ -106,22 +106,22 @@ module _ (n from : ℕ) (s : List ℕ) (types : ℕ) (before : List ℕ) (pos : 
                     (rw (machine_more (rows_bytes 0) g.q states rs g.numbered own)
                     (stored_then before file file' pos end end' (machines_as (rows_bytes 0) (machine_count g.q) 0 g.q) (states ∷ (length rs ∷ rows_bytes 0 rs))
                     (subst (λ (k : ℕ). Stored before file pos (machines_as (rows_bytes 0) k 0 g.q) end) (sym g.count) g.stored) stored));
-                rest = found-then x e;
+                rest = found_then x e;
               }
 
       -- at a fault,
-      pub machines-stop : (step : Step) (f : Fault) (file' : List ℕ) (rows' : ℕ) → step ≡ Steps.Fault f → MachineStored g.q file file' end rows' (listed_machine s at g.q) step
+      pub machines_stop : (step : Step) (f : Fault) (file' : List ℕ) (rows' : ℕ) → step ≡ Steps.Fault f → MachineStored g.q file file' end rows' (listed_machine s at g.q) step
           → MachinesStored n types before file' pos (listed_machines n s from (no_machines types)) (Steps.Fault f)
-      machines-stop step f file' rows' is h =
-          let fails = is-fault (listed_machine s at g.q) (subst (λ (z : Step). MachineStored g.q file file' end rows' (listed_machine s at g.q) z) is h) in
-          subst (λ (x : Found Plant). MachinesStored n types before file' pos x (Steps.Fault f)) (found-then (fault_found f) fails) machines_refused
+      machines_stop step f file' rows' is h =
+          let fails = is_fault (listed_machine s at g.q) (subst (λ (z : Step). MachineStored g.q file file' end rows' (listed_machine s at g.q) z) is h) in
+          subst (λ (x : Found Plant). MachinesStored n types before file' pos x (Steps.Fault f)) (found_then (fault_found f) fails) machines_refused
         where
-          is-fault : (x : Found Plant) → MachineStored g.q file file' end rows' x (Steps.Fault f) → x ≡ fault_found f
-          is-fault x machine_refused = refl
+          is_fault : (x : Found Plant) → MachineStored g.q file file' end rows' x (Steps.Fault f) → x ≡ fault_found f
+          is_fault x machine_refused = refl
 
     -- and after the last machine.
-    pub machines-finish : i ≤ n → n ≤ i → MachinesStored n types before file pos (listed_machines n s from (no_machines types)) (Steps.At (record { at = at; pos = end }))
-    machines-finish l d =
+    pub machines_finish : i ≤ n → n ≤ i → MachinesStored n types before file pos (listed_machines n s from (no_machines types)) (Steps.At (record { at = at; pos = end }))
+    machines_finish l d =
         let same : i ≡ n = omega arith in
         subst (λ (x : Found Plant). MachinesStored n types before file pos x (Steps.At (record { at = at; pos = end }))) done
         (machines_stored g.q (g.count ∙ same) g.few (subst (λ (k : ℕ). Stored before file pos (machines_as (rows_bytes 0) k 0 g.q) end) same g.stored))

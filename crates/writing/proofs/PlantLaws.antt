@@ -15,8 +15,8 @@ use Rattle.plant.specs.Steps.{fault_found}
 use Rattle.plant.specs.declared.Fault.{Fault}
 use Rattle.plant_files.specs.Files.{rows_bytes, machines_as, file_of}
 use Rattle.plant_lists.specs.Lists.{count_number, listed_machines, list_end, listed_plant}
-use Rattle.plant_lists.proofs.ListLengths.{listed-whole}
-use Rattle.plant_lists.proofs.ListLaws.{said-shortest}
+use Rattle.plant_lists.proofs.ListLengths.{listed_whole}
+use Rattle.plant_lists.proofs.ListLaws.{said_shortest}
 use Rattle.row_bytes.specs.Stores.{Stored}
 use Rattle.row_bytes.proofs.StoreLaws.{stored_then}
 use Rattle.written_rows.specs.declared.Point.{Point}
@@ -43,11 +43,11 @@ module _ (s : List ℕ) (before after : List ℕ) where
     no_type_count f g = refuse f (rw (e, g))
 
     -- Two counts and the machines, stored one behind the other, and the end of the list.
-    pub plant-is : (types c : ℕ) → count_number 0 64 s a ≡ found types c → (b1 b2 : List ℕ) (e1 e2 : ℕ) (step : Step)
+    pub plant_is : (types c : ℕ) → count_number 0 64 s a ≡ found types c → (b1 b2 : List ℕ) (e1 e2 : ℕ) (step : Step)
         → Stored before b1 0 (n ∷ []) e1 → Stored b1 b2 e1 (types ∷ []) e2 → MachinesStored n types b2 after e2 (listed_machines n s c (no_machines types)) step
         → PlantStored before after (listed_plant s) (end_step s step)
     unfolding listed_plant
-    plant-is types c g b1 b2 e1 e2 step one two h = rw (e, g) (go (listed_machines n s c (no_machines types)) step h)
+    plant_is types c g b1 b2 e1 e2 step one two h = rw (e, g) (go (listed_machines n s c (no_machines types)) step h)
       where
         whole : (q : Plant) (end : ℕ) → q.types ≡ types → Stored b2 after e2 (machines_as (rows_bytes 0) n 0 q) end
             → Stored before after 0 (n ∷ (q.types ∷ machines_as (rows_bytes 0) n 0 q)) end
@@ -88,12 +88,12 @@ module _ (s before file room : List ℕ) (step : Step) (made : PlantStored befor
       go x plant_refused = (refl, refl, tt)
 
   module _ (point : Point) (e : step ≡ Steps.At point) where
-    at-point : PlantStored before file (listed_plant s) (Steps.At point)
-    at-point = subst (λ (st : Step). PlantStored before file (listed_plant s) st) e made
+    at_point : PlantStored before file (listed_plant s) (Steps.At point)
+    at_point = subst (λ (st : Step). PlantStored before file (listed_plant s) st) e made
 
     -- nor into a buffer that is too short,
-    pub owes-room : length room < point.pos → Owes s room room (refused 25 0)
-    owes-room l = go (listed_plant s) at-point
+    pub owes_room : length room < point.pos → Owes s room room (refused 25 0)
+    owes_room l = go (listed_plant s) at_point
       where
         go : (x : Found Plant) → PlantStored before file x (Steps.At point) → (refused 25 0 ≡ answer_for x (length room)) × (room ≡ buffer_for x room) × Unit {0}
         go x (plant_stored p stored) =
@@ -101,8 +101,8 @@ module _ (s before file room : List ℕ) (step : Step) (made : PlantStored befor
             (rw (lt-ltb (length room) (length (file_of p)) short), rw (lt-ltb (length room) (length (file_of p)) short), tt)
 
     -- and into one that is long enough the file.
-    pub owes-file : point.pos ≤ length room → (after : List ℕ) → after ≡ take point.pos file ++ drop point.pos room → Owes s room after (wrote point.pos)
-    owes-file l after is = go (listed_plant s) at-point refl
+    pub owes_file : point.pos ≤ length room → (after : List ℕ) → after ≡ take point.pos file ++ drop point.pos room → Owes s room after (wrote point.pos)
+    owes_file l after is = go (listed_plant s) at_point refl
       where
         go : (x : Found Plant) → PlantStored before file x (Steps.At point) → listed_plant s ≡ x
             → (wrote point.pos ≡ answer_for x (length room)) × (after ≡ buffer_for x room) × SaysShortest s (take point.pos after)
@@ -114,8 +114,8 @@ module _ (s before file room : List ℕ) (step : Step) (made : PlantStored befor
               rw (le-ltb (length room) (length (file_of p)) long) whole,
               record {
                 plant = p;
-                says = says ∙ ap (found p) (listed-whole s p next says);
-                shortest = rw (size, whole, take-append_seam (file_of p) (drop (length (file_of p)) room)) (said-shortest s p next says);
+                says = says ∙ ap (found p) (listed_whole s p next says);
+                shortest = rw (size, whole, take-append_seam (file_of p) (drop (length (file_of p)) room)) (said_shortest s p next says);
               },
             )
 

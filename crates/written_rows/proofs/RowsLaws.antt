@@ -24,7 +24,7 @@ use Rattle.plant_files.specs.Files.{row_bytes, rows_bytes}
 use Rattle.plant_files.specs.Inner.Parts.{with_rows}
 use Rattle.plant_lists.specs.Lists.{listed_row, listed_rows}
 use Rattle.row_bytes.specs.Stores.{Stored}
-use Rattle.row_bytes.proofs.StoreLaws.{stored-none, stored_then}
+use Rattle.row_bytes.proofs.StoreLaws.{stored_none, stored_then}
 use Rattle.written_rows.specs.declared.Step.TheVariants as Steps
 use Rattle.written_rows.specs.Steps.{last_left, RowsGoing, RowsStored, rows_stored, rows_refused}
 
@@ -51,7 +51,7 @@ module _ (n m states from : ℕ) (s : List ℕ) (p : Plant) (before : List ℕ) 
         count = refl;
         machine = tt;
         left = refl;
-        stored = stored-none before pos;
+        stored = stored_none before pos;
         rows_kept = rw (append-nil p.rows) (none_kept m p.rows keys none);
         rest = rw (append-nil p.rows) (ap (λ (k : ℕ). listed_rows k m states s from p) (sub-zero n));
       }
@@ -91,20 +91,20 @@ module _ (n m states from : ℕ) (s : List ℕ) (p : Plant) (before : List ℕ) 
           fresh = ap (λ (q : Row). has_twin q (p.rows ++ g.rs)) (sym is) ∙ (sym (h.told m (p.rows ++ g.rs) g.rows_kept) ∙ t)
 
       -- at a twin,
-      pub row-is-twin : (f : RowFields) (r : Row) (next : ℕ) (keys' : List ℕ) (k : Keeping) → fields_row m f ≡ r → listed_row m states p.types s at ≡ found r next
+      pub row_is_twin : (f : RowFields) (r : Row) (next : ℕ) (keys' : List ℕ) (k : Keeping) → fields_row m f ≡ r → listed_row m states p.types s at ≡ found r next
           → RowKept i f leave keys keys' k → k.twin ≡ true
           → RowsStored n m p before file pos (listed_rows n m states s from p) (Steps.Fault (record { number = 26; place = at }))
-      row-is-twin f r next keys' k is e h t =
+      row_is_twin f r next keys' k is e h t =
           let twin : has_twin r (p.rows ++ g.rs) ≡ true = ap (λ (q : Row). has_twin q (p.rows ++ g.rs)) (sym is) ∙ (sym (h.told m (p.rows ++ g.rs) g.rows_kept) ∙ t) in
           subst (λ (x : Found Plant). RowsStored n m p before file pos x (Steps.Fault (record { number = 26; place = at }))) (sym (one_more ∙ rw (e, twin)) ∙ g.rest) rows_refused
 
       -- at a fault,
-      pub rows-stop : (f : Fault) → listed_row m states p.types s at ≡ fault_found f → RowsStored n m p before file pos (listed_rows n m states s from p) (Steps.Fault f)
-      rows-stop f e = subst (λ (x : Found Plant). RowsStored n m p before file pos x (Steps.Fault f)) (sym (one_more ∙ rw e) ∙ g.rest) rows_refused
+      pub rows_stop : (f : Fault) → listed_row m states p.types s at ≡ fault_found f → RowsStored n m p before file pos (listed_rows n m states s from p) (Steps.Fault f)
+      rows_stop f e = subst (λ (x : Found Plant). RowsStored n m p before file pos x (Steps.Fault f)) (sym (one_more ∙ rw e) ∙ g.rest) rows_refused
 
     -- and after the last row.
-    pub rows-finish : i ≤ n → n ≤ i → RowsStored n m p before file pos (listed_rows n m states s from p) (Steps.At (record { at = at; pos = end }))
-    rows-finish l d =
+    pub rows_finish : i ≤ n → n ≤ i → RowsStored n m p before file pos (listed_rows n m states s from p) (Steps.At (record { at = at; pos = end }))
+    rows_finish l d =
         subst (λ (x : Found Plant). RowsStored n m p before file pos x (Steps.At (record { at = at; pos = end }))) done
         (rows_stored g.rs (omega (arith, g.count)) g.machine g.stored)
       where

@@ -1,6 +1,6 @@
 -- `hemtaluq_confirm_v1` meets its contract: each answer of `confirm` becomes its struct.
 use borrow.Author.Rules.{rules}
-use Rattle.cabinet.proofs.StructLaws.{confirm-told, negative_told, confirms_told, negative_means, refused_means}
+use Rattle.cabinet.proofs.StructLaws.{confirm_told, negative_told, confirms_told, negative_means, refused_means}
 use Rattle.cabinet.proofs.hemtaluq_confirm_v1.Statement.{statement}
 use Rattle.cabinet.proofs.hemtaluq_confirm_v1.Tie as tie
 
@@ -20,7 +20,7 @@ returns : tie.Need-returns
 returns c =
     let f = c.before.before.confirm.ensures in
     let e = c.enum_told.given.1 in
-    (confirm-told f.0 e, confirms_told f.1 e)
+    (confirm_told f.0 e, confirms_told f.1 e)
 
 returns-2 : tie.Need-returns-2
 returns-2 c =
@@ -33,7 +33,7 @@ returns-3 : tie.Need-returns-3
 returns-3 c =
     let f = c.before.before.before.confirm.ensures in
     let e = c.before.answer2.given.1 in
-    (confirm-told f.0 e, refused_means _ f.1 e)
+    (confirm_told f.0 e, refused_means _ f.1 e)
 
 pub hemtaluq_confirm_v1_spec : {M : Type 1} → statement M
 hemtaluq_confirm_v1_spec =

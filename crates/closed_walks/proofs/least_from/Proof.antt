@@ -11,7 +11,7 @@ use Rattle.closed_walks.proofs.StartLaws.{
   Searched,
   searched_first,
   searched_low,
-  searched-next,
+  searched_next,
   searched_worth,
   closed_zero_or_more,
   closed_below_zero,
@@ -91,7 +91,7 @@ walk-weight-requires : tie.Need-walk-weight-requires invariant-loop decreases-lo
 walk-weight-requires c κs =
     let p = c.before.before.before.before.before.before.before.before.before.before.before.before.before.requires in
     let l = c.before.before.before.before.before.before.before.before.before.loop in
-    let next = searched-next (edges_searchable p.0) l.invariant.1 c.before.before.before.before.before.before.clear2.ensures c.before.before.before.round.ensures in
+    let next = searched_next (edges_searchable p.0) l.invariant.1 c.before.before.before.before.before.before.clear2.ensures c.before.before.before.round.ensures in
     omega (arith, searched_worth (edges_searchable p.0) next p.1 (omega (arith, c.before.before.before.before.before.before.before.before.loop-test.true, p.2, p.0.states_in)))
 
 zero-or-more-requires : tie.Need-zero-or-more-requires invariant-loop decreases-loop
@@ -104,7 +104,7 @@ returns : tie.Need-returns invariant-loop decreases-loop
 returns c =
     let p = c.before.before.before.before.before.before.before.before.before.before.before.before.before.before.before.before.requires in
     let l = c.before.before.before.before.before.before.before.before.before.before.before.before.loop in
-    let next = searched-next (edges_searchable p.0) l.invariant.1 c.before.before.before.before.before.before.before.before.before.clear2.ensures c.before.before.before.before.before.before.round.ensures in
+    let next = searched_next (edges_searchable p.0) l.invariant.1 c.before.before.before.before.before.before.before.before.before.clear2.ensures c.before.before.before.before.before.before.round.ensures in
     let there = c.before.before.before.before.before.before.before.before.before.before.before.loop-test.true in
     let w = closed_zero_or_more next p.1 _ (record { sfits = c.before.before.walk-weight.type-inv }) c.before.before.walk-weight.ensures (sym c.before.zero_or_more.ensures ∙ c.if1.true) in
     (closes_now _ _ _ l.invariant.2 _ there w, (record { first_edges = λ x. next.first_edges }, next.room))
@@ -116,7 +116,7 @@ loop-again : tie.Need-loop-preserved invariant-loop decreases-loop
 loop-again c =
     let p = c.before.before.before.before.before.before.before.before.before.before.before.before.before.before.before.before.requires in
     let l = c.before.before.before.before.before.before.before.before.before.before.before.before.loop in
-    let next = searched-next (edges_searchable p.0) l.invariant.1 c.before.before.before.before.before.before.before.before.before.clear2.ensures c.before.before.before.before.before.before.round.ensures in
+    let next = searched_next (edges_searchable p.0) l.invariant.1 c.before.before.before.before.before.before.before.before.before.clear2.ensures c.before.before.before.before.before.before.round.ensures in
     let w = closed_below_zero next p.1 _ (record { sfits = c.before.before.walk-weight.type-inv }) c.before.before.walk-weight.ensures (sym c.before.zero_or_more.ensures ∙ c.if1.false) in
     (omega (arith, c.before.before.before.before.before.before.before.before.before.before.before.loop-test.true), next, not_yet _ _ _ l.invariant.2 w, c.before.before.before.before.before.before.round.ensures.same_edges ∙ l.invariant.3)
 

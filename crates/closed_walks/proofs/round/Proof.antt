@@ -10,7 +10,7 @@ use mir.Facts.{to_z-of_z}
 use Rattle.edge_lists.specs.EdgeLists.{edge_in}
 use Rattle.deciding.specs.Rounds.{edge_graph}
 use Rattle.closed_walks.specs.Inner.Rounds.{Round}
-use Rattle.closed_walks.proofs.RoundLaws.{halves_in, round_starts, round-low, edge_keeps, edge_raises}
+use Rattle.closed_walks.proofs.RoundLaws.{halves_in, round_starts, round_low, edge_keeps, edge_raises}
 use Rattle.closed_walks.proofs.round.Statement.{statement}
 use Rattle.closed_walks.proofs.round.Tie as tie
 
@@ -84,7 +84,7 @@ rises-requires c κs =
     let left = c.before.before.before.before.from-of.ensures in
     let entered = c.before.before.to-of.ensures in
     let fit = to_z-of_z {w = w64} {z = c.weight-of.result} (record { sfits = c.weight-of.type-inv }) in
-    let low = round-low a.count a.states a.edges.now ok ready.halves a.k a.walks.now a.noted.now l.invariant.1 there ready.low in (
+    let low = round_low a.count a.states a.edges.now ok ready.halves a.k a.walks.now a.noted.now l.invariant.1 there ready.low in (
       rw left (low (edge_in a.edges.now l.i).from (ok.from_in l.i there)),
       rw (entered, l.invariant.1.old_kept (edge_in a.edges.now l.i).to (ok.to_in l.i there)) (ready.low (edge_in a.edges.now l.i).to (ok.to_in l.i there)),
       rw (fit, c.weight-of.ensures) (omega (arith, ok.rise_in l.i there)),

@@ -8,7 +8,7 @@ use borrow.Author.Tests.{not-true, not-false}
 use lib.ListN.{length}
 use Rattle.weight_checks.specs.Checks.{first_above}
 use Rattle.contents.specs.Contents.{amounts}
-use Rattle.contents.proofs.AmountLaws.{amounts-length, refuse_20, refuse-21, refuse-22, refuse_none}
+use Rattle.contents.proofs.AmountLaws.{amounts-length, refuse_20, refuse_21, refuse_22, refuse_none}
 use Rattle.contents.proofs.check_numbers.Statement.{statement}
 use Rattle.contents.proofs.check_numbers.Tie as tie
 
@@ -34,7 +34,7 @@ returns-2 c =
     let a = c.before.before.before.before.before.args in
     let i = c.before.before.first_above in
     let among : i.result < length (amounts a.contents.now (a.g ∷ a.d ∷ [])) = omega (arith, amounts-length a.contents.now (a.g ∷ a.d ∷ []), c.before.before.before.if1.false) in
-    λ P end t. c.refused2.ensures P end ∙ refuse-21 a.contents.now (a.g ∷ a.d ∷ []) a.passes P end (c.before.before.before.if1.false ∙ sym t) i.result i.ensures among
+    λ P end t. c.refused2.ensures P end ∙ refuse_21 a.contents.now (a.g ∷ a.d ∷ []) a.passes P end (c.before.before.before.if1.false ∙ sym t) i.result i.ensures among
 
 -- After check 21 no number is above 1,000,000.
 none_above : (c : tie.Else2) →
@@ -51,7 +51,7 @@ returns-3 c =
     let a = c.before.before.before.before.before.before.args in
     λ P end t.
     c.refused3.ensures P end
-    ∙ refuse-22 a.contents.now (a.g ∷ a.d ∷ []) a.passes P end (c.before.before.before.before.if1.false ∙ sym t) (none_above c.before.before) (not-true _ c.before.if3.true)
+    ∙ refuse_22 a.contents.now (a.g ∷ a.d ∷ []) a.passes P end (c.before.before.before.before.if1.false ∙ sym t) (none_above c.before.before) (not-true _ c.before.if3.true)
 
 returns-4 : tie.Need-returns-4
 returns-4 c =

@@ -7,7 +7,7 @@ use native.Mathlib.Omega.{arith}
 use lib.ListN.{length, drop}
 use Rattle.weight_checks.specs.Checks.{first_above}
 use Rattle.contents.specs.Contents.{amounts}
-use Rattle.contents.proofs.AmountLaws.{content-stops, content-goes-on, g_stops, d-stops, none-stops}
+use Rattle.contents.proofs.AmountLaws.{content_stops, content_goes_on, g_stops, d_stops, none_stops}
 use Rattle.contents.proofs.first_above.Statement.{statement}
 use Rattle.contents.proofs.first_above.Tie as tie
 
@@ -30,7 +30,7 @@ returns : tie.Need-returns invariant-loop decreases-loop
 returns c =
     let l = c.before.before.before.loop in
     let a = c.before.before.before.before.args in
-    content-stops a.contents.now (a.g ∷ a.d ∷ []) l.i _ l.invariant.1 c.before.before.loop-test.true (omega (arith, c.if1.true))
+    content_stops a.contents.now (a.g ∷ a.d ∷ []) l.i _ l.invariant.1 c.before.before.loop-test.true (omega (arith, c.if1.true))
 
 add-i : tie.Need-overflow-add-i invariant-loop decreases-loop
 add-i c = search rules
@@ -42,7 +42,7 @@ loop-again : tie.Need-loop-preserved invariant-loop decreases-loop
 loop-again c =
     let l = c.before.before.before.loop in
     let a = c.before.before.before.before.args in
-    (search rules, content-goes-on a.contents.now (a.g ∷ a.d ∷ []) l.i _ l.invariant.1 c.before.before.loop-test.true (omega (arith, c.if1.false)))
+    (search rules, content_goes_on a.contents.now (a.g ∷ a.d ∷ []) l.i _ l.invariant.1 c.before.before.loop-test.true (omega (arith, c.if1.false)))
 
 returns-2 : tie.Need-returns-2 invariant-loop decreases-loop
 returns-2 c =
@@ -57,7 +57,7 @@ returns-3 : tie.Need-returns-3 invariant-loop decreases-loop
 returns-3 c =
     let l = c.before.before.before.loop in
     let a = c.before.before.before.before.args in
-    d-stops a.contents.now a.g a.d l.i _ l.invariant.1 (omega arith) (omega (arith, c.before.if2.false)) (omega (arith, c.if3.true))
+    d_stops a.contents.now a.g a.d l.i _ l.invariant.1 (omega arith) (omega (arith, c.before.if2.false)) (omega (arith, c.if3.true))
 
 add-result-2 : tie.Need-overflow-add-result-2 invariant-loop decreases-loop
 add-result-2 c = search rules
@@ -66,7 +66,7 @@ returns-4 : tie.Need-returns-4 invariant-loop decreases-loop
 returns-4 c =
     let l = c.before.before.before.loop in
     let a = c.before.before.before.before.args in
-    none-stops a.contents.now a.g a.d l.i _ l.invariant.1 (omega arith) (omega (arith, c.before.if2.false)) (omega (arith, c.if3.false))
+    none_stops a.contents.now a.g a.d l.i _ l.invariant.1 (omega arith) (omega (arith, c.before.if2.false)) (omega (arith, c.if3.false))
 
 pub first_above_spec : {M : Type 1} → statement M
 first_above_spec =

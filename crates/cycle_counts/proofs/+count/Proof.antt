@@ -9,11 +9,11 @@ use lib.ListN.{get_or, set}
 use Rattle.graphs.specs.Graphs.{entered_of, next_of, head_of, into_of, between_of, last_of}
 use Rattle.cycle_paths.specs.Cycles.{unleft}
 use Rattle.state_marks.specs.Marks.{column, marks_of}
-use Rattle.state_marks.proofs.MarkLaws.{marks-length}
-use Rattle.cycle_paths.proofs.MarkLaws.{unleft-falls}
+use Rattle.state_marks.proofs.MarkLaws.{marks_length}
+use Rattle.cycle_paths.proofs.MarkLaws.{unleft_falls}
 use Rattle.cycle_paths.proofs.ExtensionLaws.{enter_unleft, closed_unleft}
-use Rattle.cycle_counts.proofs.CountingLaws.{Counting, counting_begins, counting_named, counting-stops, counting-ends, counting-skip, counting-close, counting-enter, onward_counted, onward_closing}
-use Rattle.cycle_counts.proofs.BetweenLaws.{between-few, all_marked}
+use Rattle.cycle_counts.proofs.CountingLaws.{Counting, counting_begins, counting_named, counting_stops, counting_ends, counting_skip, counting_close, counting_enter, onward_counted, onward_closing}
+use Rattle.cycle_counts.proofs.BetweenLaws.{between_few, all_marked}
 use borrow.Fn.Kinds.{In}
 use borrow.Fn.PlainCycle.{Measures, is, falls, and}
 use Rattle.cycle_counts.proofs.count.Reads as count
@@ -65,7 +65,7 @@ count-loop-holds : (t : ℕ) → count-lts.Need-loop-init (claims t) (count_at t
 count-loop-holds t c = (omega arith, counting_begins)
 
 count-returns : (t : ℕ) → count-lts.Need-returns (claims t) (count_at t) count.Post count-Inv-loop count-μ-loop
-count-returns t c = counting-stops c.before.before.loop.invariant.1 (omega (arith, c.if1.true))
+count-returns t c = counting_stops c.before.before.loop.invariant.1 (omega (arith, c.if1.true))
 
 count-step-of-requires : (t : ℕ) → count-lts.Need-step-of-requires (claims t) (count_at t) count.Post count-Inv-loop count-μ-loop
 count-step-of-requires t c κs =
@@ -97,7 +97,7 @@ entering : (t : ℕ) (c : count-lts.After-known-told (claims t) (count_at t) cou
 entering t c =
     let e = enters t c in
     let l : c.before.step.given.0.0 < 24 = omega (arith, e.0, state_in t c.before.before.before.before.before) in
-    (l, unleft-falls _ _ (omega (arith, l, marks-length 24 c.before.before.before.before.before.before.before.args.marks)) e.1)
+    (l, unleft_falls _ _ (omega (arith, l, marks_length 24 c.before.before.before.before.before.before.before.args.marks)) e.1)
 
 count-with-left-requires : (t : ℕ) → count-lts.Need-with-left-requires (claims t) (count_at t) count.Post count-Inv-loop count-μ-loop
 count-with-left-requires t c κs = (entering t c).0
@@ -114,7 +114,7 @@ count-take-closing-requires t c κs =
     let g = entering t c.before.before.before in
     let s = c.before.before.before.before.step.given.0.0 in
     let known = p.tables.pairs.known s _ g.0 p.start_in in
-    let few = between-few p.left (entered_of c.before.before.before.before.before.before.before.before.before.before.args.graph.now) s c.before.before.before.before.before.before.before.before.before.before.args.start p.first (last_of c.before.before.before.before.before.before.before.before.before.before.args.graph.now - p.first) in
+    let few = between_few p.left (entered_of c.before.before.before.before.before.before.before.before.before.before.args.graph.now) s c.before.before.before.before.before.before.before.before.before.before.args.start p.first (last_of c.before.before.before.before.before.before.before.before.before.before.args.graph.now - p.first) in
     (g.0, p.start_in, omega (arith, p.fits, g.1), omega (arith, known, few, p.enter.few))
 
 count-head-of-requires : (t : ℕ) → count-lts.Need-head-of-requires (claims t) (count_at t) count.Post count-Inv-loop count-μ-loop
@@ -171,26 +171,26 @@ count-loop-again t c =
     let r = row_in t c.before.before.before.before in
     let low : a.low ≤ c.next_of.result = omega (arith, l.invariant.0, next, p.tables.links.next_later l.k r.0 r.1) in
     ⊎_elim
-    (λ w. (low, counting_named _ w.2 (counting-skip l.invariant.1 l.invariant.0 h p.high_in step next w.1.given.1)))
+    (λ w. (low, counting_named _ w.2 (counting_skip l.invariant.1 l.invariant.0 h p.high_in step next w.1.given.1)))
     (⊎_elim
-    (λ w. (low, counting_named _ w.3 (counting-close l.invariant.1 l.invariant.0 h p.high_in step next w.1.given.1 _ w.2.ensures)))
+    (λ w. (low, counting_named _ w.3 (counting_close l.invariant.1 l.invariant.0 h p.high_in step next w.1.given.1 _ w.2.ensures)))
     (⊎_elim
     (λ w.
     let g = entering t (record { before = record { before = record { before = c.before.before; match = w.0 }; step = w.1 }; known-told = w.2 }) in
     let onward =
-    onward_closing (marks_of 24 a.marks) a.depth w.1.given.0.0 g.0 (marks_of 24 w.3.result) (marks_of 24 w.4.result) w.3.ensures (marks-length 24 w.3.result) (marks-length 24 w.4.result) w.4.ensures
+    onward_closing (marks_of 24 a.marks) a.depth w.1.given.0.0 g.0 (marks_of 24 w.3.result) (marks_of 24 w.4.result) w.3.ensures (marks_length 24 w.3.result) (marks_length 24 w.4.result) w.4.ensures
     p.start_in (λ x b. all_marked w.4.result x (omega (arith, w.5.taken)) b) _ _ w.6.ensures in
-    (low, counting_named _ w.7 (counting-enter l.invariant.1 l.invariant.0 h p.high_in step next w.1.given.0.0 w.1.given.1 g.0 g.1 _ onward)))
+    (low, counting_named _ w.7 (counting_enter l.invariant.1 l.invariant.0 h p.high_in step next w.1.given.0.0 w.1.given.1 g.0 g.1 _ onward)))
     (λ w.
     let g = entering t (record { before = record { before = record { before = c.before.before; match = w.0 }; step = w.1 }; known-told = w.2 }) in
     let onward =
-    onward_counted (marks_of 24 a.marks) a.depth w.1.given.0.0 g.0 (marks_of 24 w.3.result) (marks_of 24 w.4.result) w.3.ensures (marks-length 24 w.3.result) (marks-length 24 w.4.result) w.4.ensures
+    onward_counted (marks_of 24 a.marks) a.depth w.1.given.0.0 g.0 (marks_of 24 w.3.result) (marks_of 24 w.4.result) w.3.ensures (marks_length 24 w.3.result) (marks_length 24 w.4.result) w.4.ensures
     w.6.result w.7.result w.6.ensures w.7.ensures _ _ w.8.ensures in
-    (low, counting_named _ w.9 (counting-enter l.invariant.1 l.invariant.0 h p.high_in step next w.1.given.0.0 w.1.given.1 g.0 g.1 _ onward)))))
+    (low, counting_named _ w.9 (counting_enter l.invariant.1 l.invariant.0 h p.high_in step next w.1.given.0.0 w.1.given.1 g.0 g.1 _ onward)))))
     c.before.match.branch
 
 count-returns-2 : (t : ℕ) → count-lts.Need-returns-2 (claims t) (count_at t) count.Post count-Inv-loop count-μ-loop
-count-returns-2 t c = counting-ends c.before.loop.invariant.1 (omega arith)
+count-returns-2 t c = counting_ends c.before.loop.invariant.1 (omega arith)
 
 pub +count-spec : {M : Type 1} → statement M
 +count-spec = close μ-count λ t. count-lts.spec (claims t)

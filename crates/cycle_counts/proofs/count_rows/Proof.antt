@@ -11,7 +11,7 @@ use Rattle.cycle_paths.specs.Entries.{all_entries}
 use Rattle.cycle_paths.specs.Rows.{Searchable}
 use Rattle.state_marks.specs.Marks.{column, marks_of}
 use Rattle.cycle_paths.specs.Extensions.{extensions}
-use Rattle.state_marks.proofs.MarkLaws.{marks-length}
+use Rattle.state_marks.proofs.MarkLaws.{marks_length}
 use Rattle.cycle_paths.proofs.ExtensionLaws.{searchable_last, closed_first, unleft_few, entries_from, entries_closed, entries_end}
 use Rattle.cycle_counts.specs.Pairs.{Between}
 use Rattle.cycle_counts.specs.Inner.Counting.{Tables}
@@ -92,7 +92,7 @@ count-requires c κs =
       low_in = i.0;
       ordered = omega arith;
       high_in = omega (arith, c.before.before.before.before.loop-test.true, b.requires.0.last_is);
-      fits = omega (arith, unleft_few (marks_of 24 marks), marks-length 24 marks);
+      fits = omega (arith, unleft_few (marks_of 24 marks), marks_length 24 marks);
     }
 
 add_row : tie.Need-overflow-add-row invariant-loop decreases-loop
@@ -117,7 +117,7 @@ loop-again c =
       omega (arith, l.invariant.0),
       omega arith,
       taking_part l.invariant.2 (extensions (left_of g) (entered_of g) a.first (last_of g) start.result (marks_of 24 closed.result) [] (column (left_of g) l.row) l.row (l.row + 1 - l.row)) _
-          (entries_closed (left_of g) (entered_of g) a.first (last_of g) (into_of g) l.row start.result [] (marks_of 24 closed.result) start.ensures tables.from shut (marks-length 24 closed.result) l.invariant.0 (omega (arith, h, b.requires.0.last_is)))
+          (entries_closed (left_of g) (entered_of g) a.first (last_of g) (into_of g) l.row start.result [] (marks_of 24 closed.result) start.ensures tables.from shut (marks_length 24 closed.result) l.invariant.0 (omega (arith, h, b.requires.0.last_is)))
           _
           (c.count.ensures [] refl (left_of g) a.first tables l.invariant.0),
     )

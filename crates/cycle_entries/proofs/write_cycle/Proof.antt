@@ -6,7 +6,7 @@ use native.Mathlib.Omega.{arith}
 use lib.ListN.{length, take, length-set}
 use lib.Seq.{sets}
 use Rattle.livelock.proofs.StoreLaws.{sets_next}
-use Rattle.cycle_entries.proofs.EntryLaws.{sets-entry}
+use Rattle.cycle_entries.proofs.EntryLaws.{sets_entry}
 use Rattle.cycle_entries.proofs.write_cycle.Statement.{statement}
 use Rattle.cycle_entries.proofs.write_cycle.Tie as tie
 
@@ -89,7 +89,7 @@ returns : tie.Need-returns invariant-loop decreases-loop
 returns c =
     let a = c.before.before.args in
     let l = c.before.loop in
-    (refl, sets-entry a.path.now a.out.now l.out a.pos a.depth a.row l.i (omega (arith, c.before.before.requires.0, c.before.before.requires.1)) (omega (arith, l.invariant.0, c.loop-test.false)) l.invariant.2)
+    (refl, sets_entry a.path.now a.out.now l.out a.pos a.depth a.row l.i (omega (arith, c.before.before.requires.0, c.before.before.requires.1)) (omega (arith, l.invariant.0, c.loop-test.false)) l.invariant.2)
 
 pub write_cycle_spec : {M : Type 1} → statement M
 write_cycle_spec =

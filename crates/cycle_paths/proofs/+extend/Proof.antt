@@ -10,10 +10,10 @@ use Rattle.graphs.specs.Graphs.{entered_of, next_of, head_of, into_of, last_of}
 use Rattle.cycle_paths.specs.Cycles.{unleft}
 use Rattle.state_marks.specs.Marks.{column, marks_of}
 use Rattle.cycle_paths.specs.Inner.Extending.{PathKept}
-use Rattle.state_marks.proofs.MarkLaws.{marks-length}
-use Rattle.cycle_paths.proofs.MarkLaws.{unleft-falls}
-use Rattle.cycle_paths.proofs.FillingLaws.{added-in}
-use Rattle.cycle_paths.proofs.ExtensionLaws.{enter_unleft, Extending, extending_begins, extending_named, extending-stops, extending-ends, extending-skip, extending-close, extending-enter, closed_unleft, path_kept}
+use Rattle.state_marks.proofs.MarkLaws.{marks_length}
+use Rattle.cycle_paths.proofs.MarkLaws.{unleft_falls}
+use Rattle.cycle_paths.proofs.FillingLaws.{added_in}
+use Rattle.cycle_paths.proofs.ExtensionLaws.{enter_unleft, Extending, extending_begins, extending_named, extending_stops, extending_ends, extending_skip, extending_close, extending_enter, closed_unleft, path_kept}
 use borrow.Fn.Kinds.{In}
 use borrow.Fn.PlainCycle.{Measures, is, falls, and}
 use Rattle.cycle_paths.proofs.extend.Reads as extend
@@ -77,7 +77,7 @@ extend-same-length : (t : ℕ) → extend-lts.Need-same-length (claims t) (exten
 extend-same-length t c = (so_far t c.before.before).0
 
 extend-returns : (t : ℕ) → extend-lts.Need-returns (claims t) (extend_at t) extend.Post extend-Inv-loop extend-μ-loop
-extend-returns t c = (c.before.before.loop.invariant.1, extending-stops c.before.before.loop.invariant.2 (omega (arith, c.if1.true, (so_far t c.before.before).0)))
+extend-returns t c = (c.before.before.loop.invariant.1, extending_stops c.before.before.loop.invariant.2 (omega (arith, c.if1.true, (so_far t c.before.before).0)))
 
 extend-step-of-requires : (t : ℕ) → extend-lts.Need-step-of-requires (claims t) (extend_at t) extend.Post extend-Inv-loop extend-μ-loop
 extend-step-of-requires t c κs =
@@ -112,7 +112,7 @@ entering : (t : ℕ) (c : extend-lts.After-known-told (claims t) (extend_at t) e
 entering t c =
     let e = enters t c in
     let l : c.before.step.given.0.0 < 24 = omega (arith, e.0, state_in t c.before.before.before.before.before) in
-    (l, unleft-falls _ _ (omega (arith, l, marks-length 24 c.before.before.before.before.before.before.before.before.args.marks)) e.1)
+    (l, unleft_falls _ _ (omega (arith, l, marks_length 24 c.before.before.before.before.before.before.before.before.args.marks)) e.1)
 
 extend-head-of-requires : (t : ℕ) → extend-lts.Need-head-of-requires (claims t) (extend_at t) extend.Post extend-Inv-loop extend-μ-loop
 extend-head-of-requires t c κs = (entering t c).0
@@ -193,20 +193,20 @@ extend-loop-again t c =
     (λ w. (
       low,
       subst (PathKept a.depth a.path.now) (sym w.2) kept,
-      extending_named _ _ w.4 w.3 (extending-skip l.invariant.2 l.invariant.0 h p.high_in step next w.1.given.1),
+      extending_named _ _ w.4 w.3 (extending_skip l.invariant.2 l.invariant.0 h p.high_in step next w.1.given.1),
     ))
     (⊎_elim
     (λ w. (
       low,
       subst (PathKept a.depth a.path.now) (sym w.7) kept,
-      extending_named _ _ w.9 w.8 (extending-close l.invariant.2 l.invariant.0 h p.high_in step next w.5.given w.1.given.1 l.path a.depth kept.same_rows (added-in g w.4.ensures)),
+      extending_named _ _ w.9 w.8 (extending_close l.invariant.2 l.invariant.0 h p.high_in step next w.5.given w.1.given.1 l.path a.depth kept.same_rows (added_in g w.4.ensures)),
     ))
     (λ w.
     let s = entering t (record { before = record { before = record { before = c.before.before; match = w.0 }; step = w.1 }; known-told = w.2 }) in
     let deep : a.depth < 24 = omega (arith, p.fits, s.1) in (
       low,
       subst (PathKept a.depth a.path.now) (sym w.12) (path_kept a.depth l.k a.path.now l.path _ kept w.9.ensures.0),
-      extending_named _ _ w.14 w.13 (extending-enter l.invariant.2 l.invariant.0 h p.high_in step next w.10.given w.1.given.0.0 w.1.given.1 s.0 s.1 l.path a.depth kept.same_rows (omega (arith, deep, kept.path_room)) w.3.result w.3.ensures (marks_of 24 w.5.result) (marks_of 24 w.6.result) w.5.ensures (marks-length 24 w.5.result) (marks-length 24 w.6.result) w.6.ensures _ _ w.4.ensures g w.9.ensures.1),
+      extending_named _ _ w.14 w.13 (extending_enter l.invariant.2 l.invariant.0 h p.high_in step next w.10.given w.1.given.0.0 w.1.given.1 s.0 s.1 l.path a.depth kept.same_rows (omega (arith, deep, kept.path_room)) w.3.result w.3.ensures (marks_of 24 w.5.result) (marks_of 24 w.6.result) w.5.ensures (marks_length 24 w.5.result) (marks_length 24 w.6.result) w.6.ensures _ _ w.4.ensures g w.9.ensures.1),
     )))
     c.before.match.branch
 
@@ -214,7 +214,7 @@ extend-same-length-2 : (t : ℕ) → extend-lts.Need-same-length-2 (claims t) (e
 extend-same-length-2 t c = (so_far t c.before).0
 
 extend-returns-2 : (t : ℕ) → extend-lts.Need-returns-2 (claims t) (extend_at t) extend.Post extend-Inv-loop extend-μ-loop
-extend-returns-2 t c = (c.before.loop.invariant.1, extending-ends c.before.loop.invariant.2 (omega arith))
+extend-returns-2 t c = (c.before.loop.invariant.1, extending_ends c.before.loop.invariant.2 (omega arith))
 
 pub +extend-spec : {M : Type 1} → statement M
 +extend-spec = close μ-extend λ t. extend-lts.spec (claims t)

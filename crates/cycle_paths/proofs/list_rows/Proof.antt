@@ -9,8 +9,8 @@ use Rattle.cycle_paths.specs.Cycles.{cycles_through}
 use Rattle.cycle_entries.specs.Entries.{Added}
 use Rattle.cycle_paths.specs.Entries.{all_entries}
 use Rattle.state_marks.specs.Marks.{column, marks_of}
-use Rattle.state_marks.proofs.MarkLaws.{marks-length}
-use Rattle.cycle_paths.proofs.FillingLaws.{Adding, adding_begins, added-in, adding-part, adding-ends}
+use Rattle.state_marks.proofs.MarkLaws.{marks_length}
+use Rattle.cycle_paths.proofs.FillingLaws.{Adding, adding_begins, added_in, adding_part, adding_ends}
 use Rattle.cycle_paths.proofs.ExtensionLaws.{closed_first, searchable_last, unleft_few, entries_from, entries_closed, entries_end}
 use Rattle.cycle_paths.proofs.list_rows.Statement.{statement}
 use Rattle.cycle_paths.proofs.list_rows.Tie as tie
@@ -65,7 +65,7 @@ extend-requires c κs =
       ordered = omega arith;
       high_in = omega (arith, c.before.before.before.before.before.before.loop-test.true, b.requires.0.last_is);
       path_room = i.2;
-      fits = omega (arith, unleft_few (marks_of 24 marks), marks-length 24 marks);
+      fits = omega (arith, unleft_few (marks_of 24 marks), marks_length 24 marks);
       room_in = omega arith;
       pos_in = omega (arith, i.3.same_length, i.3.in_limit);
       limit_in = omega (arith, i.3.same_length, b.requires.1);
@@ -93,8 +93,8 @@ loop-again c =
       omega (arith, l.invariant.0),
       omega arith,
       e.0.path_room,
-      adding-part l.invariant.3 _ _ (entries_closed (left_of g) (entered_of g) b.args.first (last_of g) (into_of g) l.row start.result l.path (marks_of 24 closed.result) start.ensures p.from shut (marks-length 24 closed.result) l.invariant.0 (omega (arith, h, b.requires.0.last_is))) _ _ c.before.out.given
-          (added-in l.invariant.3.same_length (e.1 (left_of g) b.args.first p.links p.from l.invariant.0)),
+      adding_part l.invariant.3 _ _ (entries_closed (left_of g) (entered_of g) b.args.first (last_of g) (into_of g) l.row start.result l.path (marks_of 24 closed.result) start.ensures p.from shut (marks_length 24 closed.result) l.invariant.0 (omega (arith, h, b.requires.0.last_is))) _ _ c.before.out.given
+          (added_in l.invariant.3.same_length (e.1 (left_of g) b.args.first p.links p.from l.invariant.0)),
     )
 
 same_length : tie.Need-same-length invariant-loop decreases-loop
@@ -110,7 +110,7 @@ returns c =
     subst
     (λ (z : ℕ). Added (length a.out.now) a.out.now 0 (all_entries (left_of g) (entered_of g) a.first z) l.used l.out)
     b.requires.0.last_is
-    (adding-ends l.invariant.3 (entries_end (left_of g) (entered_of g) a.first (last_of g) l.row (omega (arith, c.loop-test.false, b.requires.0.last_is))))
+    (adding_ends l.invariant.3 (entries_end (left_of g) (entered_of g) a.first (last_of g) l.row (omega (arith, c.loop-test.false, b.requires.0.last_is))))
 
 pub list_rows_spec : {M : Type 1} → statement M
 list_rows_spec =

@@ -9,7 +9,7 @@ use Rattle.set_numbers.specs.Numbers.{entry_begins, value_found}
 use Rattle.set_entries.specs.Sets.{entry_at}
 use Rattle.set_entries.specs.Entries.{entry_in}
 use Rattle.cycle_sets.proofs.TableLaws.{table_of, machines_are}
-use Rattle.cycle_sets.proofs.SetLaws.{Going, begun, no-entry, more, entry-stops, read, rows-there, turn, finished}
+use Rattle.cycle_sets.proofs.SetLaws.{Going, begun, no_entry, more, entry_stops, read, rows_there, turn, finished}
 use borrow.Author.Rules.{rules}
 use Rattle.cycle_sets.proofs.judge_set.Statement.{statement}
 use Rattle.cycle_sets.proofs.judge_set.Tie as tie
@@ -70,7 +70,7 @@ add-entry-requires c κs =
     let g = l.invariant in
     let r = read a.shape a.table.now a.set.now l.before l.at l.sums g _ (begins c.before.before.before.before.before.before.before) c.before.before.before.before.before.before.before.before.before.before.before.before.before.requires.0 _ (entry_found c.before) in (
       omega (arith, r.next_is),
-      rows-there a.shape a.table.now a.set.now l.before l.at l.sums g _ (begins c.before.before.before.before.before.before.before) c.before.before.before.before.before.before.before.before.before.before.before.before.before.requires.0 _ (entry_found c.before),
+      rows_there a.shape a.table.now a.set.now l.before l.at l.sums g _ (begins c.before.before.before.before.before.before.before) c.before.before.before.before.before.before.before.before.before.before.before.before.before.requires.0 _ (entry_found c.before),
       omega (arith, r.next_is, r.few_rows),
       r.few_repeats,
       λ i. omega (arith, g.within i, g.few),
@@ -96,13 +96,13 @@ returns : tie.Need-returns invariant-entries decreases-entries
 returns c =
     let a = c.before.before.before.before.before.before.before.args in
     let l = c.before.before.before.before.entries in
-    no-entry a.shape a.table.now a.set.now l.before l.at l.sums l.invariant _ (told (value_found tt) c.before.before.before.entry-begins.ensures c.before.begin.given.1)
+    no_entry a.shape a.table.now a.set.now l.before l.at l.sums l.invariant _ (told (value_found tt) c.before.before.before.entry-begins.ensures c.before.begin.given.1)
 
 returns-2 : tie.Need-returns-2 invariant-entries decreases-entries
 returns-2 c =
     let a = c.before.before.before.before.before.before.before.before.before.before.before.before.args in
     let l = c.before.before.before.before.before.before.before.before.before.entries in
-    entry-stops a.shape a.table.now a.set.now l.before l.at l.sums l.invariant _ (begins c.before.before.before.before.before.before) _ (sym (told (value_found (entry_in a.set.now l.at)) (judged c.before.before.before) c.before.entry.given.1))
+    entry_stops a.shape a.table.now a.set.now l.before l.at l.sums l.invariant _ (begins c.before.before.before.before.before.before) _ (sym (told (value_found (entry_in a.set.now l.at)) (judged c.before.before.before) c.before.entry.given.1))
 
 returns-3 : tie.Need-returns-3 invariant-entries decreases-entries
 returns-3 c =

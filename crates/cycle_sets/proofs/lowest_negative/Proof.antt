@@ -8,7 +8,7 @@ use lib.IntN.{pos}
 use mir.Syntax.{w64}
 use mir.Facts.{to_z-of_z}
 use Rattle.cycle_sets.specs.Confirming.{lowest_negative}
-use Rattle.cycle_sets.proofs.LowestLaws.{type-stops, type-goes-on, types_end}
+use Rattle.cycle_sets.proofs.LowestLaws.{type_stops, type_goes_on, types_end}
 use borrow.Author.Rules.{rules}
 use Rattle.cycle_sets.proofs.lowest_negative.Statement.{statement}
 use Rattle.cycle_sets.proofs.lowest_negative.Tie as tie
@@ -31,7 +31,7 @@ element-copy-out-sum c = search rules
 returns : tie.Need-returns invariant-loop decreases-loop
 returns c =
     let a = c.before.before.before.before.args in
-    type-stops (λ t. get_or a.sums.now t (pos 0)) _ a.types _ c.before.before.before.loop.invariant.1 c.before.before.loop-test.true _ (to_z-of_z {w = w64} (record { sfits = c.before.sum.given })) c.if1.true
+    type_stops (λ t. get_or a.sums.now t (pos 0)) _ a.types _ c.before.before.before.loop.invariant.1 c.before.before.loop-test.true _ (to_z-of_z {w = w64} (record { sfits = c.before.sum.given })) c.if1.true
 
 add-t : tie.Need-overflow-add-t invariant-loop decreases-loop
 add-t c = search rules
@@ -43,7 +43,7 @@ loop-again : tie.Need-loop-preserved invariant-loop decreases-loop
 loop-again c =
     let a = c.before.before.before.before.args in (
       omega (arith, c.before.before.loop-test.true),
-      type-goes-on (λ t. get_or a.sums.now t (pos 0)) _ a.types _ c.before.before.before.loop.invariant.1 c.before.before.loop-test.true _ (to_z-of_z {w = w64} (record { sfits = c.before.sum.given })) c.if1.false,
+      type_goes_on (λ t. get_or a.sums.now t (pos 0)) _ a.types _ c.before.before.before.loop.invariant.1 c.before.before.loop-test.true _ (to_z-of_z {w = w64} (record { sfits = c.before.sum.given })) c.if1.false,
     )
 
 returns-2 : tie.Need-returns-2 invariant-loop decreases-loop

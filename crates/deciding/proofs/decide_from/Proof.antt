@@ -5,7 +5,7 @@ use native.Mathlib.Omega.{arith}
 use lib.ListN.{length, get_or}
 use Rattle.livelock.specs.Graphs.{lengthened}
 use Rattle.deciding.specs.Rounds.{edge_graph}
-use Rattle.deciding.proofs.DecisionLaws.{edges-within}
+use Rattle.deciding.proofs.DecisionLaws.{edges_within}
 use Rattle.deciding.proofs.DecisionLaws.{Heights, heights_first, heights_low, heights_next, heights_settled, heights_positive, all_below, some_cycle}
 use borrow.Author.Rules.{rules}
 use Rattle.deciding.proofs.decide_from.Statement.{statement}
@@ -34,7 +34,7 @@ returns c =
     let a = c.before.before.before.before.before.before.before.before.args in
     let p = c.before.before.before.before.before.before.before.before.requires in
     let g = edge_graph a.count a.edges.now in
-    let inside = edges-within a.count a.states a.edges.now p.0 in
+    let inside = edges_within a.count a.states a.edges.now p.0 in
     let l = c.before.before.before.before.before.before.loop in
     all_below a.n g a.states inside p.1 (λ s. get_or l.heights s 0) (heights_settled (lengthened a.n g) l.k l.heights l.invariant.1 _ _ c.if1.true c.before.before.before.relax.ensures)
 
@@ -57,7 +57,7 @@ returns-2 c =
     let a = c.before.before.before.args in
     let p = c.before.before.before.requires in
     let l = c.before.loop in
-    let inside = edges-within a.count a.states a.edges.now p.0 in
+    let inside = edges_within a.count a.states a.edges.now p.0 in
     some_cycle a.n _ a.states inside p.1 (heights_positive _ l.k l.heights l.invariant.1 a.states inside p.0.some_state (omega (arith, l.invariant.0, c.loop-test.false)))
 
 pub decide_from_spec : {M : Type 1} → statement M

@@ -9,7 +9,7 @@ use mir.Val.{SFits}
 use mir.Facts.{to_z_pos, to_z-of_z}
 use Rattle.livelock.proofs.Differences.{difference_times}
 use Rattle.deciding.specs.Signs.{rise, fall}
-use Rattle.deciding.proofs.SignLaws.{rise-fall, difference_fits, difference_length}
+use Rattle.deciding.proofs.SignLaws.{rise_fall, difference_fits, difference_length}
 use borrow.Author.Rules.{rules}
 use Rattle.deciding.proofs.row_length.Statement.{statement}
 use Rattle.deciding.proofs.row_length.Tie as tie
@@ -20,7 +20,7 @@ module _ (n : ℕ) (z : ℤ) (few : n ≤ 64) (up : rise z ≤ 65535) (down : fa
   small = omega (arith, mul-le-mul_left n up, mul-le-mul_left n down)
 
   product_fits : SFits w64 (pos n *ℤ z)
-  product_fits = difference_fits (pos n *ℤ z) (n * rise z) (n * fall z) (difference_times n z (rise z) (fall z) (rise-fall z)) (omega (arith, small))
+  product_fits = difference_fits (pos n *ℤ z) (n * rise z) (n * fall z) (difference_times n z (rise z) (fall z) (rise_fall z)) (omega (arith, small))
 
   sum_fits : (first : ℕ) → first ≤ 1 → SFits w64 (pos first +ℤ pos n *ℤ z)
   sum_fits first l =
@@ -46,5 +46,5 @@ returns c =
     (to_z_pos w64 {n = c.args.n} (omega (arith, c.requires.0)), to_z-of_z c.ranges.weight, to_z-of_z (product_fits c.args.n c.args.weight c.requires.0 c.requires.1 c.requires.2))
     (to_z-of_z (sum_fits c.args.n c.args.weight c.requires.0 c.requires.1 c.requires.2 _ (lit≤ tt)))
 
-pub row-length_spec : {M : Type 1} → statement M
-row-length_spec = tie.close (tie.spec cast-result mul-result add-result returns)
+pub row_length_spec : {M : Type 1} → statement M
+row_length_spec = tie.close (tie.spec cast-result mul-result add-result returns)

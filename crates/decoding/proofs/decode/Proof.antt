@@ -8,7 +8,7 @@ use Rattle.plant.specs.Reading.{file_end}
 use Rattle.plant.specs.Steps.{field_found}
 use Rattle.plant.proofs.Told.{told}
 use Rattle.plant.proofs.Bounds.{each_found, byte_in_each}
-use Rattle.plant.proofs.PlantLaws.{no_machine_count, no_type_count, file-read}
+use Rattle.plant.proofs.PlantLaws.{no_machine_count, no_type_count, file_read}
 use Rattle.decoding.proofs.decode.Statement.{statement}
 use Rattle.decoding.proofs.decode.Tie as tie
 
@@ -69,7 +69,7 @@ returns-3 c =
     let r = c.before.before.before.before.read-machines.ensures in (
       c.at-file-end.ensures _
           ∙ ap (λ (x : Found Plant). and_then x (file_end c.before.before.before.before.before.before.before.before.before.before.before.before.before.before.before.before.before.args.file.now)) r.holds
-          ∙ file-read _ _ _ (told field_found c.before.before.before.before.before.before.before.before.before.before.before.before.before.before.machines-byte.ensures c.before.before.before.before.before.before.before.before.before.before.before.before.machines-step.given.1) _ _ (told field_found c.before.before.before.before.before.before.before.before.before.before.types-byte.ensures c.before.before.before.before.before.before.before.before.types-step.given.1),
+          ∙ file_read _ _ _ (told field_found c.before.before.before.before.before.before.before.before.before.before.before.before.before.before.machines-byte.ensures c.before.before.before.before.before.before.before.before.before.before.before.before.machines-step.given.1) _ _ (told field_found c.before.before.before.before.before.before.before.before.before.before.types-byte.ensures c.before.before.before.before.before.before.before.before.types-step.given.1),
       r.ready,
     )
 

@@ -7,7 +7,7 @@ use lib.ListN.{length, length-drop}
 use Rattle.plant.specs.Steps.{field_found}
 use Rattle.plant.proofs.Told.{told}
 use Rattle.plant.proofs.Bounds.{each_found, byte_in_each, rows_byte_each}
-use Rattle.plant.proofs.MachineLaws.{no_states, no_rows, machine-read, rows_end, part-is}
+use Rattle.plant.proofs.MachineLaws.{no_states, no_rows, machine_read, rows_end, part_is}
 use Rattle.tables.proofs.RowLaws.{rows_in}
 use Rattle.plant.proofs.Gives.{given_found}
 use Rattle.plant.proofs.Takes.{byte_takes, rows_byte_takes}
@@ -81,7 +81,7 @@ read-rows-requires c κs =
     let r = each_found _ _ (rows_byte_each _ _ _) e in
     let s = given_found _ _ (byte_takes file a.args.at 1 65 3 (omega arith) (omega arith)) (told field_found c.before.before.before.before.before.before.before.before.before.before.states-byte.ensures c.before.before.before.before.before.before.before.before.states-step.given.1) in
     let t = given_found _ _ (rows_byte_takes file _ _) e in (
-      (omega (arith, a.requires.0.0, a.requires.0.2, s.0, t.0, t.1, ap length (part-is file from), length-drop from file), r.1.1, a.requires.0.3),
+      (omega (arith, a.requires.0.0, a.requires.0.2, s.0, t.0, t.1, ap length (part_is file from), length-drop from file), r.1.1, a.requires.0.3),
       (a.requires.1, r.1.0),
     )
 
@@ -110,7 +110,7 @@ returns-3 c =
       holds =
           λ all q.
           c.moved.ensures _
-          ∙ machine-read _ _ _ _ _ _ (rows_in a.args.table.now _) (told field_found c.before.before.before.before.before.before.before.before.before.before.before.before.before.before.states-byte.ensures c.before.before.before.before.before.before.before.before.before.before.before.before.states-step.given.1) _ _ _ _ _ q e refl (c.before.before.before.read-rows.ensures.holds (all ++ (c.before.before.before.before.before.before.before.before.before.before.before.before.states-step.given.0.0.value ∷ [])));
+          ∙ machine_read _ _ _ _ _ _ (rows_in a.args.table.now _) (told field_found c.before.before.before.before.before.before.before.before.before.before.before.before.before.before.states-byte.ensures c.before.before.before.before.before.before.before.before.before.before.before.before.states-step.given.1) _ _ _ _ _ q e refl (c.before.before.before.read-rows.ensures.holds (all ++ (c.before.before.before.before.before.before.before.before.before.before.before.before.states-step.given.0.0.value ∷ [])));
     }
 
 pub read_machine_spec : {M : Type 1} → statement M

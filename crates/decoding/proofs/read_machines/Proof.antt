@@ -16,7 +16,7 @@ use Rattle.tables.proofs.RowLaws.{rows_in}
 use Rattle.decoding.specs.Inner.Steps.{FirstRows}
 use Rattle.plant.proofs.Gives.{given_found}
 use Rattle.decoding.proofs.RoomLaws.{machine_takes}
-use Rattle.decoding.proofs.FirstRowLaws.{first-none, first_stored}
+use Rattle.decoding.proofs.FirstRowLaws.{first_none, first_stored}
 use Rattle.decoding.proofs.ReadLaws.{machine_fault, machine_found}
 use Rattle.decoding.proofs.read_machines.Statement.{statement}
 use Rattle.decoding.proofs.read_machines.Tie as tie
@@ -49,7 +49,7 @@ loop-holds c =
       behind = zero-le;
       inside = c.before.before.requires.3;
       rest = rw sub-zero;
-      first_rows = first-none _ _ refl refl refl;
+      first_rows = first_none _ _ refl refl refl;
     }
 
 read-machine-requires : tie.Need-read-machine-requires invariant-loop decreases-loop

@@ -11,7 +11,7 @@ use Rattle.plant.specs.Found.{found}
 use Rattle.plant.specs.Reading.{read_rows}
 use Rattle.plant_rows.specs.Rows.{row_found}
 use Rattle.plant.proofs.Told.{told}
-use Rattle.plant.proofs.RowLaws.{row-stops, row-is-twin, row-goes-on, rows_done}
+use Rattle.plant.proofs.RowLaws.{row_stops, row_is_twin, row_goes_on, rows_done}
 use Rattle.plant.proofs.Gives.{given_found}
 use Rattle.plant.proofs.Takes.{row_takes}
 use Rattle.twins.specs.Keys.{RowsKept}
@@ -66,7 +66,7 @@ returns c =
     let h = c.before.before.before.before.before.before.loop.invariant in
     record {
       long = h.long;
-      holds = λ all. row-stops _ _ _ _ _ _ _ _ c.before.before.before.before.if1.true _ _ _ (told (row_found _) (c.before.before.before.row_at.ensures _) c.before.step.given.1) (h.rest all);
+      holds = λ all. row_stops _ _ _ _ _ _ _ _ c.before.before.before.before.if1.true _ _ _ (told (row_found _) (c.before.before.before.row_at.ensures _) c.before.step.given.1) (h.rest all);
     }
 
 enum-known-step-2 : tie.Need-enum-known-step-2 invariant-loop decreases-loop
@@ -89,7 +89,7 @@ returns-2 c =
       long = h.long;
       holds =
           λ all.
-          row-is-twin _ _ _ _ _ _ _ _ c.before.before.before.before.before.before.before.before.before.if1.true _ _ _ (told (row_found _) (c.before.before.before.before.before.before.before.before.row_at.ensures _) c.before.before.before.before.before.before.step2.given.1) (sym (k.told _ _ h.rows_kept) ∙ c.if2.true) (h.rest all);
+          row_is_twin _ _ _ _ _ _ _ _ c.before.before.before.before.before.before.before.before.before.if1.true _ _ _ (told (row_found _) (c.before.before.before.before.before.before.before.before.row_at.ensures _) c.before.before.before.before.before.before.step2.given.1) (sym (k.told _ _ h.rows_kept) ∙ c.if2.true) (h.rest all);
     }
 
 add-store-row : tie.Need-overflow-add-store-row invariant-loop decreases-loop
@@ -124,7 +124,7 @@ loop-again c =
       rows_kept = rw e (kept_stored c.before.before.store-row.ensures (k.kept _ _ l.invariant.rows_kept c.before.before.before.before.if2.false));
       rest =
           λ all.
-          rw e (row-goes-on _ _ _ _ _ _ _ _ c.before.before.before.before.before.before.before.before.before.before.before.before.before.if1.true (plant_in a.types all (a.used + l.i) l.table) _ _ _ r (sym (k.told _ _ l.invariant.rows_kept) ∙ c.before.before.before.before.if2.false) (with_row_lem c.before.before.store-row.ensures a.types all) (l.invariant.rest all));
+          rw e (row_goes_on _ _ _ _ _ _ _ _ c.before.before.before.before.before.before.before.before.before.before.before.before.before.if1.true (plant_in a.types all (a.used + l.i) l.table) _ _ _ r (sym (k.told _ _ l.invariant.rows_kept) ∙ c.before.before.before.before.if2.false) (with_row_lem c.before.before.store-row.ensures a.types all) (l.invariant.rest all));
     }
 
 same-length-5 : tie.Need-same-length-5 invariant-loop decreases-loop

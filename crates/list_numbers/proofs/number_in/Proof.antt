@@ -4,7 +4,7 @@ use mathlib.Core.Path.{sym, ◌∙◌}
 use native.Mathlib.Omega.{arith}
 use lib.ListN.{get_or}
 use Rattle.plant.specs.Reading.{in_range}
-use Rattle.plant_lists.proofs.NumberLaws.{number_missing, number-fails, number-passes, ranged}
+use Rattle.plant_lists.proofs.NumberLaws.{number_missing, number_fails, number_passes, ranged}
 use Rattle.list_numbers.proofs.number_in.Statement.{statement}
 use Rattle.list_numbers.proofs.number_in.Tie as tie
 
@@ -33,12 +33,12 @@ add-t13 c = search rules
 returns-2 : tie.Need-returns-2
 returns-2 c =
     let a = c.before.before.before.before.before.args in
-    number-passes (in_range a.low a.end) a.numbers.now a.at (omega (arith, c.before.before.before.if1.false)) (sym c.before.in_range.ensures ∙ c.if2.true)
+    number_passes (in_range a.low a.end) a.numbers.now a.at (omega (arith, c.before.before.before.if1.false)) (sym c.before.in_range.ensures ∙ c.if2.true)
 
 returns-3 : tie.Need-returns-3
 returns-3 c =
     let a = c.before.before.before.before.before.args in
-    number-fails (in_range a.low a.end) a.numbers.now a.at (omega (arith, c.before.before.before.if1.false)) (sym c.before.in_range.ensures ∙ c.if2.false)
+    number_fails (in_range a.low a.end) a.numbers.now a.at (omega (arith, c.before.before.before.if1.false)) (sym c.before.in_range.ensures ∙ c.if2.false)
 
 pub number_in_spec : {M : Type 1} → statement M
 number_in_spec =

@@ -10,8 +10,8 @@ use Rattle.decoding.specs.Tables.{plant_of}
 use Rattle.decoding.proofs.TableLaws.{machines_counted, states_at}
 use Rattle.decoding.proofs.FirstRowLaws.{machine_rows}
 use Rattle.listing.specs.Listing.{checked_room}
-use Rattle.listing.proofs.TableCycles.{machine-listable, machine-entries}
-use Rattle.listing.proofs.AnswerLaws.{refuse_12, refuse-states, refuse-rows, refuse_none, refusal, answers_same}
+use Rattle.listing.proofs.TableCycles.{machine_listable, machine_entries}
+use Rattle.listing.proofs.AnswerLaws.{refuse_12, refuse_states, refuse_rows, refuse_none, refusal, answers_same}
 use Rattle.listing.proofs.list_checked.Statement.{statement}
 use Rattle.listing.proofs.list_checked.Tie as tie
 
@@ -40,7 +40,7 @@ returns-2 c =
     let m = b.args.machine in
     let before = b.args.out.now in
     let within = c.before.before.before.if1.false in
-    λ end. refusal 13 0 _ (refuse-states m (length before) (plant_of s t) end (omega (arith, within, machines_counted s t b.requires.0.sound)) (omega (arith, c.before.if2.true, states_at s t m (omega (arith, within))))) before c.refused2.result c.refused2.ensures
+    λ end. refusal 13 0 _ (refuse_states m (length before) (plant_of s t) end (omega (arith, within, machines_counted s t b.requires.0.sound)) (omega (arith, c.before.if2.true, states_at s t m (omega (arith, within))))) before c.refused2.result c.refused2.ensures
 
 mul-index-u16 : tie.Need-overflow-mul-index-u16
 mul-index-u16 c = record { fits = omega (arith, c.before.before.if1.false, c.before.before.before.before.before.requires.0.sound.few_machines) }
@@ -81,7 +81,7 @@ returns-3 c =
     let before = b.args.out.now in
     let within = c.before.before.before.before.before.before.before.before.if1.false in
     let range = machine_rows s t b.requires.0 m (omega (arith, within)) in
-    λ end. refusal 13 0 _ (refuse-rows m (length before) (plant_of s t) end (omega (arith, within, machines_counted s t b.requires.0.sound)) (omega (arith, c.before.if3.true, range.2, c.before.before.before.before.index-u16.ensures, c.before.before.index-u162.ensures))) before c.refused3.result c.refused3.ensures
+    λ end. refusal 13 0 _ (refuse_rows m (length before) (plant_of s t) end (omega (arith, within, machines_counted s t b.requires.0.sound)) (omega (arith, c.before.if3.true, range.2, c.before.before.before.before.index-u16.ensures, c.before.before.index-u162.ensures))) before c.refused3.result c.refused3.ensures
 
 list-between-requires : tie.Need-list-between-requires
 list-between-requires c κs =
@@ -91,7 +91,7 @@ list-between-requires c κs =
     let m = b.args.machine in
     let within : m < s.machines = omega (arith, c.before.before.before.before.before.before.before.before.if1.false) in
     let few : state_count (plant_of s t) m ≤ 24 = omega (arith, c.before.before.before.before.before.before.if2.false, states_at s t m within) in
-    machine-listable s t b.requires.0 b.requires.1 m within few _ _ c.before.before.before.before.index-u16.ensures c.before.before.index-u162.ensures (omega (arith, c.before.if3.false))
+    machine_listable s t b.requires.0 b.requires.1 m within few _ _ c.before.before.before.before.index-u16.ensures c.before.before.index-u162.ensures (omega (arith, c.before.if3.false))
 
 same_length : tie.Need-same-length
 same_length c = search rules
@@ -106,7 +106,7 @@ returns-4 c =
     let within : m < s.machines = omega (arith, c.before.before.before.before.before.before.before.before.before.before.before.if1.false) in
     let few : state_count (plant_of s t) m ≤ 24 = omega (arith, c.before.before.before.before.before.before.before.before.before.if2.false, states_at s t m within) in
     let range = machine_rows s t b.requires.0 m within in
-    let needed = machine-entries s t b.requires.0 b.requires.1 m within few _ _ c.before.before.before.before.before.before.before.index-u16.ensures c.before.before.before.before.before.index-u162.ensures in
+    let needed = machine_entries s t b.requires.0 b.requires.1 m within few _ _ c.before.before.before.before.before.before.before.index-u16.ensures c.before.before.before.before.before.index-u162.ensures in
     λ end.
     answers_same
     (ap (λ (es : List ℕ). checked_room (length before) es end) needed

@@ -5,7 +5,7 @@ use native.Mathlib.Omega.{arith}
 use lib.ListN.{set}
 use Rattle.graphs.proofs.PartLaws.{between_stands}
 use Rattle.state_marks.specs.Marks.{marks_of}
-use Rattle.machine_graphs.proofs.RowLaws.{row-added}
+use Rattle.machine_graphs.proofs.RowLaws.{row_added}
 use Rattle.machine_graphs.proofs.add_row.Statement.{statement}
 use Rattle.machine_graphs.proofs.add_row.Tie as tie
 use Rattle.machine_graphs.proofs.add_row.Reads as reads
@@ -130,7 +130,7 @@ returns c =
     let a = b.args in
     let into = c.before.before.into-of.ensures in
     let marks = c.before.with-left in
-    row-added a.graph.now a.k a.left a.entered _ _ _ _ b.requires.2 b.requires.3 b.requires.0 b.requires.1 marks.result refl (omega arith)
+    row_added a.graph.now a.k a.left a.entered _ _ _ _ b.requires.2 b.requires.3 b.requires.0 b.requires.1 marks.result refl (omega arith)
     (marks.ensures ∙ ap (λ (x : ℕ). set (marks_of 24 x) a.left 1) into) refl
 
 pub add_row_spec : {M : Type 1} → statement M

@@ -7,7 +7,7 @@ use lib.ListN.{length}
 use borrow.Author.Tests.{not-true, not-false}
 use Rattle.decoding.specs.Tables.{plant_of}
 use Rattle.machines.specs.Machines.{MachinePasses}
-use Rattle.machines.proofs.TurnLaws.{when_true, when_false, below_next, turn-rows, turn-edges, turn-states, turn-passes, turn-fails}
+use Rattle.machines.proofs.TurnLaws.{when_true, when_false, below_next, turn_rows, turn_edges, turn_states, turn_passes, turn_fails}
 use Rattle.machines.proofs.first_failing.Statement.{statement}
 use Rattle.machines.proofs.first_failing.Tie as tie
 
@@ -46,7 +46,7 @@ edges-of-requires : tie.Need-edges-of-requires invariant-loop decreases-loop
 edges-of-requires c κs =
     let p = c.before.before.before.before.before.before.before.before.before.requires in
     let l = c.before.before.before.before.before.before.loop in
-    let rows = turn-rows _ _ _ p.0 l.m c.before.before.before.before.before.loop-test.true _ _ c.before.before.before.index-u16.ensures c.before.index-u162.ensures l.edges (omega (arith, l.invariant.2, p.3)) in
+    let rows = turn_rows _ _ _ p.0 l.m c.before.before.before.before.before.loop-test.true _ _ c.before.before.before.index-u16.ensures c.before.index-u162.ensures l.edges (omega (arith, l.invariant.2, p.3)) in
     (rows.0, rows.1, rows.2, rows.3, p.0.light)
 
 element-copy-out-index-u8 : tie.Need-element-copy-out-index-u8 invariant-loop decreases-loop
@@ -60,8 +60,8 @@ decide-requires c κs =
     let p = c.before.before.before.before.before.before.before.before.before.before.before.before.before.before.requires in
     let m = c.before.before.before.before.before.before.before.before.before.before.before.loop.m in
     let more = c.before.before.before.before.before.before.before.before.before.before.loop-test.true in
-    let few = turn-states _ _ _ p.0 m more _ _ c.index-u8.ensures p.2 in
-    (turn-edges _ _ _ p.0 m more _ _ c.before.before.before.before.before.before.before.before.index-u16.ensures c.before.before.before.before.before.before.index-u162.ensures _ _ c.before.before.before.before.edges-of.ensures _ c.index-u8.ensures, few.0, few.1)
+    let few = turn_states _ _ _ p.0 m more _ _ c.index-u8.ensures p.2 in
+    (turn_edges _ _ _ p.0 m more _ _ c.before.before.before.before.before.before.before.before.index-u16.ensures c.before.before.before.before.before.before.index-u162.ensures _ _ c.before.before.before.before.edges-of.ensures _ c.index-u8.ensures, few.0, few.1)
 
 same_length : tie.Need-same-length invariant-loop decreases-loop
 same_length c = c.before.before.before.before.before.edges.given ∙ c.before.before.before.before.before.before.before.before.before.before.before.before.before.loop.invariant.2
@@ -74,7 +74,7 @@ returns c =
       from_there = l.invariant.3;
       within = l.invariant.0;
       before = l.invariant.1;
-      fails = λ h. turn-fails _ _ _ c.before.before.before.before.before.before.before.before.before.before.before.before.before.before.before.before.requires.0 l.m c.before.before.before.before.before.before.before.before.before.before.before.before.loop-test.true _ _ c.before.before.before.before.before.before.before.before.before.before.index-u16.ensures c.before.before.before.before.before.before.before.before.index-u162.ensures _ _ c.before.before.before.before.before.before.edges-of.ensures no;
+      fails = λ h. turn_fails _ _ _ c.before.before.before.before.before.before.before.before.before.before.before.before.before.before.before.before.requires.0 l.m c.before.before.before.before.before.before.before.before.before.before.before.before.loop-test.true _ _ c.before.before.before.before.before.before.before.before.before.before.index-u16.ensures c.before.before.before.before.before.before.before.before.index-u162.ensures _ _ c.before.before.before.before.before.before.edges-of.ensures no;
     }
 
 add-m : tie.Need-overflow-add-m invariant-loop decreases-loop
@@ -88,7 +88,7 @@ loop-again c =
     let l = c.before.before.before.before.before.before.before.before.before.before.before.before.before.loop in
     let more = c.before.before.before.before.before.before.before.before.before.before.before.before.loop-test.true in
     let yes = when_true _ c.before.decide.result (not-false _ c.if1.false) c.before.decide.ensures in
-    let passes = turn-passes _ _ _ c.before.before.before.before.before.before.before.before.before.before.before.before.before.before.before.before.requires.0 l.m more _ _ c.before.before.before.before.before.before.before.before.before.before.index-u16.ensures c.before.before.before.before.before.before.before.before.index-u162.ensures _ _ c.before.before.before.before.before.before.edges-of.ensures yes in
+    let passes = turn_passes _ _ _ c.before.before.before.before.before.before.before.before.before.before.before.before.before.before.before.before.requires.0 l.m more _ _ c.before.before.before.before.before.before.before.before.before.before.index-u16.ensures c.before.before.before.before.before.before.before.before.index-u162.ensures _ _ c.before.before.before.before.before.before.edges-of.ensures yes in
     (omega (arith, more), below_next _ l.m l.invariant.1 (λ there. passes), c.before.before.before.before.before.edges.given ∙ l.invariant.2, omega (arith, l.invariant.3))
 
 same-length-2 : tie.Need-same-length-2 invariant-loop decreases-loop

@@ -4,7 +4,7 @@ use mathlib.Core.Path.{sym, ◌∙◌}
 use Rattle.plant.specs.Reading.{byte_in}
 use Rattle.plant.specs.Steps.{field_found}
 use Rattle.plant.proofs.Told.{told}
-use Rattle.plant.proofs.ByteLaws.{byte_missing, byte-passes, byte-fails}
+use Rattle.plant.proofs.ByteLaws.{byte_missing, byte_passes, byte_fails}
 use Rattle.plant.proofs.byte_in.Statement.{statement}
 use Rattle.plant.proofs.byte_in.Tie as tie
 
@@ -26,11 +26,11 @@ in-range-requires c κs = search rules
 
 returns-2 : tie.Need-returns-2
 unfolding byte_in
-returns-2 c = byte-passes _ _ _ _ _ _ (told field_found c.before.before.before.before.before.byte_at.ensures c.before.before.before.step.given.1) (sym c.before.in_range.ensures ∙ c.if1.true)
+returns-2 c = byte_passes _ _ _ _ _ _ (told field_found c.before.before.before.before.before.byte_at.ensures c.before.before.before.step.given.1) (sym c.before.in_range.ensures ∙ c.if1.true)
 
 returns-3 : tie.Need-returns-3
 unfolding byte_in
-returns-3 c = byte-fails _ _ _ _ _ _ (told field_found c.before.before.before.before.before.byte_at.ensures c.before.before.before.step.given.1) (sym c.before.in_range.ensures ∙ c.if1.false)
+returns-3 c = byte_fails _ _ _ _ _ _ (told field_found c.before.before.before.before.before.byte_at.ensures c.before.before.before.step.given.1) (sym c.before.in_range.ensures ∙ c.if1.false)
 
 pub byte_in_spec : {M : Type 1} → statement M
 byte_in_spec =

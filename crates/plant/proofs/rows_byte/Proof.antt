@@ -6,7 +6,7 @@ use borrow.Author.Tests.{le-leb, lt-leb}
 use Rattle.plant.specs.Reading.{rows_byte}
 use Rattle.plant.specs.Steps.{field_found}
 use Rattle.plant.proofs.Told.{told}
-use Rattle.plant.proofs.ByteLaws.{byte_missing, byte-passes, byte-fails}
+use Rattle.plant.proofs.ByteLaws.{byte_missing, byte_passes, byte_fails}
 use Rattle.plant.proofs.rows_byte.Statement.{statement}
 use Rattle.plant.proofs.rows_byte.Tie as tie
 
@@ -34,14 +34,14 @@ unfolding rows_byte
 returns-2 c =
     let used = c.before.before.before.before.before.before.before.args.used in
     let n = c.before.before.before.step.given.0.0.value in
-    byte-passes _ _ _ _ _ _ (told field_found c.before.before.before.before.before.byte_at.ensures c.before.before.before.step.given.1) (rw (le-leb n 255 (search rules), le-leb (used + n) 1024 (omega arith)))
+    byte_passes _ _ _ _ _ _ (told field_found c.before.before.before.before.before.byte_at.ensures c.before.before.before.step.given.1) (rw (le-leb n 255 (search rules), le-leb (used + n) 1024 (omega arith)))
 
 returns-3 : tie.Need-returns-3
 unfolding rows_byte
 returns-3 c =
     let used = c.before.before.before.before.before.before.before.args.used in
     let n = c.before.before.before.step.given.0.0.value in
-    byte-fails _ _ _ _ _ _ (told field_found c.before.before.before.before.before.byte_at.ensures c.before.before.before.step.given.1) (rw (le-leb n 255 (search rules), lt-leb (used + n) 1024 (omega arith)))
+    byte_fails _ _ _ _ _ _ (told field_found c.before.before.before.before.before.byte_at.ensures c.before.before.before.step.given.1) (rw (le-leb n 255 (search rules), lt-leb (used + n) 1024 (omega arith)))
 
 pub rows_byte_spec : {M : Type 1} → statement M
 rows_byte_spec =

@@ -116,8 +116,8 @@ returns-6 c = λ m. rw (
   c.has-bit5.ensures,
 )
 
-pub row-at-spec : {M : Type 1} → statement M
-row-at-spec =
+pub row_at_spec : {M : Type 1} → statement M
+row_at_spec =
     tie.close
     (tie.spec
     map-byte-requires

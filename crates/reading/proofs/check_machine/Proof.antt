@@ -9,7 +9,7 @@ use Rattle.plant.specs.Steps.{field_found}
 use Rattle.plant.proofs.Told.{told}
 use Rattle.plant.proofs.Bounds.{each_found, byte_in_each, rows_byte_each}
 use Rattle.reading.proofs.CountLaws.{fault_kept, machine_kept, rows_within}
-use Rattle.plant.proofs.MachineLaws.{no_states, no_rows, part-is}
+use Rattle.plant.proofs.MachineLaws.{no_states, no_rows, part_is}
 use Rattle.reading.proofs.check_machine.Statement.{statement}
 use Rattle.reading.proofs.check_machine.Tie as tie
 
@@ -60,7 +60,7 @@ check-rows-requires c κs =
     let a = c.before.before.before.before.before.before.before.before.before.before.before.before.before in
     let from = c.before.before.before.before.rows_step.given.0.0.next in
     let r = each_found _ _ (rows_byte_each _ _ _) (told field_found c.before.before.before.before.before.before.rows-byte.ensures c.before.before.before.before.rows_step.given.1) in
-    (a.requires.0, r.1.0, omega (arith, a.requires.2, ap length (part-is a.args.file.now from), length-drop from a.args.file.now))
+    (a.requires.0, r.1.0, omega (arith, a.requires.2, ap length (part_is a.args.file.now from), length-drop from a.args.file.now))
 
 moved-requires : tie.Need-moved-requires
 unfolding rows_in

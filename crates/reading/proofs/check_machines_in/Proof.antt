@@ -5,7 +5,7 @@ use mathlib.Core.Path.{◌≡◌, refl, ◌∙◌}
 use mathlib.Core.List.{List}
 use native.Mathlib.Omega.{arith}
 use lib.ListN.{length}
-use Rattle.reading.proofs.CountLaws.{MachinesLeft, machines_begin, machines-stop, machines-go-on, machines-end}
+use Rattle.reading.proofs.CountLaws.{MachinesLeft, machines_begin, machines_stop, machines_go_on, machines_end}
 use Rattle.reading.proofs.check_machines_in.Statement.{statement}
 use Rattle.reading.proofs.check_machines_in.Tie as tie
 
@@ -34,7 +34,7 @@ same_length : tie.Need-same-length invariant-loop decreases-loop
 same_length c = c.before.before.before.before.keys.given ∙ c.before.before.before.before.before.before.before.before.loop.invariant.long
 
 returns : tie.Need-returns invariant-loop decreases-loop
-returns c = let h = c.before.before.before.before.before.before.before.before.loop.invariant in machines-stop _ _ _ _ _ _ _ h.left c.before.before.before.before.before.before.before.loop-test.true _ _ (c.before.before.before.before.before.check-machine.ensures.0 h.left.plant h.left.counts.types h.left.counts.rows h.left.numbered) _ c.before.end.given.1
+returns c = let h = c.before.before.before.before.before.before.before.before.loop.invariant in machines_stop _ _ _ _ _ _ _ h.left c.before.before.before.before.before.before.before.loop-test.true _ _ (c.before.before.before.before.before.check-machine.ensures.0 h.left.plant h.left.counts.types h.left.counts.rows h.left.numbered) _ c.before.end.given.1
 
 enum-known-end-2 : tie.Need-enum-known-end-2 invariant-loop decreases-loop
 enum-known-end-2 c = search rules
@@ -52,14 +52,14 @@ loop-again c =
       within = omega arith;
       few_rows = c.before.before.before.before.before.check-machine.ensures.1;
       long = c.before.before.before.before.keys.given ∙ h.long;
-      left = machines-go-on _ _ _ _ _ _ _ h.left c.before.before.before.before.before.before.before.loop-test.true _ _ (c.before.before.before.before.before.check-machine.ensures.0 h.left.plant h.left.counts.types h.left.counts.rows h.left.numbered) _ c.before.end2.given.1;
+      left = machines_go_on _ _ _ _ _ _ _ h.left c.before.before.before.before.before.before.before.loop-test.true _ _ (c.before.before.before.before.before.check-machine.ensures.0 h.left.plant h.left.counts.types h.left.counts.rows h.left.numbered) _ c.before.end2.given.1;
     }
 
 same-length-2 : tie.Need-same-length-2 invariant-loop decreases-loop
 same-length-2 c = c.before.loop.invariant.long
 
 returns-2 : tie.Need-returns-2 invariant-loop decreases-loop
-returns-2 c = let h = c.before.loop.invariant in machines-end _ _ _ _ _ _ _ h.left h.within c.loop-test.false
+returns-2 c = let h = c.before.loop.invariant in machines_end _ _ _ _ _ _ _ h.left h.within c.loop-test.false
 
 pub check_machines_in_spec : {M : Type 1} → statement M
 check_machines_in_spec =

@@ -11,7 +11,7 @@ use Rattle.plant_rows.specs.Rows.{row_found}
 use Rattle.plant.proofs.Told.{told}
 use Rattle.plant.proofs.Gives.{given_found}
 use Rattle.plant.proofs.Takes.{row_takes}
-use Rattle.reading.proofs.CountLaws.{RowsLeft, rows_begin, rows-stop, rows-twin, rows-go-on, rows_end}
+use Rattle.reading.proofs.CountLaws.{RowsLeft, rows_begin, rows_stop, rows_twin, rows_go_on, rows_end}
 use Rattle.reading.proofs.check_rows.Statement.{statement}
 use Rattle.reading.proofs.check_rows.Tie as tie
 
@@ -41,7 +41,7 @@ same_length : tie.Need-same-length invariant-loop decreases-loop
 same_length c = c.before.before.before.before.before.loop.invariant.long
 
 returns : tie.Need-returns invariant-loop decreases-loop
-returns c = λ m p t none. rows-stop _ m _ _ _ p _ _ _ _ _ (c.before.before.before.before.before.loop.invariant.rest m p t none) c.before.before.before.before.loop-test.true _ (told (row_found m) (c.before.before.before.row_at.ensures m) c.before.step.given.1)
+returns c = λ m p t none. rows_stop _ m _ _ _ p _ _ _ _ _ (c.before.before.before.before.before.loop.invariant.rest m p t none) c.before.before.before.before.loop-test.true _ (told (row_found m) (c.before.before.before.row_at.ensures m) c.before.step.given.1)
 
 enum-known-step-2 : tie.Need-enum-known-step-2 invariant-loop decreases-loop
 enum-known-step-2 c = search rules
@@ -58,7 +58,7 @@ same-length-2 c = c.before.before.before.keep_row.ensures.long ∙ c.before.befo
 
 returns-2 : tie.Need-returns-2 invariant-loop decreases-loop
 returns-2 c =
-    λ m p t none. rows-twin _ m _ _ _ p _ _ _ _ _ (c.before.before.before.before.before.before.before.before.before.before.loop.invariant.rest m p t none) _ _ (told (row_found m) (c.before.before.before.before.before.before.before.before.row_at.ensures m) c.before.before.before.before.before.before.step2.given.1) _ _ c.before.before.before.keep_row.ensures c.before.before.before.before.before.before.before.before.before.loop-test.true c.if1.true
+    λ m p t none. rows_twin _ m _ _ _ p _ _ _ _ _ (c.before.before.before.before.before.before.before.before.before.before.loop.invariant.rest m p t none) _ _ (told (row_found m) (c.before.before.before.before.before.before.before.before.row_at.ensures m) c.before.before.before.before.before.before.step2.given.1) _ _ c.before.before.before.keep_row.ensures c.before.before.before.before.before.before.before.before.before.loop-test.true c.if1.true
 
 add-i : tie.Need-overflow-add-i invariant-loop decreases-loop
 add-i c = search rules
@@ -75,7 +75,7 @@ loop-again c =
       within = omega arith;
       long = c.before.before.before.keep_row.ensures.long ∙ h.long;
       behind = omega (arith, t.0, h.behind);
-      rest = λ m p t none. rows-go-on _ m _ _ _ p _ _ _ _ _ (h.rest m p t none) _ _ (told (row_found m) (c.before.before.before.before.before.before.before.before.row_at.ensures m) c.before.before.before.before.before.before.step2.given.1) _ _ c.before.before.before.keep_row.ensures c.before.before.before.before.before.before.before.before.before.loop-test.true c.if1.false;
+      rest = λ m p t none. rows_go_on _ m _ _ _ p _ _ _ _ _ (h.rest m p t none) _ _ (told (row_found m) (c.before.before.before.before.before.before.before.before.row_at.ensures m) c.before.before.before.before.before.before.step2.given.1) _ _ c.before.before.before.keep_row.ensures c.before.before.before.before.before.before.before.before.before.loop-test.true c.if1.false;
     }
 
 same-length-3 : tie.Need-same-length-3 invariant-loop decreases-loop

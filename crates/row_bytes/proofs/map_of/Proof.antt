@@ -1,7 +1,7 @@
 -- `map_of` meets its contract: a kind times 4 is its bit, and progress times 16.
 use borrow.Author.Rules.{rules}
 use native.Mathlib.Omega.{arith}
-use Rattle.row_bytes.proofs.RowLaws.{kind-bits, progress_bit}
+use Rattle.row_bytes.proofs.RowLaws.{kind_bits, progress_bit}
 use Rattle.row_bytes.proofs.map_of.Statement.{statement}
 use Rattle.row_bytes.proofs.map_of.Tie as tie
 
@@ -33,7 +33,7 @@ add-result-3 : tie.Need-overflow-add-result-3
 add-result-3 c = search rules
 
 returns : tie.Need-returns
-returns c = let a = c.before.before.args in omega (arith, c.before.bit.ensures.0, c.bit2.ensures.0, kind-bits a.kind c.before.before.requires.0, progress_bit a.progress c.before.before.requires.1)
+returns c = let a = c.before.before.args in omega (arith, c.before.bit.ensures.0, c.bit2.ensures.0, kind_bits a.kind c.before.before.requires.0, progress_bit a.progress c.before.before.requires.1)
 
 pub map_of_spec : {M : Type 1} → statement M
 map_of_spec =

@@ -3,7 +3,7 @@ use borrow.Author.Rules.{rules}
 use mathlib.Core.Path.{sym, ◌∙◌}
 use Prim.Native.Nat.{◌+◌}
 use borrow.Author.Tests.{not-true, not-false}
-use Rattle.plant_lists.proofs.RowLaws.{passes_inside, wrong_first, wrong_second, wrong-third, wrong-fourth, wrong-fifth, wrong-sixth}
+use Rattle.plant_lists.proofs.RowLaws.{passes_inside, wrong_first, wrong_second, wrong_third, wrong_fourth, wrong_fifth, wrong_sixth}
 use Rattle.row_numbers.proofs.first_wrong.Statement.{statement}
 use Rattle.row_numbers.proofs.first_wrong.Tie as tie
 
@@ -15,7 +15,7 @@ returns c =
     let a = c.before.before.before.args in
     λ m.
     wrong_first m a.states a.types a.numbers.now a.at
-    (sym c.before.number-passes.ensures ∙ not-true _ c.if1.true)
+    (sym c.before.number_passes.ensures ∙ not-true _ c.if1.true)
 
 add-number-passes : tie.Need-overflow-add-number-passes
 add-number-passes c = search rules
@@ -31,7 +31,7 @@ returns-2 c =
     let a = c.before.before.before.before.before.args in
     λ m.
     wrong_second m a.states a.types a.numbers.now a.at
-    (sym c.before.before.before.number-passes.ensures ∙ not-false _ c.before.before.if1.false)
+    (sym c.before.before.before.number_passes.ensures ∙ not-false _ c.before.before.if1.false)
     (sym c.before.number-passes2.ensures ∙ not-true _ c.if2.true)
 
 add-number-passes-2 : tie.Need-overflow-add-number-passes-2
@@ -47,8 +47,8 @@ returns-3 : tie.Need-returns-3
 returns-3 c =
     let a = c.before.before.before.before.before.before.before.args in
     λ m.
-    wrong-third m a.states a.types a.numbers.now a.at
-    (sym c.before.before.before.before.before.number-passes.ensures ∙ not-false _ c.before.before.before.before.if1.false)
+    wrong_third m a.states a.types a.numbers.now a.at
+    (sym c.before.before.before.before.before.number_passes.ensures ∙ not-false _ c.before.before.before.before.if1.false)
     (sym c.before.before.before.number-passes2.ensures ∙ not-false _ c.before.before.if2.false)
     (sym c.before.number-passes3.ensures ∙ not-true _ c.if3.true)
 
@@ -77,8 +77,8 @@ returns-4 : tie.Need-returns-4
 returns-4 c =
     let a = c.before.before.before.before.before.before.before.before.before.before.before.args in
     λ m.
-    wrong-fourth m a.states a.types a.numbers.now a.at
-    (sym c.before.before.before.before.before.before.before.before.before.number-passes.ensures ∙ not-false _ c.before.before.before.before.before.before.before.before.if1.false)
+    wrong_fourth m a.states a.types a.numbers.now a.at
+    (sym c.before.before.before.before.before.before.before.before.before.number_passes.ensures ∙ not-false _ c.before.before.before.before.before.before.before.before.if1.false)
     (sym c.before.before.before.before.before.before.before.number-passes2.ensures ∙ not-false _ c.before.before.before.before.before.before.if2.false)
     (sym c.before.before.before.before.before.number-passes3.ensures ∙ not-false _ c.before.before.before.before.if3.false)
     ((rw c.before.before.type-end.ensures at (sym c.before.number-passes4.ensures)) ∙ not-true _ c.if4.true)
@@ -96,8 +96,8 @@ returns-5 : tie.Need-returns-5
 returns-5 c =
     let a = c.before.before.before.before.before.before.before.before.before.before.before.before.before.args in
     λ m.
-    wrong-fifth m a.states a.types a.numbers.now a.at
-    (sym c.before.before.before.before.before.before.before.before.before.before.before.number-passes.ensures ∙ not-false _ c.before.before.before.before.before.before.before.before.before.before.if1.false)
+    wrong_fifth m a.states a.types a.numbers.now a.at
+    (sym c.before.before.before.before.before.before.before.before.before.before.before.number_passes.ensures ∙ not-false _ c.before.before.before.before.before.before.before.before.before.before.if1.false)
     (sym c.before.before.before.before.before.before.before.before.before.number-passes2.ensures ∙ not-false _ c.before.before.before.before.before.before.before.before.if2.false)
     (sym c.before.before.before.before.before.before.before.number-passes3.ensures ∙ not-false _ c.before.before.before.before.before.before.if3.false)
     ((rw c.before.before.before.before.type-end.ensures at (sym c.before.before.before.number-passes4.ensures)) ∙ not-false _ c.before.before.if4.false)
@@ -110,8 +110,8 @@ returns-6 : tie.Need-returns-6
 returns-6 c =
     let a = c.before.before.before.before.before.before.before.before.before.before.before.before.before.args in
     λ m.
-    wrong-sixth m a.states a.types a.numbers.now a.at
-    (sym c.before.before.before.before.before.before.before.before.before.before.before.number-passes.ensures ∙ not-false _ c.before.before.before.before.before.before.before.before.before.before.if1.false)
+    wrong_sixth m a.states a.types a.numbers.now a.at
+    (sym c.before.before.before.before.before.before.before.before.before.before.before.number_passes.ensures ∙ not-false _ c.before.before.before.before.before.before.before.before.before.before.if1.false)
     (sym c.before.before.before.before.before.before.before.before.before.number-passes2.ensures ∙ not-false _ c.before.before.before.before.before.before.before.before.if2.false)
     (sym c.before.before.before.before.before.before.before.number-passes3.ensures ∙ not-false _ c.before.before.before.before.before.before.if3.false)
     ((rw c.before.before.before.before.type-end.ensures at (sym c.before.before.before.number-passes4.ensures)) ∙ not-false _ c.before.before.if4.false)

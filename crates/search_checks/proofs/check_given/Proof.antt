@@ -1,5 +1,5 @@
 -- `check_given` meets its contract: each refusal is the first of the checks 30, 20, 21 and 9 that fails.
-use Rattle.search_checks.proofs.GivenLaws.{refuse_types, refuse-allowed, refuse-contents, refuse-output, refuse_none}
+use Rattle.search_checks.proofs.GivenLaws.{refuse_types, refuse_allowed, refuse_contents, refuse_output, refuse_none}
 use Rattle.contents.specs.declared.Check.{Check}
 use Rattle.contents.specs.Checks.{check_found}
 use native.Mathlib.Omega.{arith}
@@ -22,7 +22,7 @@ refused-requires-2 c κs = search rules
 returns-2 : tie.Need-returns-2
 returns-2 c =
     let a = c.before.before.before.before.args in
-    λ P end t. c.refused2.ensures P end ∙ refuse-allowed a.contents.now a.allowed a.room P end (omega (arith, t, c.before.before.if1.false)) (omega (arith, c.before.if2.true))
+    λ P end t. c.refused2.ensures P end ∙ refuse_allowed a.contents.now a.allowed a.room P end (omega (arith, t, c.before.before.if1.false)) (omega (arith, c.before.if2.true))
 
 check-numbers-requires : tie.Need-check-numbers-requires
 check-numbers-requires c κs = search rules
@@ -39,12 +39,12 @@ refused-requires-3 c κs = search rules
 returns-3 : tie.Need-returns-3
 returns-3 c =
     let a = c.before.before.before.before.before.before.before.before.args in
-    λ P end t. c.refused3.ensures P end ∙ refuse-output a.contents.now a.allowed a.room P end (omega (arith, t, c.before.before.before.before.before.before.if1.false)) (omega (arith, c.before.before.before.before.before.if2.false)) c.before.before.before.before.check-numbers.result (λ Q e q. c.before.before.before.before.check-numbers.ensures Q e (q ∙ t)) (ap (λ (x : Check). check_found x P end) c.before.before.enum_told.given.1) (λ e. c.before.if3.true (e ∙ t))
+    λ P end t. c.refused3.ensures P end ∙ refuse_output a.contents.now a.allowed a.room P end (omega (arith, t, c.before.before.before.before.before.before.if1.false)) (omega (arith, c.before.before.before.before.before.if2.false)) c.before.before.before.before.check-numbers.result (λ Q e q. c.before.before.before.before.check-numbers.ensures Q e (q ∙ t)) (ap (λ (x : Check). check_found x P end) c.before.before.enum_told.given.1) (λ e. c.before.if3.true (e ∙ t))
 
 returns-4 : tie.Need-returns-4
 returns-4 c =
     let a = c.before.before.before.before.before.before.before.args in
-    λ P end t. refuse-contents a.contents.now a.allowed a.room P end (omega (arith, t, c.before.before.before.before.before.if1.false)) (omega (arith, c.before.before.before.before.if2.false)) c.before.before.before.check-numbers.result (λ Q e q. c.before.before.before.check-numbers.ensures Q e (q ∙ t)) _ _ (ap (λ (x : Check). check_found x P end) c.before.checked.given.1)
+    λ P end t. refuse_contents a.contents.now a.allowed a.room P end (omega (arith, t, c.before.before.before.before.before.if1.false)) (omega (arith, c.before.before.before.before.if2.false)) c.before.before.before.check-numbers.result (λ Q e q. c.before.before.before.check-numbers.ensures Q e (q ∙ t)) _ _ (ap (λ (x : Check). check_found x P end) c.before.checked.given.1)
 
 returns-5 : tie.Need-returns-5
 returns-5 c =

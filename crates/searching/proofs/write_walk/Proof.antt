@@ -6,7 +6,7 @@ use Rattle.edge_lists.specs.EdgeLists.{edge_in, HasEdge}
 use Rattle.deciding.specs.Rounds.{edge_graph}
 use Rattle.closed_walks.specs.ClosedWalks.{FirstEdge}
 use Rattle.closed_walks.proofs.WalkLaws.{edges_searchable}
-use Rattle.searching.proofs.SearchLaws.{Walking, walk_begins, walk-in, walk-leads, walk-goes-on, walk-closed}
+use Rattle.searching.proofs.SearchLaws.{Walking, walk_begins, walk_in, walk_leads, walk_goes_on, walk_closed}
 use Rattle.searching.proofs.write_walk.Statement.{statement}
 use Rattle.searching.proofs.write_walk.Tie as tie
 
@@ -29,7 +29,7 @@ sub-index-u8-2 c = omega (arith, c.loop-test.true)
 edge_low : (c : tie.In-loop invariant-loop decreases-loop) → (c.before.before.before.before.args.k - c.before.loop.i - 1) * 64 + c.before.loop.s < 64 * c.before.before.before.before.args.states
 edge_low c =
     let p = c.before.before.before.before.requires in
-    omega (arith, p.1.few, p.0.states_in, c.loop-test.true, walk-in (edges_searchable p.0) p.1 c.before.loop.invariant)
+    omega (arith, p.1.few, p.0.states_in, c.loop-test.true, walk_in (edges_searchable p.0) p.1 c.before.loop.invariant)
 
 mul-index-u8 : tie.Need-overflow-mul-index-u8 invariant-loop decreases-loop
 mul-index-u8 c = record { fits = omega (arith, edge_low c, c.before.before.before.before.requires.0.states_in) }
@@ -48,7 +48,7 @@ leads : (c : tie.After-index-u8 invariant-loop decreases-loop)
     → FirstEdge (edge_graph c.before.before.before.before.before.before.args.count c.before.before.before.before.before.before.args.edges.now) c.before.before.before.before.before.before.args.start (c.before.before.before.before.before.before.args.k - c.before.before.before.loop.i - 1) c.before.before.before.loop.s c.index-u8.result
 leads c =
     let p = c.before.before.before.before.before.before.requires in
-    rw c.index-u8.ensures (walk-leads (edges_searchable p.0) p.1 c.before.before.before.loop.invariant c.before.before.before.before.before.before.args.noted.now (omega (arith, c.before.before.loop-test.true)) p.2)
+    rw c.index-u8.ensures (walk_leads (edges_searchable p.0) p.1 c.before.before.before.loop.invariant c.before.before.before.before.before.before.args.noted.now (omega (arith, c.before.before.loop-test.true)) p.2)
 
 -- It stands in the list.
 edge_there : (c : tie.After-index-u8 invariant-loop decreases-loop) → HasEdge c.before.before.before.before.before.before.args.edges.now c.index-u8.result
@@ -79,13 +79,13 @@ loop-less c = omega (arith, c.before.before.before.before.loop-test.true)
 loop-again : tie.Need-loop-preserved invariant-loop decreases-loop
 loop-again c =
     let p = c.before.before.before.before.before.before.before.before.requires in
-    rw (c.to-of.ensures, c.before.row_of.ensures) (walk-goes-on (edges_searchable p.0) p.1 c.before.before.before.before.before.loop.invariant (omega (arith, c.before.before.before.before.loop-test.true)) p.4 _ (leads c.before.before))
+    rw (c.to-of.ensures, c.before.row_of.ensures) (walk_goes_on (edges_searchable p.0) p.1 c.before.before.before.before.before.loop.invariant (omega (arith, c.before.before.before.before.loop-test.true)) p.4 _ (leads c.before.before))
 
 same_length : tie.Need-same-length invariant-loop decreases-loop
 same_length c = c.before.loop.invariant.kept
 
 returns : tie.Need-returns invariant-loop decreases-loop
-returns c = let p = c.before.before.before.before.requires in walk-closed (edges_searchable p.0) p.1 c.before.loop.invariant (omega (arith, c.loop-test.false))
+returns c = let p = c.before.before.before.before.requires in walk_closed (edges_searchable p.0) p.1 c.before.loop.invariant (omega (arith, c.loop-test.false))
 
 pub write_walk_spec : {M : Type 1} → statement M
 write_walk_spec =

@@ -11,7 +11,7 @@ use Rattle.livelock.specs.Plants.{Row}
 use Rattle.tables.specs.Tables.{RoomFor}
 use Rattle.set_numbers.specs.Numbers.{part}
 use Rattle.set_entries.specs.Inner.Steps.{goes_on, leads}
-use Rattle.set_entries.proofs.LeadingLaws.{row-fails, row-passes, rows_done}
+use Rattle.set_entries.proofs.LeadingLaws.{row_fails, row_passes, rows_done}
 use borrow.Author.Rules.{rules}
 use Rattle.set_entries.proofs.is_quiet_cycle.Statement.{statement}
 use Rattle.set_entries.proofs.is_quiet_cycle.Tie as tie
@@ -72,7 +72,7 @@ returns c =
     let a = c.before.before.before.before.before.before.before.before.before.before.before in
     let l = c.before.before.before.before.before.before.loop in
     let is = c.before.goes_on.ensures ∙ ap (λ (r : Row). goes_on r a.args.m l.state l.seen) c.before.before.before.row_in.ensures in
-    row-fails a.args.table.now a.args.set.now a.args.m c.before.before.before.before.before.before.before.left-of.result l.state l.seen l.i a.args.end _
+    row_fails a.args.table.now a.args.set.now a.args.m c.before.before.before.before.before.before.before.left-of.result l.state l.seen l.i a.args.end _
     (whole a.args.table.now a.args.m l.state l.seen (part a.args.set.now l.i a.args.end) (part a.args.set.now a.args.at a.args.end) c.before.before.before.before.before.before.before.left-of.ensures l.invariant.4)
     c.before.before.before.before.before.loop-test.true a.requires.1.there c.before.goes_on.result is (not-true _ c.if1.true)
 
@@ -99,7 +99,7 @@ loop-again c =
       search rules,
       length-set l.seen l.state _ ∙ l.invariant.3,
       rw enters
-          (row-passes a.args.table.now a.args.set.now a.args.m c.before.before.before.before.before.before.before.left-of.result l.state l.seen l.i a.args.end _ l.invariant.4
+          (row_passes a.args.table.now a.args.set.now a.args.m c.before.before.before.before.before.before.before.left-of.result l.state l.seen l.i a.args.end _ l.invariant.4
           c.before.before.before.before.before.loop-test.true a.requires.1.there c.before.goes_on.result is (not-false _ c.if1.false)),
     )
 

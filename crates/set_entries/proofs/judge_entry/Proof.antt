@@ -7,7 +7,7 @@ use Rattle.plant.specs.Found.{found}
 use Rattle.plant.proofs.Told.{told}
 use Rattle.set_numbers.specs.Numbers.{rows_at, value_found, part}
 use Rattle.set_numbers.proofs.NumberLaws.{number_read}
-use Rattle.set_entries.proofs.EntryLaws.{ThreeRead, three_read, numbers_stop, rows-stop, some_row, rows_below, entry-ended}
+use Rattle.set_entries.proofs.EntryLaws.{ThreeRead, three_read, numbers_stop, rows_stop, some_row, rows_below, entry_ended}
 use borrow.Author.Rules.{rules}
 use Rattle.set_entries.proofs.judge_entry.Statement.{statement}
 use Rattle.set_entries.proofs.judge_entry.Tie as tie
@@ -75,7 +75,7 @@ enum-known-rows-read c = search rules
 returns-2 : tie.Need-returns-2
 returns-2 c =
     let a = c.before.before.before.before.before.before.before.before.before.before.args in
-    rows-stop c.before.before.before.before.before.before.before.before.before.before.args.table.now a.rows a.machines a.set.now a.first (numbers c.before.before.before.before.before) _ _ (told (value_found (part a.set.now (a.first + 3) (a.first + 3 + get_or a.set.now (a.first + 2) 0))) c.before.before.before.rows_in.ensures c.before.rows_read.given.1)
+    rows_stop c.before.before.before.before.before.before.before.before.before.before.args.table.now a.rows a.machines a.set.now a.first (numbers c.before.before.before.before.before) _ _ (told (value_found (part a.set.now (a.first + 3) (a.first + 3 + get_or a.set.now (a.first + 2) 0))) c.before.before.before.rows_in.ensures c.before.rows_read.given.1)
 
 enum-told-2 : tie.Need-enum-told-2
 enum-told-2 c = search rules
@@ -91,7 +91,7 @@ entry-ends-requires c κs =
 returns-3 : tie.Need-returns-3
 returns-3 c =
     let a = c.before.before.before.before.before.before.before.before.before.before.args in
-    entry-ended c.before.before.before.before.before.before.before.before.before.before.args.table.now a.rows a.machines a.set.now a.first (numbers c.before.before.before.before.before) _ (rows c.before) c.entry-ends.result c.entry-ends.ensures
+    entry_ended c.before.before.before.before.before.before.before.before.before.before.args.table.now a.rows a.machines a.set.now a.first (numbers c.before.before.before.before.before) _ (rows c.before) c.entry-ends.result c.entry-ends.ensures
 
 pub judge_entry_spec : {M : Type 1} → statement M
 judge_entry_spec =

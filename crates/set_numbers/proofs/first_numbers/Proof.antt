@@ -12,8 +12,8 @@ use Rattle.set_numbers.proofs.first_numbers.Statement.{statement}
 use Rattle.set_numbers.proofs.first_numbers.Tie as tie
 
 -- The machine that was read, and the repeats.
-machine-read : (c : tie.After-enum-told) → number_in 0 c.before.before.before.before.args.machines c.before.before.before.before.args.set.now c.before.before.before.before.args.first ≡ found (get_or c.before.before.before.before.args.set.now c.before.before.before.before.args.first 0) (c.before.before.before.before.args.first + 1)
-machine-read c =
+machine_read : (c : tie.After-enum-told) → number_in 0 c.before.before.before.before.args.machines c.before.before.before.before.args.set.now c.before.before.before.before.args.first ≡ found (get_or c.before.before.before.before.args.set.now c.before.before.before.before.args.first 0) (c.before.before.before.before.args.first + 1)
+machine_read c =
     let a = c.before.before.before.before.args in
     (settled a.set.now 0 a.machines a.first a.first _ _ (a.first + 1) (told (value_found (get_or a.set.now a.first 0)) c.before.before.number_in.ensures c.enum_told.given.1) refl refl).0
 
@@ -31,7 +31,7 @@ enum-known-machine-read c = search rules
 returns : tie.Need-returns
 returns c =
     let a = c.before.before.before.before.before.args in
-    no_machine a.machines a.set.now a.first _ _ (told (value_found (get_or a.set.now a.first 0)) c.before.before.before.number_in.ensures c.before.machine-read.given.1)
+    no_machine a.machines a.set.now a.first _ _ (told (value_found (get_or a.set.now a.first 0)) c.before.before.before.number_in.ensures c.before.machine_read.given.1)
 
 enum_told : tie.Need-enum-told
 enum_told c = search rules
@@ -48,7 +48,7 @@ enum-known-repeats-read c = search rules
 returns-2 : tie.Need-returns-2
 returns-2 c =
     let a = c.before.before.before.before.before.before.before.before.args in
-    no_repeats a.machines a.set.now a.first (machine-read c.before.before.before.before) _ _ (told (value_found (get_or a.set.now (a.first + 1) 0)) c.before.before.before.repeats-in.ensures c.before.repeats_read.given.1)
+    no_repeats a.machines a.set.now a.first (machine_read c.before.before.before.before) _ _ (told (value_found (get_or a.set.now (a.first + 1) 0)) c.before.before.before.repeats-in.ensures c.before.repeats_read.given.1)
 
 enum-told-2 : tie.Need-enum-told-2
 enum-told-2 c = search rules
@@ -62,7 +62,7 @@ number-in-requires-2 c κs = search rules
 returns-3 : tie.Need-returns-3
 returns-3 c =
     let a = c.before.before.before.before.before.before.before.before.args in
-    c.number-in2.ensures ∙ count_next a.machines a.set.now a.first (machine-read c.before.before.before.before) (repeats_read c.before)
+    c.number-in2.ensures ∙ count_next a.machines a.set.now a.first (machine_read c.before.before.before.before) (repeats_read c.before)
 
 pub first_numbers_spec : {M : Type 1} → statement M
 first_numbers_spec =

@@ -6,7 +6,7 @@ use native.Mathlib.Omega.{arith}
 use lib.ListN.{get_or}
 use Rattle.plant.proofs.Told.{told}
 use Rattle.set_numbers.specs.Numbers.{value_found}
-use Rattle.set_numbers.proofs.NumberLaws.{number_missing, NumberRead, number_read, RowsSoFar, rows_begin, row-stops, row-goes-on, rows_end}
+use Rattle.set_numbers.proofs.NumberLaws.{number_missing, NumberRead, number_read, RowsSoFar, rows_begin, row_stops, row_goes_on, rows_end}
 use borrow.Author.Rules.{rules}
 use Rattle.set_numbers.proofs.rows_in.Statement.{statement}
 use Rattle.set_numbers.proofs.rows_in.Tie as tie
@@ -53,14 +53,14 @@ rows-again c =
     let r = next_row c in (
       omega (arith, r.next_is, i.invariant.0),
       omega (arith, r.next_is, row_comes c.before.before.before.before),
-      row-goes-on a.rows a.set.now a.at a.end i.i i.invariant.0 i.invariant.2 (row_comes c.before.before.before.before) _ (told (value_found (get_or a.set.now i.i 0)) c.before.before.before.number_in.ensures c.before.step2.given.1),
+      row_goes_on a.rows a.set.now a.at a.end i.i i.invariant.0 i.invariant.2 (row_comes c.before.before.before.before) _ (told (value_found (get_or a.set.now i.i 0)) c.before.before.before.number_in.ensures c.before.step2.given.1),
     )
 
 returns : tie.Need-returns invariant-rows decreases-rows
 returns c =
     let a = c.before.before.before.before.before.args in
     let i = c.before.before.rows in
-    row-stops a.rows a.set.now a.at a.end i.i i.invariant.0 i.invariant.2 (omega (arith, c.if2.true)) _ _ (sym (number_missing 0 a.rows a.set.now i.i (omega (arith, c.if2.true, c.before.if1.true, c.before.before.before.lesser.ensures))))
+    row_stops a.rows a.set.now a.at a.end i.i i.invariant.0 i.invariant.2 (omega (arith, c.if2.true)) _ _ (sym (number_missing 0 a.rows a.set.now i.i (omega (arith, c.if2.true, c.before.if1.true, c.before.before.before.lesser.ensures))))
 
 returns-2 : tie.Need-returns-2 invariant-rows decreases-rows
 returns-2 c =
@@ -72,7 +72,7 @@ returns-3 : tie.Need-returns-3 invariant-rows decreases-rows
 returns-3 c =
     let a = c.before.before.before.before.before.before.before.before.args in
     let i = c.before.before.before.before.before.rows in
-    row-stops a.rows a.set.now a.at a.end i.i i.invariant.0 i.invariant.2 (row_comes c.before.before.before.before) _ _ (told (value_found (get_or a.set.now i.i 0)) c.before.before.before.number_in.ensures c.before.step.given.1)
+    row_stops a.rows a.set.now a.at a.end i.i i.invariant.0 i.invariant.2 (row_comes c.before.before.before.before) _ _ (told (value_found (get_or a.set.now i.i 0)) c.before.before.before.number_in.ensures c.before.step.given.1)
 
 pub rows_in_spec : {M : Type 1} → statement M
 rows_in_spec =

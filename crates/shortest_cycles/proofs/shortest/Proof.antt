@@ -5,9 +5,9 @@ use Prim.Native.Nat.{◌-◌}
 use native.Mathlib.Omega.{arith}
 use lib.ListN.{length}
 use Rattle.decoding.specs.Tables.{plant_of}
-use Rattle.machines.proofs.TurnLaws.{turn-edges}
+use Rattle.machines.proofs.TurnLaws.{turn_edges}
 use Rattle.shortest_cycles.specs.Inner.Turns.{ShortestOf}
-use Rattle.shortest_cycles.proofs.ShortestLaws.{first-searched, turn_searched, all_searched}
+use Rattle.shortest_cycles.proofs.ShortestLaws.{first_searched, turn_searched, all_searched}
 use Rattle.shortest_cycles.proofs.shortest.Statement.{statement}
 use Rattle.shortest_cycles.proofs.shortest.Tie as tie
 
@@ -27,7 +27,7 @@ index-u8-requires c κs = search rules
 show-requires : tie.Need-show-requires invariant-loop decreases-loop
 show-requires c κs =
     let p = c.before.before.before.before.before.before.before.requires in
-    (turn-edges _ _ _ p.0.weighable _ p.0.within _ _ refl refl _ _ (p.0.failing.fails p.0.within).listed _ c.before.before.index-u8.ensures, search rules, p.1)
+    (turn_edges _ _ _ p.0.weighable _ p.0.within _ _ refl refl _ _ (p.0.failing.fails p.0.within).listed _ c.before.before.index-u8.ensures, search rules, p.1)
 
 add-m : tie.Need-overflow-add-m invariant-loop decreases-loop
 add-m c = let p = c.before.before.before.before.before.before.before.before.before.before.requires in record { fits = omega (arith, p.0.within, p.0.weighable.ready.sound.few_machines) }
@@ -35,8 +35,8 @@ add-m c = let p = c.before.before.before.before.before.before.before.before.befo
 loop-holds : tie.Need-loop-init invariant-loop decreases-loop
 loop-holds c =
     let p = c.before.before.before.before.before.before.before.before.before.before.requires in
-    let in-edges = turn-edges _ _ _ p.0.weighable _ p.0.within _ _ refl refl _ _ (p.0.failing.fails p.0.within).listed _ c.before.before.before.before.before.index-u8.ensures in
-    (first-searched _ _ _ p.0.weighable _ p.0.within (p.0.failing.fails p.0.within) p.0.failing in-edges c.before.before.show.ensures, refl, refl)
+    let in-edges = turn_edges _ _ _ p.0.weighable _ p.0.within _ _ refl refl _ _ (p.0.failing.fails p.0.within).listed _ c.before.before.before.before.before.index-u8.ensures in
+    (first_searched _ _ _ p.0.weighable _ p.0.within (p.0.failing.fails p.0.within) p.0.failing in-edges c.before.before.show.ensures, refl, refl)
 
 first-failing-requires : tie.Need-first-failing-requires invariant-loop decreases-loop
 first-failing-requires c κs =
@@ -48,7 +48,7 @@ shorter-requires c κs =
     let p = c.before.before.before.before.before.before.before.before.before.before.before.before.before.before.before.before.before.requires in
     let l = c.before.before.before.before.before.before.loop in
     let next = c.before.before.before.first-failing.ensures in
-    ((next.within, p.0.weighable.ready.sound.few_machines, λ within. turn-edges _ _ _ p.0.weighable _ within _ _ refl refl _ _ (next.fails within).listed _ refl), l.invariant.0.some_row, omega (arith, l.invariant.2, c.before.before.before.before.before.before.before.before.rows.given, p.1))
+    ((next.within, p.0.weighable.ready.sound.few_machines, λ within. turn_edges _ _ _ p.0.weighable _ within _ _ refl refl _ _ (next.fails within).listed _ refl), l.invariant.0.some_row, omega (arith, l.invariant.2, c.before.before.before.before.before.before.before.before.rows.given, p.1))
 
 add-m-2 : tie.Need-overflow-add-m-2 invariant-loop decreases-loop
 add-m-2 c = record { fits = omega (arith, c.before.before.before.before.before.before.before.first-failing.ensures.within, c.before.before.before.before.before.before.before.before.before.before.before.before.before.before.before.before.before.before.before.before.before.requires.0.weighable.ready.sound.few_machines) }

@@ -6,7 +6,7 @@ use native.Mathlib.Omega.{arith}
 use lib.Bits.{bit_and, bit_xor, and_le_r, or_lt, xor_lt}
 use lib.Count.{count_trailing_zeros}
 use Rattle.graphs.specs.Graphs.{into_of}
-use Rattle.state_marks.proofs.BitLaws.{Growing, growing_begins, growing-step, growing_ends, closed_same, trailing_below}
+use Rattle.state_marks.proofs.BitLaws.{Growing, growing_begins, growing_step, growing_ends, closed_same, trailing_below}
 use Rattle.state_marks.proofs.without_dead_ends.Statement.{statement}
 use Rattle.state_marks.proofs.without_dead_ends.Tie as tie
 
@@ -64,7 +64,7 @@ loop-again c =
       omega (arith, l.invariant.0, c.before.before.if1.false),
       or_lt 32 c.turned.result _ c.turned.type-inv (more_below c.before),
       or_lt 32 l.live _ l.invariant.2 (more_below c.before),
-      rw c.before.into-of2.ensures (growing-step (into_of a.graph.now) a.start (bit_xor a.marks 16777215) l.live l.todo (count_trailing_zeros 32 l.todo) c.turned.result l.invariant.3 c.turned.ensures),
+      rw c.before.into-of2.ensures (growing_step (into_of a.graph.now) a.start (bit_xor a.marks 16777215) l.live l.todo (count_trailing_zeros 32 l.todo) c.turned.result l.invariant.3 c.turned.ensures),
     )
 
 returns-2 : tie.Need-returns-2 invariant-loop decreases-loop

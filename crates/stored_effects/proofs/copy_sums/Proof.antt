@@ -3,7 +3,7 @@ use mathlib.Core.Path.{◌≡◌}
 use Prim.Native.Nat.{◌-◌, ◌*◌, ◌≤◌}
 use native.Mathlib.Omega.{arith}
 use Rattle.stored_effects.specs.StoredEffects.{Copied}
-use Rattle.stored_effects.proofs.CopyLaws.{none-copied, one_more_copied}
+use Rattle.stored_effects.proofs.CopyLaws.{none_copied, one_more_copied}
 use borrow.Author.Rules.{rules}
 use Rattle.stored_effects.proofs.copy_sums.Statement.{statement}
 use Rattle.stored_effects.proofs.copy_sums.Tie as tie
@@ -15,7 +15,7 @@ abbrev decreases-loop : tie.decreases-loop
 decreases-loop sums effects₀ place message₀ effects message = 6 - message
 
 loop-holds : tie.Need-loop-init invariant-loop decreases-loop
-loop-holds c = (omega arith, none-copied _ _ _)
+loop-holds c = (omega arith, none_copied _ _ _)
 
 mul-effects : tie.Need-overflow-mul-effects invariant-loop decreases-loop
 mul-effects c = search rules

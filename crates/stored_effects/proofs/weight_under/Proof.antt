@@ -6,7 +6,7 @@ use lib.IntN.{pos}
 use mir.Syntax.{w64}
 use mir.Val.{to_z}
 use Rattle.set_sums.proofs.SizeLaws.{size_fits}
-use Rattle.stored_effects.proofs.WeightLaws.{SoFar, none_weighed, product_fits, turn-fits, one_more_weighed, all_weighed}
+use Rattle.stored_effects.proofs.WeightLaws.{SoFar, none_weighed, product_fits, turn_fits, one_more_weighed, all_weighed}
 use borrow.Author.Rules.{rules}
 use Rattle.stored_effects.proofs.weight_under.Statement.{statement}
 use Rattle.stored_effects.proofs.weight_under.Tie as tie
@@ -51,7 +51,7 @@ add-sum-2 : tie.Need-overflow-add-sum-2 invariant-loop decreases-loop
 add-sum-2 c =
     let p = c.before.before.before.before.requires in
     let l = c.before.before.before.loop in
-    turn-fits _ (get_or c.before.before.before.before.args.effects.now (6 * c.before.before.before.before.args.place + l.t) (pos 0)) (p.2 l.t) (p.0.small _) (to_z w64 l.sum) (omega (arith, l.invariant.1.size, c.before.before.loop-test.true, p.1))
+    turn_fits _ (get_or c.before.before.before.before.args.effects.now (6 * c.before.before.before.before.args.place + l.t) (pos 0)) (p.2 l.t) (p.0.small _) (to_z w64 l.sum) (omega (arith, l.invariant.1.size, c.before.before.loop-test.true, p.1))
 
 add-t : tie.Need-overflow-add-t invariant-loop decreases-loop
 add-t c = search rules

@@ -3,7 +3,7 @@ use borrow.Author.Rules.{rules}
 use mathlib.Core.Path.{refl}
 use native.Mathlib.Omega.{arith}
 use Rattle.watch_events.specs.Counting.{at_most}
-use Rattle.watch_events.proofs.CountLaws.{event-stored}
+use Rattle.watch_events.proofs.CountLaws.{event_stored}
 use Rattle.watch_events.proofs.count_event.Statement.{statement}
 use Rattle.watch_events.proofs.count_event.Tie as tie
 
@@ -44,7 +44,7 @@ returns-2 : tie.Need-returns-2
 returns-2 c =
     let a = c.before.before.before.before.before.before.args in
     let p = c.before.before.before.before.before.before.requires in
-    event-stored a.counts.now a.at a.most a.more _ p.0 p.1 p.2 (omega (arith, c.before.before.before.if1.false)) c.sum_of.ensures
+    event_stored a.counts.now a.at a.most a.more _ p.0 p.1 p.2 (omega (arith, c.before.before.before.if1.false)) c.sum_of.ensures
 
 pub count_event_spec : {M : Type 1} → statement M
 count_event_spec =

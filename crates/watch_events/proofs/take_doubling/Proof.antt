@@ -1,7 +1,7 @@
 -- `take_doubling` meets its contract: each way out is one way to answer the event.
 use borrow.Author.Rules.{rules}
 use mathlib.Core.Path.{sym, ◌∙◌}
-use Rattle.watched_runs.proofs.EventSteps.{told, steps-none-doubled}
+use Rattle.watched_runs.proofs.EventSteps.{told, steps_none_doubled}
 use Rattle.watch_events.proofs.StepLaws.{held_type, counted_told, doubling_late, doubling_taken}
 use mathlib.Core.Bool.{true, false}
 use native.Mathlib.Omega.{arith}
@@ -16,7 +16,7 @@ refusal-requires : tie.Need-refusal-requires
 refusal-requires c κs = search rules
 
 returns : tie.Need-returns
-returns c = λ table states copy. told c.refusal.ensures (steps-none-doubled _ c.before.before.before.before.args.t (sym c.before.before.has-message.ensures ∙ not-true _ c.before.if1.true))
+returns c = λ table states copy. told c.refusal.ensures (steps_none_doubled _ c.before.before.before.before.args.t (sym c.before.before.has-message.ensures ∙ not-true _ c.before.if1.true))
 
 element-copy-out-count-event : tie.Need-element-copy-out-count-event
 element-copy-out-count-event c = search rules

@@ -1,7 +1,7 @@
 -- `take_loss` meets its contract: each way out is one way to answer the event.
 use borrow.Author.Rules.{rules}
 use mathlib.Core.Path.{sym, ◌∙◌}
-use Rattle.watched_runs.proofs.EventSteps.{told, steps-none-lost, steps_lost}
+use Rattle.watched_runs.proofs.EventSteps.{told, steps_none_lost, steps_lost}
 use Rattle.watch_events.proofs.StepLaws.{held_type}
 use native.Mathlib.Omega.{arith}
 use borrow.Author.Tests.{not-true, not-false}
@@ -15,7 +15,7 @@ refusal-requires : tie.Need-refusal-requires
 refusal-requires c κs = search rules
 
 returns : tie.Need-returns
-returns c = λ table states copy. told c.refusal.ensures (steps-none-lost _ c.before.before.before.before.args.t (sym c.before.before.has-message.ensures ∙ not-true _ c.before.if1.true))
+returns c = λ table states copy. told c.refusal.ensures (steps_none_lost _ c.before.before.before.before.args.t (sym c.before.before.has-message.ensures ∙ not-true _ c.before.if1.true))
 
 cast-remove : tie.Need-overflow-cast-remove
 cast-remove c =

@@ -2,8 +2,8 @@
 use borrow.Author.Rules.{rules}
 use mathlib.Core.Path.{◌≡◌, sym, ◌∙◌}
 use lib.ListN.{length}
-use Rattle.watched_runs.proofs.EventSteps.{told, steps_no_row, steps-cannot}
-use Rattle.watch_events.proofs.StepLaws.{held-row, can_told, row_counted_told, row_late, row_taken}
+use Rattle.watched_runs.proofs.EventSteps.{told, steps_no_row, steps_cannot}
+use Rattle.watch_events.proofs.StepLaws.{held_row, can_told, row_counted_told, row_late, row_taken}
 use mathlib.Core.Bool.{true, false}
 use native.Mathlib.Omega.{arith}
 use borrow.Author.Tests.{not-true, not-false}
@@ -23,7 +23,7 @@ row-in-requires : tie.Need-row-in-requires
 row-in-requires c κs =
     let a = c.before.before.before.args in
     let l : length a.table.now ≡ 8192 = search rules in
-    omega (arith, l, (held-row a.sizes.now a.k (sym c.before.before.has-row.ensures ∙ not-false _ c.before.if1.false)).1)
+    omega (arith, l, (held_row a.sizes.now a.k (sym c.before.before.has-row.ensures ∙ not-false _ c.before.if1.false)).1)
 
 row-can-requires : tie.Need-row-can-requires
 row-can-requires c κs = search rules
@@ -36,8 +36,8 @@ returns-2 c =
     let start = c.before.before.before.before.before.before.before.before.before in
     let found = c.before.before.before.before.before.before.before in
     let a = start.before.before.args in
-    let l = held-row a.sizes.now a.k (sym start.before.has-row.ensures ∙ not-false _ start.if1.false) in
-    λ copy. told c.refusal2.ensures (steps-cannot _ a.k l.0 _ found.row_in.ensures _ c.before.before.row-can.ensures (not-true _ c.before.if2.true))
+    let l = held_row a.sizes.now a.k (sym start.before.has-row.ensures ∙ not-false _ start.if1.false) in
+    λ copy. told c.refusal2.ensures (steps_cannot _ a.k l.0 _ found.row_in.ensures _ c.before.before.row-can.ensures (not-true _ c.before.if2.true))
 
 element-copy-out-count-row : tie.Need-element-copy-out-count-row
 element-copy-out-count-row c = search rules

@@ -4,7 +4,7 @@ use mathlib.Core.Path.{sym}
 use native.Mathlib.Omega.{arith}
 use Rattle.figures.proofs.FigureLaws.{states_limit}
 use Rattle.machines.proofs.TurnLaws.{machines_are}
-use Rattle.weighing.proofs.WeighingLaws.{most-is, none-fails, failing-verdict, passing-verdict}
+use Rattle.weighing.proofs.WeighingLaws.{most_is, none_fails, failing_verdict, passing_verdict}
 use Rattle.weighing.proofs.judge_table.Statement.{statement}
 use Rattle.weighing.proofs.judge_table.Tie as tie
 
@@ -20,7 +20,7 @@ figures-of-requires c κs = let limits = c.before.before.before.before.requires.
 first-failing-requires : tie.Need-first-failing-requires
 first-failing-requires c κs =
     let p = c.before.before.before.before.before.before.requires in
-    (p.0, omega arith, most-is _ _ _ p.0 c.before.figures-of.result c.before.figures-of.ensures, p.1)
+    (p.0, omega arith, most_is _ _ _ p.0 c.before.figures_of.result c.before.figures_of.ensures, p.1)
 
 same_length : tie.Need-same-length
 same_length c = search rules
@@ -28,8 +28,8 @@ same_length c = search rules
 returns : tie.Need-returns
 returns c =
     let ok = c.before.before.before.before.before.before.before.before.before.before.before.requires.0 in
-    let figures = c.before.before.before.before.before.before.figures-of in
-    passing-verdict _ _ _ ok figures.result figures.ensures (none-fails _ _ _ ok _ _ _ c.before.before.before.before.first-failing.ensures (omega (arith, c.if1.true)))
+    let figures = c.before.before.before.before.before.before.figures_of in
+    passing_verdict _ _ _ ok figures.result figures.ensures (none_fails _ _ _ ok _ _ _ c.before.before.before.before.first-failing.ensures (omega (arith, c.if1.true)))
 
 same-length-2 : tie.Need-same-length-2
 same-length-2 c = search rules
@@ -37,7 +37,7 @@ same-length-2 c = search rules
 returns-2 : tie.Need-returns-2
 returns-2 c =
     let failing = c.before.before.before.before.first-failing.ensures in
-    failing-verdict _ _ _ c.before.before.before.before.before.before.before.before.before.before.before.requires.0 _ _ _ failing (omega (arith, failing.within, c.if1.false))
+    failing_verdict _ _ _ c.before.before.before.before.before.before.before.before.before.before.before.requires.0 _ _ _ failing (omega (arith, failing.within, c.if1.false))
 
 pub judge_table_spec : {M : Type 1} → statement M
 judge_table_spec =

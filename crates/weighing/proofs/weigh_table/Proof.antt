@@ -4,7 +4,7 @@ use mathlib.Core.Path.{sym}
 use native.Mathlib.Omega.{arith}
 use Rattle.figures.proofs.FigureLaws.{states_limit}
 use Rattle.machines.proofs.TurnLaws.{machines_are}
-use Rattle.weighing.proofs.WeighingLaws.{most-is, none-fails, shown_owed, passing-owed}
+use Rattle.weighing.proofs.WeighingLaws.{most_is, none_fails, shown_owed, passing_owed}
 use Rattle.weighing.proofs.weigh_table.Statement.{statement}
 use Rattle.weighing.proofs.weigh_table.Tie as tie
 
@@ -20,17 +20,17 @@ figures-of-requires c κs = let limits = c.before.before.before.before.before.re
 first-failing-requires : tie.Need-first-failing-requires
 first-failing-requires c κs =
     let p = c.before.before.before.before.before.before.before.requires in
-    (p.0, omega (arith, machines_are _ _ _ p.0, p.0.limits.some_machine), most-is _ _ _ p.0 c.before.figures-of.result c.before.figures-of.ensures, p.1)
+    (p.0, omega (arith, machines_are _ _ _ p.0, p.0.limits.some_machine), most_is _ _ _ p.0 c.before.figures_of.result c.before.figures_of.ensures, p.1)
 
 show-requires : tie.Need-show-requires
 show-requires c κs =
     let p = c.before.before.before.before.before.before.before.before.before.before.before.before.before.before.requires in
-    let figures = c.before.before.before.before.before.before.before.before.figures-of in (
+    let figures = c.before.before.before.before.before.before.before.before.figures_of in (
       record {
         weighable = p.0;
         failing = c.before.before.before.before.before.before.first-failing.ensures;
         within = omega (arith, c.before.before.if1.true);
-        most = most-is _ _ _ p.0 figures.result figures.ensures;
+        most = most_is _ _ _ p.0 figures.result figures.ensures;
         room = omega (arith, c.before.before.before.before.before.edges.given, p.1);
       },
       p.2,
@@ -51,8 +51,8 @@ same-length-3 c = search rules
 returns-2 : tie.Need-returns-2
 returns-2 c =
     let ok = c.before.before.before.before.before.before.before.before.before.before.before.before.requires.0 in
-    let figures = c.before.before.before.before.before.before.figures-of in
-    passing-owed _ _ _ ok figures.result figures.ensures (none-fails _ _ _ ok _ _ _ c.before.before.before.before.first-failing.ensures (omega (arith, c.if1.false))) _
+    let figures = c.before.before.before.before.before.before.figures_of in
+    passing_owed _ _ _ ok figures.result figures.ensures (none_fails _ _ _ ok _ _ _ c.before.before.before.before.first-failing.ensures (omega (arith, c.if1.false))) _
 
 pub weigh_table_spec : {M : Type 1} → statement M
 weigh_table_spec =

@@ -3,7 +3,7 @@ use borrow.Author.Rules.{rules}
 use mathlib.Core.Path.{refl}
 use native.Mathlib.Omega.{arith}
 use Rattle.weight_checks.specs.Checks.{checked_weights}
-use Rattle.weight_checks.proofs.CheckLaws.{end_told, refuse_9, refuse-10, accept-weights}
+use Rattle.weight_checks.proofs.CheckLaws.{end_told, refuse_9, refuse_10, accept_weights}
 use Rattle.weight_checks.proofs.check_weights.Statement.{statement}
 use Rattle.weight_checks.proofs.check_weights.Tie as tie
 
@@ -25,7 +25,7 @@ returns-2 : tie.Need-returns-2
 returns-2 c =
     let ws = c.before.before.before.before.before.before.before.args.weights.now in
     let i = c.before.first_above in
-    λ P t. end_told P (checked_weights ws) _ _ _ c.before.before.before.before.end2.given.1 (refuse-10 ws P _ (omega (arith, c.before.before.if1.false, t)) i.result i.ensures (omega (arith, c.if2.true)))
+    λ P t. end_told P (checked_weights ws) _ _ _ c.before.before.before.before.end2.given.1 (refuse_10 ws P _ (omega (arith, c.before.before.if1.false, t)) i.result i.ensures (omega (arith, c.if2.true)))
 
 returns-3 : tie.Need-returns-3
 returns-3 c = λ P t. end_told P (checked_weights c.before.before.before.before.args.weights.now) _ _ _ c.before.end.given.1 refl
@@ -33,7 +33,7 @@ returns-3 c = λ P t. end_told P (checked_weights c.before.before.before.before.
 returns-4 : tie.Need-returns-4
 returns-4 c =
     let ws = c.before.before.before.before.before.before.before.args.weights.now in
-    λ P t. end_told P (checked_weights ws) _ _ _ c.before.before.before.before.end2.given.1 (accept-weights ws P _ (omega (arith, c.before.before.if1.false, t)) (omega (arith, c.before.first_above.ensures, c.if2.false)))
+    λ P t. end_told P (checked_weights ws) _ _ _ c.before.before.before.before.end2.given.1 (accept_weights ws P _ (omega (arith, c.before.before.if1.false, t)) (omega (arith, c.before.first_above.ensures, c.if2.false)))
 
 pub check_weights_spec : {M : Type 1} → statement M
 check_weights_spec =

@@ -4,7 +4,7 @@ use Prim.Native.Nat.{◌≤◌}
 use native.Mathlib.Omega.{arith}
 use lib.ListN.{length, length-set}
 use borrow.Author.Rules.{rules}
-use Rattle.weight_lists.proofs.CountingLaws.{Turning, turning, turned, one_up, back-to-zero, all_back}
+use Rattle.weight_lists.proofs.CountingLaws.{Turning, turning, turned, one_up, back_to_zero, all_back}
 use Rattle.weight_lists.proofs.count_up.Statement.{statement}
 use Rattle.weight_lists.proofs.count_up.Tie as tie
 
@@ -58,7 +58,7 @@ loop-again c =
     let a = c.before.before.before.before.args in
     let l = c.before.before.before.loop in
     let g = turned a.allowed a.weights.now l.weights l.t (omega (arith, c.before.before.loop-test.true)) l.invariant.2 in
-    (omega (arith, l.invariant.0), length-set l.weights _ 0 ∙ l.invariant.1, back-to-zero a.allowed a.weights.now l.weights _ g (omega (arith, c.if1.false)))
+    (omega (arith, l.invariant.0), length-set l.weights _ 0 ∙ l.invariant.1, back_to_zero a.allowed a.weights.now l.weights _ g (omega (arith, c.if1.false)))
 
 same-length-2 : tie.Need-same-length-2 invariant-loop decreases-loop
 same-length-2 c = search rules

@@ -1,5 +1,5 @@
 -- `find` meets its contract: faults are handed on, and for a plant whose numbers are good the lists are searched.
-use Rattle.weight_search.proofs.FindLaws.{file_refused, given-refused, given-searchable, table-owed}
+use Rattle.weight_search.proofs.FindLaws.{file_refused, given_refused, given_searchable, table_owed}
 use Rattle.weight_search.specs.Inner.Tables.{Searchable}
 use lib.ListN.{take, replicate}
 use lib.Seq.{length-take-le}
@@ -40,7 +40,7 @@ searchable c =
     let d = c.before.before.before.before.before.before.before.before.decode in
     let told = c.before.before.before.enum_told.given in
     let check = c.before.before.check-given in
-    given-searchable a.file.now a.contents.now a.weights.now a.allowed a.figure d.result.shape d.new.1.0 d.result.end d.ensures.0 told.0.0 told.1 check.result check.ensures c.enum-told2.given.1 d.ensures.1
+    given_searchable a.file.now a.contents.now a.weights.now a.allowed a.figure d.result.shape d.new.1.0 d.result.end d.ensures.0 told.0.0 told.1 check.result check.ensures c.enum-told2.given.1 d.ensures.1
 
 array-borrow-prefix-list : tie.Need-array-borrow-prefix-list
 array-borrow-prefix-list c = (searchable c).given.few_types
@@ -66,7 +66,7 @@ returns-2 c =
     let d = c.before.before.before.before.before.before.before.before.before.decode in
     let told = c.before.before.before.before.enum_told.given in
     let check = c.before.before.before.check-given in
-    given-refused a.file.now a.contents.now a.weights.now a.allowed a.figure d.result.shape d.new.1.0 d.result.end d.ensures.0 told.0.0 told.1 check.result check.ensures _ c.before.checked.given.1
+    given_refused a.file.now a.contents.now a.weights.now a.allowed a.figure d.result.shape d.new.1.0 d.result.end d.ensures.0 told.0.0 told.1 check.result check.ensures _ c.before.checked.given.1
 
 same_length : tie.Need-same-length
 same_length c = search rules
@@ -77,7 +77,7 @@ returns-3 c =
     let d = c.before.before.before.before.before.before.before.before.before.before.before.before.before.before.before.decode in
     let told = c.before.before.before.before.before.before.before.before.before.before.enum_told.given in
     let check = c.before.before.before.before.before.before.before.before.before.check-given in
-    table-owed a.file.now a.contents.now a.weights.now a.allowed a.figure d.result.shape d.new.1.0 d.result.end d.ensures.0 told.0.0 told.1 check.result check.ensures c.before.before.before.before.before.before.before.enum-told2.given.1 c.before.before.before.search-in.ensures
+    table_owed a.file.now a.contents.now a.weights.now a.allowed a.figure d.result.shape d.new.1.0 d.result.end d.ensures.0 told.0.0 told.1 check.result check.ensures c.before.before.before.before.before.before.before.enum-told2.given.1 c.before.before.before.search-in.ensures
 
 pub find_spec : {M : Type 1} → statement M
 find_spec =

@@ -4,10 +4,10 @@ use Rattle.weight_lists.proofs.CountingLaws.{counted_next, counted_none}
 use borrow.Author.Tests.{not-true, not-false}
 use mathlib.Core.Bool.{false≢true}
 use mathlib.Core.Logic.{⊎_elim}
-use Rattle.weight_search.proofs.SearchLaws.{copied_whole, none_failed, Going, small-weights, light-weights, few_weights, one-content-each, plant-with, list-weighable, too-high, now-suits, begins, goes_on, none-owed, found-owed}
+use Rattle.weight_search.proofs.SearchLaws.{copied_whole, none_failed, Going, small_weights, light_weights, few_weights, one_content_each, plant_with, list_weighable, too_high, now_suits, begins, goes_on, none_owed, found_owed}
 use Rattle.weight_trials.specs.Trials.{Remembered}
 use Rattle.weight_lists.proofs.CountingLaws.{behind, next_is}
-use Rattle.weighing.proofs.WeighingLaws.{most-is}
+use Rattle.weighing.proofs.WeighingLaws.{most_is}
 use Rattle.machines.proofs.TurnLaws.{machines_are}
 use Rattle.figures.proofs.FigureLaws.{states_limit}
 use Rattle.decoding.specs.Tables.{plant_of}
@@ -30,7 +30,7 @@ array-share-prefix-counts : tie.Need-array-share-prefix-counts invariant-loop de
 array-share-prefix-counts c = let few = c.before.before.before.before.before.requires.ready.sound.few_machines in search rules
 
 slice-aggregate-states : tie.Need-slice-aggregate-states invariant-loop decreases-loop
-slice-aggregate-states c = sym (machines_are _ _ _ (list-weighable c.before.before.before.before.before.before.requires (begins c.before.before.before.before.before.before.requires 0).low))
+slice-aggregate-states c = sym (machines_are _ _ _ (list_weighable c.before.before.before.before.before.before.requires (begins c.before.before.before.before.before.before.requires 0).low))
 
 figures-of-requires : tie.Need-figures-of-requires invariant-loop decreases-loop
 figures-of-requires c κs =
@@ -46,7 +46,7 @@ within-requires : tie.Need-within-requires invariant-loop decreases-loop
 within-requires c κs =
     let p = c.before.before.before.before.before.before.before.before.before.before.requires in
     let low = c.before.loop.invariant.0.low in
-    (plant-with p low, one-content-each p low, light-weights p low, p.given.small)
+    (plant_with p low, one_content_each p low, light_weights p low, p.given.small)
 
 slice-aggregate-try-weights : tie.Need-slice-aggregate-try-weights invariant-loop decreases-loop
 slice-aggregate-try-weights c = sym c.before.before.before.before.before.loop.invariant.2
@@ -59,7 +59,7 @@ try-weights-requires c κs =
     let p = c.before.before.before.before.before.before.before.before.before.before.before.before.before.before.before.requires in
     let l = c.before.before.before.before.before.before.loop.invariant in
     let low = l.0.low in
-    (list-weighable p low, small-weights p low, few_weights p low, most-is _ _ _ (list-weighable p (begins p 0).low) c.before.before.before.before.before.before.before.figures-of.result c.before.before.before.before.before.before.before.figures-of.ensures, omega (arith, l.2), l.1)
+    (list_weighable p low, small_weights p low, few_weights p low, most_is _ _ _ (list_weighable p (begins p 0).low) c.before.before.before.before.before.before.before.figures_of.result c.before.before.before.before.before.before.before.figures_of.ensures, omega (arith, l.2), l.1)
 
 copy-front-requires : tie.Need-copy-front-requires invariant-loop decreases-loop
 copy-front-requires c κs =
@@ -78,8 +78,8 @@ returns c =
     let a = c.before.before.before.before.before.before.before.before.before.before.before.before.before.before.before.before.before.before.before.before.before.before.before.before.args in
     let p = c.before.before.before.before.before.before.before.before.before.before.before.before.before.before.before.before.before.before.before.before.before.before.before.before.requires in
     let l = c.before.before.before.before.before.before.before.before.before.before.before.before.before.before.before.loop.invariant in
-    let suits = now-suits p l.0.low a.figure c.before.before.before.before.before.before.before.before.before.before.before.before.before.within.ensures c.before.before.before.before.before.before.before.before.before.before.before.before.if1.true (c.before.before.before.before.before.before.before.before.try-weights.ensures.decided.0 c.before.before.before.before.before.if2.true) in
-    found-owed p a.figure l.0 suits (c.before.before.copy-front.ensures ∙ copied_whole _ _ (ap length l.4 ∙ (p.given.output ∙ sym l.0.low.one_each)))
+    let suits = now_suits p l.0.low a.figure c.before.before.before.before.before.before.before.before.before.before.before.before.before.within.ensures c.before.before.before.before.before.before.before.before.before.before.before.before.if1.true (c.before.before.before.before.before.before.before.before.try-weights.ensures.decided.0 c.before.before.before.before.before.if2.true) in
+    found_owed p a.figure l.0 suits (c.before.before.copy-front.ensures ∙ copied_whole _ _ (ap length l.4 ∙ (p.given.output ∙ sym l.0.low.one_each)))
 
 -- After a list that did not suit, whichever of the two tests it failed, the failures are kept and the list of edges has its length.
 after_trial : (c : tie.Joined1 invariant-loop decreases-loop)
@@ -90,7 +90,7 @@ after_trial c =
     let l = c.before.before.before.loop.invariant in
     ⊎_elim
     (λ w. (λ suits. false≢true (sym w.7.left ∙ w.4.ensures.decided.1 suits.passes), rw (w.10, w.11) w.4.ensures.remembered, rw w.9 w.5.given))
-    (λ w. (too-high p l.0.low c.before.before.before.before.before.before.before.before.before.before.before.before.args.figure c.before.within.ensures w.0.left, rw (w.2, w.3) l.1, rw w.1 l.2))
+    (λ w. (too_high p l.0.low c.before.before.before.before.before.before.before.before.before.before.before.before.args.figure c.before.within.ensures w.0.left, rw (w.2, w.3) l.1, rw w.1 l.2))
     c.if1.branch
 
 count-up-requires : tie.Need-count-up-requires invariant-loop decreases-loop
@@ -107,7 +107,7 @@ returns-2 c =
     let a = c.before.before.before.before.before.before.before.before.before.before.before.before.before.before.before.before.before.args in
     let l = c.before.before.before.before.before.before.before.before.loop.invariant in
     let last = counted_none a.allowed c.before.before.before.before.before.before.before.before.loop.list _ {r = c.before.before.before.count-up.result} c.before.before.before.count-up.ensures (not-true _ c.if3.true) in
-    rw l.4 (none-owed c.before.before.before.before.before.before.before.before.before.before.before.before.before.before.before.before.before.requires a.figure l.0 (after_trial c.before.before.before.before.before).0 last)
+    rw l.4 (none_owed c.before.before.before.before.before.before.before.before.before.before.before.before.before.before.before.before.before.requires a.figure l.0 (after_trial c.before.before.before.before.before).0 last)
 
 loop-less : tie.Need-loop-smaller invariant-loop decreases-loop
 loop-less c =

@@ -1,6 +1,6 @@
 -- `store_walk` meets its contract: a walk that is found is one of the failing machine, and its effect is stored in the next place.
-use Rattle.weight_trials.proofs.WalkLaws.{failing_edges, walk-quiet, walk-there}
-use Rattle.stored_effects.proofs.StoredLaws.{one-stored}
+use Rattle.weight_trials.proofs.WalkLaws.{failing_edges, walk_quiet, walk_there}
+use Rattle.stored_effects.proofs.StoredLaws.{one_stored}
 use native.Mathlib.Nat.{mod-lt}
 use Prim.Native.Nat.{◌≤◌}
 use native.Mathlib.Omega.{arith}
@@ -40,7 +40,7 @@ store-effect-requires c κs =
     let p = c.before.before.before.before.before.before.before.before.before.requires in
     let walk = c.before.before.before.before.closing-walk in
     let found : walk.result ≤ c.before.before.before.before.before.before.index-u8.result = omega (arith, c.before.before.if1.false) in
-    (walk-there p.0 walk.ensures found, omega (arith, found, (failing_edges p.0 c.before.before.before.before.before.before.index-u8.ensures).states_in), p.1.places, p.2)
+    (walk_there p.0 walk.ensures found, omega (arith, found, (failing_edges p.0 c.before.before.before.before.before.before.index-u8.ensures).states_in), p.1.places, p.2)
 
 add-result : tie.Need-overflow-add-result
 add-result c = record { fits = omega (arith, c.before.before.before.before.before.before.before.before.before.before.before.requires.2) }
@@ -53,7 +53,7 @@ returns-2 c =
     let p = c.before.before.before.before.before.before.before.before.before.before.before.requires in
     let walk = c.before.before.before.before.before.before.closing-walk in
     let found : walk.result ≤ c.before.before.before.before.before.before.before.before.index-u8.result = omega (arith, c.before.before.before.before.if1.false) in
-    one-stored c.before.before.before.before.before.before.before.before.before.before.before.args.t2 c.before.before.before.before.before.before.before.before.before.before.before.args.table.now _ _ _ _ c.before.store-effect.ensures (walk-quiet p.0 walk.ensures found) p.1 p.2 p.0.few_types
+    one_stored c.before.before.before.before.before.before.before.before.before.before.before.args.t2 c.before.before.before.before.before.before.before.before.before.before.before.args.table.now _ _ _ _ c.before.store-effect.ensures (walk_quiet p.0 walk.ensures found) p.1 p.2 p.0.few_types
 
 pub store_walk_spec : {M : Type 1} → statement M
 store_walk_spec =

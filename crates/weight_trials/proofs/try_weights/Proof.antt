@@ -1,5 +1,5 @@
 -- `try_weights` meets its contract: an effect stored decides, or else the machines do.
-use Rattle.weight_trials.proofs.TriedLaws.{known_tried, passes-tried, fails-tried, machine_fails}
+use Rattle.weight_trials.proofs.TriedLaws.{known_tried, passes_tried, fails_tried, machine_fails}
 use native.Mathlib.Omega.{arith}
 use borrow.Author.Rules.{rules}
 use Rattle.weight_trials.proofs.try_weights.Statement.{statement}
@@ -26,7 +26,7 @@ same-length-3 c = search rules
 returns-2 : tie.Need-returns-2
 returns-2 c =
     let p = c.before.before.before.before.before.before.before.before.before.before.before.requires in
-    passes-tried p.0 p.5 c.before.before.before.before.first-failing.ensures (omega (arith, c.if2.true))
+    passes_tried p.0 p.5 c.before.before.before.before.first-failing.ensures (omega (arith, c.if2.true))
 
 count-failure-requires : tie.Need-count-failure-requires
 count-failure-requires c κs =
@@ -44,7 +44,7 @@ returns-3 : tie.Need-returns-3
 returns-3 c =
     let p = c.before.before.before.before.before.before.before.before.before.before.before.before.before.before.before.requires in
     let first = c.before.before.before.before.before.before.before.before.first-failing.ensures in
-    fails-tried p.0 c.before.count-failure.ensures first (omega (arith, first.within, c.before.before.before.before.if2.false))
+    fails_tried p.0 c.before.count-failure.ensures first (omega (arith, first.within, c.before.before.before.before.if2.false))
 
 pub try_weights_spec : {M : Type 1} → statement M
 try_weights_spec =

@@ -7,7 +7,7 @@ use lib.Seq.{length-take-le}
 use Rattle.plant.specs.Limits.{longest_file}
 use Rattle.written_rows.specs.declared.Step.{Step}
 use Rattle.written_rows.specs.Steps.{Near}
-use Rattle.writing.proofs.PlantLaws.{owes_fault, owes-room, owes-file, copied}
+use Rattle.writing.proofs.PlantLaws.{owes_fault, owes_room, owes_file, copied}
 use Rattle.writing.proofs.write_in.Statement.{statement}
 use Rattle.writing.proofs.write_in.Tie as tie
 
@@ -23,7 +23,7 @@ enum-known-step-2 c = search rules
 returns : tie.Need-returns
 returns c =
     let a = c.before.before.before.before.before.before.before.before.before.before.before.before.before.before.before.args in
-    let o = owes-room a.numbers.now _ _ a.out.now _ c.before.before.before.before.before.before.before.before.write-plant.ensures.0 _ c.before.before.step2.given.1 (omega (arith, c.if1.true)) in
+    let o = owes_room a.numbers.now _ _ a.out.now _ c.before.before.before.before.before.before.before.before.write-plant.ensures.0 _ c.before.before.step2.given.1 (omega (arith, c.if1.true)) in
     (o.0, (o.1, o.2))
 
 slice-reshare-prefix-copy : tie.Need-slice-reshare-prefix-copy
@@ -52,7 +52,7 @@ returns-3 c =
     let a = c.before.before.before.before.before.before.before.before.before.before.before.before.before.before.before.before.before.before.before.before.args in
     let near = subst (λ (z : Step). Near c.before.before.before.before.before.before.before.before.before.before.before.before.before.before.before.before.before.before.before.before.args.numbers.now longest_file z) c.before.before.before.before.before.before.before.step2.given.1 c.before.before.before.before.before.before.before.before.before.before.before.before.before.write-plant.ensures.1 in
     let point = c.before.before.before.before.before.before.before.step2.given.0.0 in
-    let o = owes-file a.numbers.now _ _ a.out.now _ c.before.before.before.before.before.before.before.before.before.before.before.before.before.write-plant.ensures.0 _ c.before.before.before.before.before.before.before.step2.given.1 (omega (arith, c.before.before.before.before.before.if1.false)) _
+    let o = owes_file a.numbers.now _ _ a.out.now _ c.before.before.before.before.before.before.before.before.before.before.before.before.before.write-plant.ensures.0 _ c.before.before.before.before.before.before.before.step2.given.1 (omega (arith, c.before.before.before.before.before.if1.false)) _
     (copied point.pos c.before.before.before.before.before.before.before.before.before.before.before.before.before.write-plant.new.1.0 a.out.now _ (omega (arith, near.0, near.1, near.2, c.before.before.before.before.before.before.before.before.before.before.before.before.file.given, c.before.before.before.before.before.before.before.before.before.before.before.before.before.before.before.before.before.before.before.before.requires.0)) c.before.before.copy.ensures.1) in
     (o.0, (o.1, o.2))
 

@@ -8,7 +8,7 @@ use Rattle.plant.specs.Steps.{field_found}
 use Rattle.plant.proofs.MachineRows.{rows_in_next}
 use Rattle.plant.proofs.Told.{told}
 use Rattle.plant_lists.proofs.NumberLaws.{found_inside, below_end, few_rows}
-use Rattle.writing.proofs.MachineLaws.{near-more, no_states, no_rows, machine_is}
+use Rattle.writing.proofs.MachineLaws.{near_more, no_states, no_rows, machine_is}
 use Rattle.writing.proofs.write_machine.Statement.{statement}
 use Rattle.writing.proofs.write_machine.Tie as tie
 
@@ -101,7 +101,7 @@ returns-3 c =
       (
         omega arith,
         few.1,
-        near-more a.numbers.now (c.before.before.before.before.before.before.before.before.before.before.put2.result + most_row_bytes * n) (a.start + 2 + most_row_bytes * (a.used + n - a.used)) c.before.before.before.before.write-rows.result
+        near_more a.numbers.now (c.before.before.before.before.before.before.before.before.before.before.put2.result + most_row_bytes * n) (a.start + 2 + most_row_bytes * (a.used + n - a.used)) c.before.before.before.before.write-rows.result
             (omega (arith, c.before.before.before.before.before.before.before.before.before.before.before.before.before.before.put.ensures.1, c.before.before.before.before.before.before.before.before.before.before.put2.ensures.1)) c.before.before.before.before.write-rows.ensures.1,
       ),
     )

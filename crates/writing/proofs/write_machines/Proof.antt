@@ -8,7 +8,7 @@ use Rattle.plant.specs.Limits.{most_row_bytes}
 use Rattle.written_rows.specs.declared.Step.{Step}
 use Rattle.written_rows.specs.Steps.{Near}
 use Rattle.writing.specs.Inner.Steps.{MachinesGoing}
-use Rattle.writing.proofs.MachineLaws.{machines_begin, machines-next, machines-stop, machines-finish}
+use Rattle.writing.proofs.MachineLaws.{machines_begin, machines_next, machines_stop, machines_finish}
 use Rattle.writing.proofs.write_machines.Statement.{statement}
 use Rattle.writing.proofs.write_machines.Tie as tie
 
@@ -52,7 +52,7 @@ returns c =
     let a = c.before.before.before.before.before.before.before.before.before.before.before.before.before.before.before.args in
     let l = c.before.before.before.before.before.before.before.before.before.before.before.loop in
     let g = l.invariant.0 in (
-      machines-stop a.n a.from a.numbers.now a.types a.file.now a.start l.i l.at l.file l.pos l.rows g
+      machines_stop a.n a.from a.numbers.now a.types a.file.now a.start l.i l.at l.file l.pos l.rows g
           (omega (arith, c.before.before.before.before.before.before.before.before.before.before.loop-test.true)) _ _ _ _ c.before.step.given.1 (c.before.before.before.before.before.before.before.write-machine.ensures.0 g.q g.few g.total g.numbered),
       tt,
     )
@@ -72,7 +72,7 @@ loop-again c =
     let l = c.before.before.before.before.before.before.before.before.before.before.before.loop in
     let g = l.invariant.0 in
     let near = subst (λ (z : Step). Near a.numbers.now (l.pos + 2 + most_row_bytes * (c.before.before.before.before.before.before.before.write-machine.result.rows - l.rows)) z) c.before.step2.given.1 c.before.before.before.before.before.before.before.write-machine.ensures.1.2 in (
-      machines-next a.n a.from a.numbers.now a.types a.file.now a.start l.i l.at l.file l.pos l.rows g
+      machines_next a.n a.from a.numbers.now a.types a.file.now a.start l.i l.at l.file l.pos l.rows g
           (omega (arith, c.before.before.before.before.before.before.before.before.before.before.loop-test.true)) _ _ _ _ c.before.step2.given.1 (c.before.before.before.before.before.before.before.write-machine.ensures.0 g.q g.few g.total g.numbered),
       omega (arith, c.before.before.before.before.before.before.before.before.before.before.loop-test.true),
       c.before.before.before.before.before.before.before.write-machine.ensures.1.1,
@@ -93,7 +93,7 @@ returns-2 : tie.Need-returns-2 invariant-loop decreases-loop
 returns-2 c =
     let a = c.before.before.before.before.before.args in
     let l = c.before.loop in (
-      machines-finish a.n a.from a.numbers.now a.types a.file.now a.start l.i l.at l.file l.pos l.rows l.invariant.0 l.invariant.1
+      machines_finish a.n a.from a.numbers.now a.types a.file.now a.start l.i l.at l.file l.pos l.rows l.invariant.0 l.invariant.1
           (omega (arith, c.loop-test.false)),
       (l.invariant.3, l.invariant.4, omega (arith, l.invariant.1, l.invariant.5)),
     )

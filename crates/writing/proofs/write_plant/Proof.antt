@@ -6,8 +6,8 @@ use Rattle.plant.specs.Limits.{most_row_bytes, longest_file}
 use Rattle.plant.specs.Steps.{field_found}
 use Rattle.plant.proofs.Told.{told}
 use Rattle.plant_lists.proofs.NumberLaws.{found_inside, below_end}
-use Rattle.writing.proofs.MachineLaws.{near-more}
-use Rattle.writing.proofs.PlantLaws.{no_machine_count, no_type_count, plant-is, end_near}
+use Rattle.writing.proofs.MachineLaws.{near_more}
+use Rattle.writing.proofs.PlantLaws.{no_machine_count, no_type_count, plant_is, end_near}
 use Rattle.writing.proofs.write_plant.Statement.{statement}
 use Rattle.writing.proofs.write_plant.Tie as tie
 
@@ -85,10 +85,10 @@ returns-3 c =
     let first = told field_found c.before.before.before.before.before.before.before.before.before.before.before.before.before.before.before.before.before.before.before.before.before.before.before.before.number_in.ensures c.before.before.before.before.before.before.before.before.before.before.before.before.before.before.before.before.before.before.before.before.before.before.machines-step.given.1 in
     let second = told field_found c.before.before.before.before.before.before.before.before.before.before.before.before.before.before.before.before.before.before.before.before.number-in2.ensures c.before.before.before.before.before.before.before.before.before.before.before.before.before.before.before.before.before.before.types-step.given.1 in
     let n = c.before.before.before.before.before.before.before.before.before.before.before.before.before.before.before.before.before.before.before.before.before.before.machines-step.given.0.0.value in
-    let near = near-more s (c.before.before.before.before.before.before.before.before.before.before.before.put2.result + (2 * n + most_row_bytes * 1024)) longest_file c.before.before.before.before.before.write-machines.result
+    let near = near_more s (c.before.before.before.before.before.before.before.before.before.before.before.put2.result + (2 * n + most_row_bytes * 1024)) longest_file c.before.before.before.before.before.write-machines.result
     (omega (arith, below_end 1 17 _ _ _ _ first, c.before.before.before.before.before.before.before.before.before.before.before.before.before.before.before.put.ensures.1, c.before.before.before.before.before.before.before.before.before.before.before.put2.ensures.1)) c.before.before.before.before.before.write-machines.ensures.1 in
     rw c.list-end.ensures (
-      plant-is s _ _ _ _ first _ _ second _ _ _ _ _ c.before.before.before.before.before.before.before.before.before.before.before.before.before.before.before.put.ensures.0 c.before.before.before.before.before.before.before.before.before.before.before.put2.ensures.0 c.before.before.before.before.before.write-machines.ensures.0,
+      plant_is s _ _ _ _ first _ _ second _ _ _ _ _ c.before.before.before.before.before.before.before.before.before.before.before.before.before.before.before.put.ensures.0 c.before.before.before.before.before.before.before.before.before.before.before.put2.ensures.0 c.before.before.before.before.before.write-machines.ensures.0,
       end_near s longest_file c.before.before.before.before.before.write-machines.result near,
     )
 

@@ -10,7 +10,7 @@ use Rattle.livelock.specs.Plants.{Plant}
 use Rattle.plant.specs.Limits.{most_row_bytes, rows_in}
 use Rattle.plant_lists.proofs.RowLaws.{row_right, row_there}
 use Rattle.written_rows.specs.Steps.{RowsGoing}
-use Rattle.written_rows.proofs.RowsLaws.{rows_begin, row_next, row-is-twin, rows-finish, rows-stop}
+use Rattle.written_rows.proofs.RowsLaws.{rows_begin, row_next, row_is_twin, rows_finish, rows_stop}
 use Rattle.written_rows.proofs.write_rows.Statement.{statement}
 use Rattle.written_rows.proofs.write_rows.Tie as tie
 
@@ -49,7 +49,7 @@ row-passes-requires : tie.Need-row-passes-requires invariant-loop decreases-loop
 row-passes-requires c κs = c.before.loop.invariant.inside
 
 row-fault-requires : tie.Need-row-fault-requires invariant-loop decreases-loop
-row-fault-requires c κs = (c.before.before.before.loop.invariant.inside, sym c.before.row-passes.ensures ∙ not-true _ c.if1.true)
+row-fault-requires c κs = (c.before.before.before.loop.invariant.inside, sym c.before.row_passes.ensures ∙ not-true _ c.if1.true)
 
 same_length : tie.Need-same-length invariant-loop decreases-loop
 same_length c = c.before.before.before.before.loop.invariant.long
@@ -61,7 +61,7 @@ returns : tie.Need-returns invariant-loop decreases-loop
 returns c =
     let a = c.before.before.before.before.before.before.before.before.args in
     let l = c.before.before.before.before.loop in (
-      λ m p t none. rows-stop a.n m a.states a.start.at a.numbers.now p a.file.now a.start.pos l.i l.at l.file l.pos l.implied l.keys l.left (l.invariant.going m p t none) (omega (arith, c.before.before.before.loop-test.true)) _ (rw t (c.row-fault.ensures m)),
+      λ m p t none. rows_stop a.n m a.states a.start.at a.numbers.now p a.file.now a.start.pos l.i l.at l.file l.pos l.implied l.keys l.left (l.invariant.going m p t none) (omega (arith, c.before.before.before.loop-test.true)) _ (rw t (c.row-fault.ensures m)),
       tt,
     )
 
@@ -69,13 +69,13 @@ listed-row-requires : tie.Need-listed-row-requires invariant-loop decreases-loop
 listed-row-requires c κs =
     let a = c.before.before.before.before.before.before.before.before.args in
     let l = c.before.before.before.before.loop in
-    row_there a.states a.types a.numbers.now l.at (sym c.before.before.row-passes.ensures ∙ not-false _ c.before.if1.false) c.before.before.before.before.before.before.before.before.requires.0 c.before.before.before.before.before.before.before.before.requires.1
+    row_there a.states a.types a.numbers.now l.at (sym c.before.before.row_passes.ensures ∙ not-false _ c.before.if1.false) c.before.before.before.before.before.before.before.before.requires.0 c.before.before.before.before.before.before.before.before.requires.1
 
 keep-row-requires : tie.Need-keep-row-requires invariant-loop decreases-loop
 keep-row-requires c κs =
     let a = c.before.before.before.before.before.before.before.before.before.args in
     let l = c.before.before.before.before.before.loop in
-    let there = row_there a.states a.types a.numbers.now l.at (sym c.before.before.before.row-passes.ensures ∙ not-false _ c.before.before.if1.false) c.before.before.before.before.before.before.before.before.before.requires.0 c.before.before.before.before.before.before.before.before.before.requires.1 in
+    let there = row_there a.states a.types a.numbers.now l.at (sym c.before.before.before.row_passes.ensures ∙ not-false _ c.before.before.if1.false) c.before.before.before.before.before.before.before.before.before.requires.0 c.before.before.before.before.before.before.before.before.before.requires.1 in
     omega (arith, there.inside, l.invariant.reached, l.invariant.keys_long, c.before.before.before.before.before.before.before.before.before.requires.3, c.before.before.before.before.before.before.before.before.before.requires.4, c.before.before.before.before.loop-test.true)
 
 same-length-3 : tie.Need-same-length-3 invariant-loop decreases-loop
@@ -88,8 +88,8 @@ returns-2 : tie.Need-returns-2 invariant-loop decreases-loop
 returns-2 c =
     let a = c.before.before.before.before.before.before.before.before.before.before.before.before.before.args in
     let l = c.before.before.before.before.before.before.before.before.before.loop in (
-      λ m p t none. row-is-twin a.n m a.states a.start.at a.numbers.now p a.file.now a.start.pos l.i l.at l.file l.pos l.implied l.keys l.left (l.invariant.going m p t none) (omega (arith, c.before.before.before.before.before.before.before.before.loop-test.true)) _ _ (l.at + 6) _ _ (c.before.before.before.before.listed-row.ensures.0 m)
-          (rw t (row_right a.states a.types a.numbers.now l.at (sym c.before.before.before.before.before.before.before.row-passes.ensures ∙ not-false _ c.before.before.before.before.before.before.if1.false) m)) c.before.before.before.keep_row.ensures c.if2.true,
+      λ m p t none. row_is_twin a.n m a.states a.start.at a.numbers.now p a.file.now a.start.pos l.i l.at l.file l.pos l.implied l.keys l.left (l.invariant.going m p t none) (omega (arith, c.before.before.before.before.before.before.before.before.loop-test.true)) _ _ (l.at + 6) _ _ (c.before.before.before.before.listed-row.ensures.0 m)
+          (rw t (row_right a.states a.types a.numbers.now l.at (sym c.before.before.before.before.before.before.before.row_passes.ensures ∙ not-false _ c.before.before.before.before.before.before.if1.false) m)) c.before.before.before.keep_row.ensures c.if2.true,
       tt,
     )
 
@@ -98,7 +98,7 @@ put-row-requires c κs =
     let a = c.before.before.before.before.before.before.before.before.before.before.before.before.before.before.args in
     let l = c.before.before.before.before.before.before.before.before.before.before.loop in
     let room = c.before.before.before.before.before.before.before.before.before.before.before.before.before.before.requires.2 in
-    let there = row_there a.states a.types a.numbers.now l.at (sym c.before.before.before.before.before.before.before.before.row-passes.ensures ∙ not-false _ c.before.before.before.before.before.before.before.if1.false) c.before.before.before.before.before.before.before.before.before.before.before.before.before.before.requires.0 c.before.before.before.before.before.before.before.before.before.before.before.before.before.before.requires.1 in
+    let there = row_there a.states a.types a.numbers.now l.at (sym c.before.before.before.before.before.before.before.before.row_passes.ensures ∙ not-false _ c.before.before.before.before.before.before.before.if1.false) c.before.before.before.before.before.before.before.before.before.before.before.before.before.before.requires.0 c.before.before.before.before.before.before.before.before.before.before.before.before.before.before.requires.1 in
     (there, omega (arith, there.inside, c.before.before.before.before.before.before.before.before.before.loop-test.true, l.invariant.behind, l.invariant.near, l.invariant.long, room.space, room.within))
 
 mul-implied : tie.Need-overflow-mul-implied invariant-loop decreases-loop
@@ -108,7 +108,7 @@ shared-slice-read-implied : tie.Need-shared-slice-read-implied invariant-loop de
 shared-slice-read-implied c =
     let a = c.before.before.before.before.before.before.before.before.before.before.before.before.before.before.before.before.before.before.args in
     let l = c.before.before.before.before.before.before.before.before.before.before.before.before.before.before.loop in
-    let there = row_there a.states a.types a.numbers.now l.at (sym c.before.before.before.before.before.before.before.before.before.before.before.before.row-passes.ensures ∙ not-false _ c.before.before.before.before.before.before.before.before.before.before.before.if1.false) c.before.before.before.before.before.before.before.before.before.before.before.before.before.before.before.before.before.before.requires.0 c.before.before.before.before.before.before.before.before.before.before.before.before.before.before.before.before.before.before.requires.1 in
+    let there = row_there a.states a.types a.numbers.now l.at (sym c.before.before.before.before.before.before.before.before.before.before.before.before.row_passes.ensures ∙ not-false _ c.before.before.before.before.before.before.before.before.before.before.before.if1.false) c.before.before.before.before.before.before.before.before.before.before.before.before.before.before.before.before.before.before.requires.0 c.before.before.before.before.before.before.before.before.before.before.before.before.before.before.before.before.before.before.requires.1 in
     omega (arith, there.inside)
 
 add_at : tie.Need-overflow-add-at invariant-loop decreases-loop
@@ -124,7 +124,7 @@ loop-again : tie.Need-loop-preserved invariant-loop decreases-loop
 loop-again c =
     let a = c.before.before.before.before.before.before.before.before.before.before.before.before.before.before.before.before.before.before.args in
     let l = c.before.before.before.before.before.before.before.before.before.before.before.before.before.before.loop in
-    let passed = (sym c.before.before.before.before.before.before.before.before.before.before.before.before.row-passes.ensures ∙ not-false _ c.before.before.before.before.before.before.before.before.before.before.before.if1.false) in
+    let passed = (sym c.before.before.before.before.before.before.before.before.before.before.before.before.row_passes.ensures ∙ not-false _ c.before.before.before.before.before.before.before.before.before.before.before.if1.false) in
     let there = row_there a.states a.types a.numbers.now l.at passed c.before.before.before.before.before.before.before.before.before.before.before.before.before.before.before.before.before.before.requires.0 c.before.before.before.before.before.before.before.before.before.before.before.before.before.before.before.before.before.before.requires.1 in
     record {
       going =
@@ -150,7 +150,7 @@ returns-3 : tie.Need-returns-3 invariant-loop decreases-loop
 returns-3 c =
     let a = c.before.before.before.before.before.args in
     let l = c.before.loop in (
-      λ m p t none. rows-finish a.n m a.states a.start.at a.numbers.now p a.file.now a.start.pos l.i l.at l.file l.pos l.implied l.keys l.left (l.invariant.going m p t none) l.invariant.within (omega (arith, c.loop-test.false)),
+      λ m p t none. rows_finish a.n m a.states a.start.at a.numbers.now p a.file.now a.start.pos l.i l.at l.file l.pos l.implied l.keys l.left (l.invariant.going m p t none) l.invariant.within (omega (arith, c.loop-test.false)),
       (l.invariant.inside, l.invariant.behind, omega (arith, l.invariant.within, l.invariant.near)),
     )
 

@@ -1,6 +1,6 @@
 -- `Watcher::open` meets its contract: by the answer of quoting.
 use borrow.Author.Rules.{rules}
-use Rattle.watchers.proofs.OpeningLaws.{quote_told, lengths, opens_refused, opens-quoted}
+use Rattle.watchers.proofs.OpeningLaws.{quote_told, lengths, opens_refused, opens_quoted}
 use Rattle.watchers.proofs.Watcher.open.Statement.{statement}
 use Rattle.watchers.proofs.Watcher.open.Tie as tie
 
@@ -32,7 +32,7 @@ returns c =
 returns-2 : tie.Need-returns-2
 returns-2 c =
     let a = c.before.before.before.before.before.before.before.before.before.args in
-    opens-quoted a.file.now a.weights.now a.contents.now _ _ (quote_told a.file.now a.weights.now a.contents.now c.before.before.before.before.before.quote.ensures c.before.before.before.quoted2.given.1)
+    opens_quoted a.file.now a.weights.now a.contents.now _ _ (quote_told a.file.now a.weights.now a.contents.now c.before.before.before.before.before.quote.ensures c.before.before.before.quoted2.given.1)
     _ c.before.figures_for.ensures _ c.begun.ensures
 
 pub open_spec : {M : Type 1} → statement M
