@@ -7,8 +7,6 @@
  *     bench floor REPS FILE WEIGHTS             weighing in C with arrays cleared as in Rattle, against the peer
  *     bench quote REPS FILE WEIGHTS             contents, g and d are 1,000
  *     bench list REPS FILE MACHINE ROOM         above 50,000,000 entries the list is only reserved, not held in memory
- *     bench find REPS FILE ALLOWED FIGURE       contents are 1,000
- *     bench places REPS FILE ALLOWED FIGURE     the peer of find with its places for effects, against itself without; REPS 1: one call each
  *     bench confirm REPS FILE SET
  *     bench write REPS LIST                     16-bit numbers; the buffer has room for every file
  *     bench watch_open REPS FILE WEIGHTS        contents are 1,000
@@ -79,13 +77,10 @@ static size_t file_length, weight_count, set_length, number_count, room, bytes_r
 static const uint16_t *weights, *numbers;
 static const uint32_t *set;
 static uint32_t contents[64], machine, g = 1000;
-static size_t content_count, found_room;
-static uint64_t figure;
-static uint16_t allowed, found_ours[65], found_peer[65];
 static uint16_t cycle_ours[64], cycle_peer[64], *out_ours, *out_peer;
 static uint8_t bytes_ours[HEMTALUQ_LONGEST_FILE + 8], bytes_peer[HEMTALUQ_LONGEST_FILE + 8];
 
-static union { hemtaluq_read_answer r; hemtaluq_weigh_answer w; peers_weigh_answer p; hemtaluq_quote_answer q; hemtaluq_list_answer l; hemtaluq_confirm_answer c; hemtaluq_write_answer f; hemtaluq_watch_answer e; hemtaluq_find_answer s; } a, b;
+static union { hemtaluq_read_answer r; hemtaluq_weigh_answer w; peers_weigh_answer p; hemtaluq_quote_answer q; hemtaluq_list_answer l; hemtaluq_confirm_answer c; hemtaluq_write_answer f; hemtaluq_watch_answer e; } a, b;
 
 static void ours_read(void) { a.r = hemtaluq_read(file, file_length); }
 static void peers_read(void) { b.r = peer_read(file, file_length); }
@@ -95,10 +90,6 @@ static void peers_weigh(void) { b.p = PEERS_WEIGH(file, file_length, weights, we
 static void floors_weigh(void) { a.w = floor_weigh(file, file_length, weights, weight_count, cycle_ours, 64); }
 static void ours_quote(void) { a.q = hemtaluq_quote(file, file_length, weights, weight_count, contents, weight_count, g, d); }
 static void peers_quote(void) { b.q = PEERS_QUOTE(file, file_length, weights, weight_count, contents, weight_count, g); }
-static void ours_find(void) { a.s = hemtaluq_find(file, file_length, contents, content_count, allowed, figure, found_ours, found_room); }
-static void peers_find(void) { b.s = peer_find(file, file_length, contents, content_count, allowed, figure, found_peer, found_room); }
-static void with_places(void) { a.s = peer_find_places(file, file_length, contents, content_count, allowed, figure, found_ours, found_room, 64); }
-static void without_places(void) { b.s = peer_find_places(file, file_length, contents, content_count, allowed, figure, found_peer, found_room, 0); }
 static void ours_list(void) { a.l = hemtaluq_list(file, file_length, machine, out_ours, room); }
 static void peers_list(void) { b.l = peer_list(file, file_length, machine, out_peer, room); }
 static void ours_confirm(void) { a.c = hemtaluq_confirm(file, file_length, set, set_length); }
@@ -109,7 +100,6 @@ static void peers_write(void) { b.f = peer_write(numbers, number_count, bytes_pe
 static int same_read(void) { return a.r.kind == b.r.kind && a.r.number == b.r.number && a.r.types == b.r.types && a.r.place == b.r.place && a.r.machines == b.r.machines && a.r.rows == b.r.rows; }
 static int same_weigh(void) { return a.w.kind == b.p.kind && a.w.number == b.p.number && a.w.place == b.p.place && a.w.base == b.p.base && a.w.most_states == b.p.most_states && a.w.per_progress == b.p.per_progress && SAME_DOUBLING && a.w.rows == b.p.rows && !memcmp(cycle_ours, cycle_peer, sizeof cycle_ours); }
 static int same_quote(void) { return a.q.kind == b.q.kind && a.q.number == b.q.number && a.q.place == b.q.place && a.q.price_class == b.q.price_class && a.q.ceiling == b.q.ceiling; }
-static int same_find(void) { return a.s.kind == b.s.kind && a.s.number == b.s.number && a.s.place == b.s.place && !memcmp(found_ours, found_peer, sizeof found_ours); }
 static int same_list(void) { return a.l.kind == b.l.kind && a.l.number == b.l.number && a.l.place == b.l.place && a.l.entries == b.l.entries && (a.l.kind != HEMTALUQ_LISTED || !memcmp(out_ours, out_peer, 2 * room)); }
 static int same_confirm(void) { return a.c.kind == b.c.kind && a.c.number == b.c.number && a.c.place == b.c.place && a.c.message_type == b.c.message_type && a.c.sum == b.c.sum; }
 static int same_write(void) { return a.f.kind == b.f.kind && a.f.number == b.f.number && a.f.place == b.f.place && a.f.length == b.f.length && !memcmp(bytes_ours, bytes_peer, sizeof bytes_ours); }
@@ -210,13 +200,6 @@ static void checked(int reps, void (*ours)(void), void (*theirs)(void), int (*sa
     if (!same()) die("the peer's answer differs");
     printf("{\"kind\": %d, \"number\": %d, \"events\": %zu, ", a.r.kind, a.r.number, event_count);
     compare(reps, ours, theirs, 0);
-}
-
-/* Both once, where a call takes seconds. */
-static void once(void (*ours)(void), void (*theirs)(void), int (*same)(void)) {
-    double o = timed(ours, 1), p = timed(theirs, 1);
-    if (!same()) die("the answers differ");
-    printf("{\"kind\": %d, \"number\": %d, \"events\": 1, \"ours_ns\": %.1f, \"peer_ns\": %.1f, \"ratio\": %.6g}\n", a.s.kind, a.s.number, o, p, o / p);
 }
 
 /* ---- random inputs */
@@ -378,7 +361,7 @@ static void differ_on_list(void) {
 static uint32_t amount(void) { return below(40) ? below(PICK(5, 1000001)) : PICK(1000000, 1000001, 4294967295u); }
 
 /* How often an answer of each kind was met, and with a row that takes and sends in what was given. */
-static long kinds[12], with_both[12];
+static long kinds[10], with_both[10];
 
 static void count(unsigned kind) {
     kinds[kind]++;
@@ -402,26 +385,12 @@ static void check_watcher(long *refusals) {
     }
 }
 
-/* Weights up to 1 or 2, of three types also up to 6, for a figure up to any; how often each number was met. */
-static void check_search(unsigned types, long *refusals) {
-    content_count = types + !below(20);
-    found_room = types + !below(20);
-    allowed = (uint16_t)(below(20) ? PICK(0, 1, 2, types < 4 ? 6 : 2) : PICK(7, 65535));
-    figure = below(4) ? below(PICK(10, 1000, 100000, 100000000)) : UINT64_MAX;
-    if (content_count && !below(20)) contents[below((unsigned)content_count)] = PICK(1000001, 4294967295u);
-    for (int t = 0; t < 65; t++) found_ours[t] = found_peer[t] = (uint16_t)below(65536);
-    ours_find(), peers_find();
-    if (!same_find()) differ("find");
-    count(a.s.kind);
-    refusals[a.s.number]++;
-}
-
 static void check(long cases) {
     static uint8_t plant[8192];
     static uint16_t w[65], before[64];
     static uint32_t s[300 * 70];
     static uint16_t n[2 + 16 * (2 + ROW_NUMBERS * 256) + 1];
-    long read_with[27] = {0}, refusals[27] = {0}, above_limit[2] = {0}, event_refusals[30] = {0}, search_refusals[31] = {0};
+    long read_with[27] = {0}, refusals[27] = {0}, above_limit[2] = {0}, event_refusals[30] = {0};
     file = plant;
     numbers = n;
     weights = w;
@@ -456,7 +425,6 @@ static void check(long cases) {
         count(a.q.kind);
         for (size_t k = 0; k < 2; k++) above_limit[k] += a.q.number == HEMTALUQ_AMOUNT_LIMIT && a.q.place == weight_count + k;
         check_watcher(event_refusals);
-        check_search(r.types, search_refusals);
         set_length = random_set(s, r.kind == HEMTALUQ_COUNTS ? (unsigned)r.machines : 1);
         ours_confirm(), peers_confirm();
         if (!same_confirm()) differ("confirm");
@@ -478,16 +446,13 @@ static void check(long cases) {
     }
     for (int k = HEMTALUQ_ROW_IMPOSSIBLE; k <= HEMTALUQ_EVENT_LIMIT; k++)
         if (event_refusals[k] < cases / 100) die("a refusal of an event was met too seldom");
-    for (int k = 0; k < 4; k++)
-        if (search_refusals[(const int[]){HEMTALUQ_SEARCH_SIZE, HEMTALUQ_CONTENT_COUNT, HEMTALUQ_AMOUNT_LIMIT, HEMTALUQ_WEIGHT_COUNT}[k]] < cases / 1000)
-            die("a refusal of find was met too seldom");
-    for (int k = 0; k < 12; k++)
+    for (int k = 0; k < 10; k++)
         if (with_both[k] < cases / 100) die("an answer was met too seldom with rows that take and send");
     if (read_with[0] < cases / 2 || read_with[HEMTALUQ_TWIN_ROW] < cases / 100) die("files that read, or twin rows in files, were met too seldom");
     if (above_limit[0] < cases / 200 || above_limit[1] < cases / 200) die("g or d above its limit was met too seldom");
     for (int k = HEMTALUQ_LIST_LENGTH; k <= HEMTALUQ_TWIN_ROW; k++)
         if (refusals[k] < cases / 100) die("a refusal of write was met too seldom");
-    printf("{\"cases\": %ld, \"refused\": %ld, \"counts\": %ld, \"passed\": %ld, \"cycle\": %ld, \"ceiling\": %ld, \"listed\": %ld, \"confirmed\": %ld, \"negative\": %ld, \"wrote\": %ld, \"remaining\": %ld, \"found\": %ld, \"no_weights\": %ld}\n", cases, kinds[0], kinds[1], kinds[2], kinds[3], kinds[4], kinds[5], kinds[6], kinds[7], kinds[8], kinds[9], kinds[10], kinds[11]);
+    printf("{\"cases\": %ld, \"refused\": %ld, \"counts\": %ld, \"passed\": %ld, \"cycle\": %ld, \"ceiling\": %ld, \"listed\": %ld, \"confirmed\": %ld, \"negative\": %ld, \"wrote\": %ld, \"remaining\": %ld}\n", cases, kinds[0], kinds[1], kinds[2], kinds[3], kinds[4], kinds[5], kinds[6], kinds[7], kinds[8], kinds[9]);
 }
 
 /* ---- GLPK, by its shared library; no header is needed */
@@ -705,20 +670,14 @@ int main(int argc, char **argv) {
         growth(reps, argc - 4, argv + 4);
         return 0;
     }
-    void (*ours)(void) = 0, (*theirs)(void) = 0;
-    int (*same)(void) = 0;
     file = load(argv[3], &file_length);
     for (int i = 0; i < 64; i++) contents[i] = 1000;
-    if (!strcmp(call, "find") || !strcmp(call, "places")) {
-        allowed = (uint16_t)atoi(argv[4]);
-        figure = strtoull(argv[5], 0, 10);
-        content_count = found_room = peer_read(file, file_length).types;
-        ours = ours_find, theirs = peers_find, same = same_find;
-        if (!strcmp(call, "places")) ours = with_places, theirs = without_places;
-    } else if (argc > 4 && strcmp(call, "list") && strcmp(call, "confirm")) {
+    if (argc > 4 && strcmp(call, "list") && strcmp(call, "confirm")) {
         weights = load(argv[4], &weight_count);
         weight_count /= 2;
     }
+    void (*ours)(void) = 0, (*theirs)(void) = 0;
+    int (*same)(void) = 0;
     if (!strcmp(call, "read")) ours = ours_read, theirs = peers_read, same = same_read;
     if (!strcmp(call, "decode")) ours = ours_read, theirs = peers_decode, same = same_read;
     if (!strcmp(call, "weigh")) ours = ours_weigh, theirs = peers_weigh, same = same_weigh;
@@ -760,7 +719,6 @@ int main(int argc, char **argv) {
     }
     if (!ours) die("unknown call");
     if (stack) stack_use(ours, theirs);
-    else if (reps == 1 && !strcmp(call, "places")) once(ours, theirs, same);
     else checked(reps, ours, theirs, same);
     return 0;
 }

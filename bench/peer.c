@@ -2,8 +2,7 @@
  *
  * Nothing here is proved. Tables are filled in place and never copied, and but for the numbers of rows between states never
  * cleared; heights are relaxed in place in 32 bits; states that were left are bits of a word; the price class is a count of
- * leading zeros; lists of weights are counted up in place and held against the stored effects of walks that made earlier lists fail; a watcher's
- * event looks at one row of the table that opening made.
+ * leading zeros; a watcher's event looks at one row of the table that opening made.
  *
  * With ANY_BYTES the calls on a watcher also judge what only a struct that no call handed back can have, and no sum wraps, as the
  * library's do; the benchmarks leave it out. */
@@ -202,37 +201,33 @@ static int decide(const struct edge *e, unsigned count, unsigned states, int32_t
 
 #define NO_WALK (-1000000000)
 
-/* The closed walk from one start with the fewest rows, fewer than `end`, that weighs zero or more: exact lengths, then back through the tables.
- * Its rows go to `best`; `end`, and nothing written, if there is none. */
-INLINE unsigned show_from(const struct edge *e, unsigned count, unsigned states, unsigned start, unsigned end, int32_t walk[65][64], uint16_t *best) {
-    for (unsigned s = 0; s < states; s++) walk[0][s] = NO_WALK;
-    walk[0][start] = 0;
-    for (unsigned k = 1; k < end; k++) {
-        int32_t *now = walk[k], *old = walk[k - 1];
-        for (unsigned s = 0; s < states; s++) now[s] = NO_WALK;
-        for (unsigned i = 0; i < count; i++) {
-            int32_t along = old[e[i].to] + e[i].weight;
-            if (along > now[e[i].from]) now[e[i].from] = along;
-        }
-        if (now[start] < 0) continue;
-        unsigned s = start;
-        for (unsigned i = 0; i < k; i++) {
-            unsigned j = 0;
-            while (e[j].from != s || walk[k - i - 1][e[j].to] + e[j].weight != walk[k - i][s]) j++;
-            best[i] = e[j].row;
-            s = e[j].to;
-        }
-        return k;
-    }
-    return end;
-}
-
-/* The closed walk with the fewest rows, at most `limit`, that weighs zero or more, from any start. Its rows go to `best`; one more than the limit,
- * and nothing written, if there is none. */
+/* The closed walk with the fewest rows, at most `limit`, that weighs zero or more: exact lengths from each start, then back through the
+ * tables. Its rows go to `best`; one more than the limit, and nothing written, if there is none. */
 static unsigned show(const struct edge *e, unsigned count, unsigned states, unsigned limit, uint16_t *best) {
     int32_t walk[65][64];
     unsigned length = limit + 1;
-    for (unsigned start = 0; start < states && length > 1; start++) length = show_from(e, count, states, start, length, walk, best);
+    for (unsigned start = 0; start < states && length > 1; start++) {
+        for (unsigned s = 0; s < states; s++) walk[0][s] = NO_WALK;
+        walk[0][start] = 0;
+        for (unsigned k = 1; k < length; k++) {
+            int32_t *now = walk[k], *old = walk[k - 1];
+            for (unsigned s = 0; s < states; s++) now[s] = NO_WALK;
+            for (unsigned i = 0; i < count; i++) {
+                int32_t along = old[e[i].to] + e[i].weight;
+                if (along > now[e[i].from]) now[e[i].from] = along;
+            }
+            if (now[start] < 0) continue;
+            length = k;
+            unsigned s = start;
+            for (unsigned i = 0; i < k; i++) {
+                unsigned j = 0;
+                while (e[j].from != s || walk[k - i - 1][e[j].to] + e[j].weight != walk[k - i][s]) j++;
+                best[i] = e[j].row;
+                s = e[j].to;
+            }
+            break;
+        }
+    }
     return length;
 }
 
@@ -333,107 +328,6 @@ hemtaluq_quote_answer peer_quote(const uint8_t *file, size_t length, const uint1
     a.number = (uint8_t)fault.number;
     a.place = fault.place;
     return a;
-}
-
-/* ---- weights for a wanted ceiling */
-
-#define PLACES 64
-#define FAILED_BETWEEN 32
-
-/* The lists that were decided and failed, and the effects that are stored: what closed walks of quiet rows send less what they take, of each type. */
-struct search {
-    unsigned failed, stored, places;
-    int64_t effects[PLACES][HEMTALUQ_SEARCHED_TYPES];
-};
-
-/* Whether a stored effect weighs zero or more: its walk is one that no such weights pass. */
-static int fails_by_effect(const struct search *s, const int32_t *laid) {
-    for (unsigned i = 0; i < s->stored; i++) {
-        int64_t weight = 0;
-        for (unsigned k = 0; k < HEMTALUQ_SEARCHED_TYPES; k++) weight += s->effects[i][k] * laid[k];
-        if (weight >= 0) return 1;
-    }
-    return 0;
-}
-
-/* Stores the effect of a closed walk of a machine that fails, if the search from one state finds one; at the next call it begins at the next state. */
-static void store_effect(struct search *s, const struct table *t, unsigned m, const struct edge *e, unsigned count) {
-    int32_t walk[65][64];
-    uint16_t rows[64];
-    int64_t effect[NO_TYPE + 1] = {0};
-    unsigned states = t->states[m], start = s->failed / FAILED_BETWEEN % states, length = show_from(e, count, states, start, states + 1, walk, rows);
-    if (length > states) return;
-    for (unsigned i = 0; i < length; i++) {
-        effect[t->sent[rows[i]]]++;
-        effect[t->taken[rows[i]]]--;
-    }
-    memcpy(s->effects[s->stored++], effect, sizeof s->effects[0]);
-}
-
-/* Whether a list passes, machine by machine; each time that so many have failed, an effect is stored while there is a place. */
-static int decide_list(struct search *s, const struct table *t, const int32_t *laid, int32_t n) {
-    struct edge e[256];
-    for (unsigned m = 0; m < t->machines; m++) {
-        unsigned states = t->states[m], count = edges_of(t, m, laid, e);
-        if (decide(e, count, states, n)) continue;
-        s->failed++;
-        if (s->failed % FAILED_BETWEEN == 0 && s->stored < s->places) store_effect(s, t, m, e, count);
-        return 0;
-    }
-    return 1;
-}
-
-/* The next list in ascending order; whether there is one. */
-static int count_up(int32_t *laid, unsigned types, int32_t allowed) {
-    for (unsigned i = types; i > 0; i--) {
-        if (laid[i - 1] < allowed) {
-            laid[i - 1]++;
-            return 1;
-        }
-        laid[i - 1] = 0;
-    }
-    return 0;
-}
-
-/* Goes through the lists from the one that is laid out, zeros, up to the first that gives the figure; whether there is one. */
-static int search_lists(struct search *s, const struct table *t, const uint32_t *contents, int32_t allowed, uint64_t figure, int32_t *laid) {
-    do {
-        hemtaluq_weigh_answer w = {0};
-        uint64_t content_weight = 0;
-        figures(t, laid, &w);
-        for (unsigned k = 0; k < t->types; k++) content_weight += (uint64_t)laid[k] * contents[k];
-        if (w.base + w.most_states * content_weight > figure || fails_by_effect(s, laid)) continue;
-        if (decide_list(s, t, laid, (int32_t)w.most_states)) return 1;
-    } while (count_up(laid, t->types, allowed));
-    return 0;
-}
-
-/* Checks 30, 20, 21 and 9. */
-static struct fault judge_search(const struct table *t, const uint32_t *contents, size_t content_count, uint16_t allowed, size_t weight_count) {
-    if (t->types > HEMTALUQ_SEARCHED_TYPES || allowed > HEMTALUQ_SEARCHED_WEIGHT) FAULT(30, 0);
-    struct fault fault = amounts(t, contents, content_count, 0, 0);
-    if (!fault.number && weight_count != t->types) FAULT(9, 0);
-    return fault;
-}
-
-hemtaluq_find_answer peer_find_places(const uint8_t *file, size_t length, const uint32_t *contents, size_t content_count, uint16_t allowed,
-                                      uint64_t figure, uint16_t *weights, size_t weight_count, unsigned places) {
-    struct table t;
-    struct search s;
-    int32_t laid[NO_TYPE + 1] = {0};
-    struct fault fault = decode_table(file, length, &t);
-    if (!fault.number) fault = judge_search(&t, contents, content_count, allowed, weight_count);
-    if (fault.number) return (hemtaluq_find_answer){HEMTALUQ_REFUSED, (uint8_t)fault.number, fault.place};
-    s.failed = s.stored = 0;
-    s.places = places;
-    if (!search_lists(&s, &t, contents, allowed, figure, laid)) return (hemtaluq_find_answer){HEMTALUQ_NO_WEIGHTS, 0, 0};
-    for (unsigned i = 0; i < t.types; i++) weights[i] = (uint16_t)laid[i];
-    return (hemtaluq_find_answer){HEMTALUQ_FOUND_WEIGHTS, 0, 0};
-}
-
-hemtaluq_find_answer peer_find(const uint8_t *file, size_t length, const uint32_t *contents, size_t content_count, uint16_t allowed, uint64_t figure,
-                               uint16_t *weights, size_t weight_count) {
-    return peer_find_places(file, length, contents, content_count, allowed, figure, weights, weight_count, PLACES);
 }
 
 /* ---- listing */

@@ -14,11 +14,6 @@ hemtaluq_quote_answer peer_quote(const uint8_t *file, size_t file_length, const 
 hemtaluq_list_answer peer_list(const uint8_t *file, size_t file_length, uint32_t machine, uint16_t *out, size_t out_length);
 hemtaluq_confirm_answer peer_confirm(const uint8_t *file, size_t file_length, const uint32_t *set, size_t set_length);
 hemtaluq_write_answer peer_write(const uint16_t *numbers, size_t number_count, uint8_t *out, size_t out_length);
-hemtaluq_find_answer peer_find(const uint8_t *file, size_t file_length, const uint32_t *contents, size_t content_count, uint16_t allowed,
-                               uint64_t figure, uint16_t *weights, size_t weight_count);
-/* The same with so many places for effects, 0 to 64. */
-hemtaluq_find_answer peer_find_places(const uint8_t *file, size_t file_length, const uint32_t *contents, size_t content_count, uint16_t allowed,
-                                      uint64_t figure, uint16_t *weights, size_t weight_count, unsigned places);
 /* A watcher's lists are those of hemtaluq.h. */
 hemtaluq_watch_answer peer_watch_open(uint8_t copy[8192], uint8_t table[8192], uint64_t sizes[5], uint8_t states[16], uint64_t contents[64],
                                       uint64_t counts[3], const uint8_t *file, size_t file_length, const uint16_t *weights, size_t weight_count,

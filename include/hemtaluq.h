@@ -4,8 +4,8 @@
  * is given anew, judges every length and every number of it, and keeps nothing. No call allocates, blocks, or keeps a pointer.
  * What a watcher keeps is a struct that the caller lends to each call on it.
  *
- * The caller's part: every pointer is aligned and valid for its length, and a list that a call may write to (cycle, out, weights
- * of find, a watcher) overlaps nothing else that the call is given. The pointer of a list of length 0 may be null.
+ * The caller's part: every pointer is aligned and valid for its length, and a list that a call may write to (cycle, out, a
+ * watcher) overlaps nothing else that the call is given. The pointer of a list of length 0 may be null.
  *
  * Every answer has a kind. With HEMTALUQ_REFUSED, number and place say which fault was met first and where. Fields that
  * an answer does not use are 0, and a list that was lent keeps its contents unless the kind says that it was written; a
@@ -29,7 +29,7 @@
  * files and lists with a twin row were accepted before. 5: a row can take and send; a row of write's list has six numbers,
  * with kind 3; the longest file and the longest list are longer; files with such rows were refused with 4 before. 6: weigh
  * hands back per_doubling and quote takes d, the most doublings; the largest ceiling is larger; quotes of before are those
- * with d 0. 7: the calls on a watcher, with kind 9 and numbers 27 to 29. 8: find, with kinds 10 and 11 and number 30.
+ * with d 0. 7: the calls on a watcher, with kind 9 and numbers 27 to 29.
  */
 #ifndef HEMTALUQ_H
 #define HEMTALUQ_H
@@ -37,7 +37,7 @@
 #include <stddef.h>
 #include <stdint.h>
 
-#define HEMTALUQ_VERSION 8
+#define HEMTALUQ_VERSION 7
 
 #define hemtaluq_read hemtaluq_read_v1
 #define hemtaluq_weigh hemtaluq_weigh_v2
@@ -45,7 +45,6 @@
 #define hemtaluq_list hemtaluq_list_v1
 #define hemtaluq_confirm hemtaluq_confirm_v1
 #define hemtaluq_write hemtaluq_write_v2
-#define hemtaluq_find hemtaluq_find_v1
 
 #ifdef __cplusplus
 extern "C" {
@@ -65,9 +64,7 @@ enum hemtaluq_kind {
     HEMTALUQ_CONFIRMED = 6, /* confirm: the set is balanced */
     HEMTALUQ_NEGATIVE = 7,  /* confirm: a type's sum is below zero */
     HEMTALUQ_WROTE = 8,     /* write: the shortest file of the plant was written to the lent buffer */
-    HEMTALUQ_REMAINING = 9, /* a call on a watcher: opened, or the event was accepted; how many quiet rows are left */
-    HEMTALUQ_FOUND_WEIGHTS = 10, /* find: weights that give the figure were written to the lent list */
-    HEMTALUQ_NO_WEIGHTS = 11     /* find: no weights up to the allowed one give the figure */
+    HEMTALUQ_REMAINING = 9  /* a call on a watcher: opened, or the event was accepted; how many quiet rows are left */
 };
 
 /* The number of a refusal, and what its place is. */
@@ -99,8 +96,7 @@ enum hemtaluq_fault {
     HEMTALUQ_TWIN_ROW = 26,         /* a row equal to an earlier row of its machine; the row's map byte; in the writer's list the row's first number */
     HEMTALUQ_ROW_IMPOSSIBLE = 27,   /* a row that the plant lacks, or that cannot happen now; 0 */
     HEMTALUQ_MESSAGE_ABSENT = 28,   /* a loss or doubling of a type that the plant lacks, or of which no message is present; 0 */
-    HEMTALUQ_EVENT_LIMIT = 29,      /* a progress row that can happen, or a doubling, after 1,000,000 of its own sort; 0 */
-    HEMTALUQ_SEARCH_SIZE = 30       /* a plant of more than 6 types, or an allowed weight above 6, for a search; 0 */
+    HEMTALUQ_EVENT_LIMIT = 29       /* a progress row that can happen, or a doubling, after 1,000,000 of its own sort; 0 */
 };
 
 /* Limits. */
@@ -119,8 +115,6 @@ enum hemtaluq_fault {
 #define HEMTALUQ_LARGEST_CEILING UINT64_C(8256127513008)
 #define HEMTALUQ_PROGRESS_ROWS 1000000  /* the most progress rows that a watcher accepts */
 #define HEMTALUQ_DOUBLINGS 1000000      /* the most doublings that a watcher accepts */
-#define HEMTALUQ_SEARCHED_TYPES 6       /* the most types of a plant for which weights are searched */
-#define HEMTALUQ_SEARCHED_WEIGHT 6      /* the largest allowed weight of a search */
 
 /* The counts of machines, types and rows of a plant file. */
 typedef struct {
@@ -210,23 +204,6 @@ typedef struct {
 } hemtaluq_write_answer;
 
 hemtaluq_write_answer hemtaluq_write(const uint16_t *numbers, size_t number_count, uint8_t *out, size_t out_length);
-
-/* Weights for a wanted ceiling. Of all lists of weights from 0 to allowed, one weight for each type, it looks for those that
- * pass and whose ceiling with these contents, g 0 and d 0 is at most figure; any figure is good. The plant has at most 6 types,
- * allowed is at most 6, there is one content for each type, each at most 1,000,000, and weights has exactly one entry for each
- * type. The faults are judged in this order: those of the file, 30, 20, 21, 9.
- * Found weights: weights holds the first such list by ascending comparison from type 0 on. hemtaluq_weigh passes it, and
- * hemtaluq_quote with g 0 and d 0 answers a ceiling of at most figure: no run that opens with these contents, from any states,
- * without a progress row or a doubling, has more quiet rows.
- * No weights: there is no such list. weights keeps its contents then, as with every refusal. */
-typedef struct {
-    uint8_t kind;   /* HEMTALUQ_FOUND_WEIGHTS, HEMTALUQ_NO_WEIGHTS or HEMTALUQ_REFUSED */
-    uint8_t number; /* refused: the number of the fault */
-    size_t place;   /* refused: where it was met */
-} hemtaluq_find_answer;
-
-hemtaluq_find_answer hemtaluq_find(const uint8_t *file, size_t file_length, const uint32_t *contents, size_t content_count,
-                                   uint16_t allowed, uint64_t figure, uint16_t *weights, size_t weight_count);
 
 /* A watcher follows a run of a plant event by event and says how many quiet rows are left: the ceiling for the progress rows
  * and doublings so far, less the quiet rows so far. It is this struct, which the caller keeps and lends to each call on it: a

@@ -3,7 +3,6 @@
 - stored runs: data/command.txt, and the runs that README.md and examples/README.md show (command_runs.py)
 - plant texts: wrong ones, and the way there and back of the plants of the evidence (command_texts.py)
 - figures and ceilings: random plants, contents, progress rows and doublings (command_quotes.py)
-- weights for a wanted ceiling: random plants, contents, allowed weights and figures (command_find.py)
 - runs that are watched: random plants and events, over a pipe, and ended by Ctrl-C (command_watch.py)
 - weights: the plants of the stored certificates, and a solver that answers anything (command_weights.py)
 - pages: their structure, and in a browser (command_page.py)
@@ -27,7 +26,6 @@ import figures
 
 building.dist()
 
-import command_find  # noqa: E402
 import command_page  # noqa: E402
 import command_quotes  # noqa: E402
 import command_runs  # noqa: E402
@@ -166,20 +164,18 @@ def main():
         tried, runs = hold_runs(folder)
         texts, plants, planted = command_texts.hold(seed)
         quotes, planted_in_quotes = command_quotes.hold(seed)
-        searches, planted_in_find = command_find.hold(seed)
         lines, planted_in_watch = command_watch.hold(seed)
         certificates, planted_in_weights = command_weights.hold(seed)
-        planted += planted_in_quotes + planted_in_find + planted_in_watch + planted_in_weights
+        planted += planted_in_quotes + planted_in_watch + planted_in_weights
         command_page.hold(folder)
         prefix, command = hold_installed(folder)
         if 'pkg-config' not in missing:
             hold_linked(folder, prefix)
         hold_broken(prefix, command)
-    figures.hold(command_runs=runs, command_texts=texts, command_plants=plants, command_quotes=quotes, command_searches=searches, command_lines=lines,
-                 command_planted=planted)
-    print('command.py: %d stored runs, %d texts, %d plants there and back, %d quotes, %d searches, %d lines of runs, weights on %d plants, pages, '
-          'installation, %d planted errors found%s'
-          % (tried, texts, plants, quotes, searches, lines, certificates, planted,
+    figures.hold(command_runs=runs, command_texts=texts, command_plants=plants, command_quotes=quotes, command_lines=lines, command_planted=planted)
+    print('command.py: %d stored runs, %d texts, %d plants there and back, %d quotes, %d lines of runs, weights on %d plants, pages, installation, '
+          '%d planted errors found%s'
+          % (tried, texts, plants, quotes, lines, certificates, planted,
              '; not installed, so what needs them was not tried: ' + ', '.join(missing) if missing else ''))
 
 

@@ -277,11 +277,9 @@ def catches(library):
 # ---- over a pipe, and the binding
 
 def hold_pipe(interrupted):
-    """Each line is answered before the next is written. On Ctrl-C, as at the end, the run is summed up. A shell has what it runs in the background
-    ignore Ctrl-C, and the command would inherit that."""
+    """Each line is answered before the next is written. On Ctrl-C, as at the end, the run is summed up."""
     command = [os.path.join(building.ROOT, 'tools', 'hemtaluq'), 'watch', 'examples/plant_a/plant.txt', '-w', '2', '1', '-c', '3', '4']
-    with subprocess.Popen(command, cwd=building.ROOT, stdin=subprocess.PIPE, stdout=subprocess.PIPE, text=True,
-                          preexec_fn=lambda: signal.signal(signal.SIGINT, signal.SIG_DFL)) as watch:
+    with subprocess.Popen(command, cwd=building.ROOT, stdin=subprocess.PIPE, stdout=subprocess.PIPE, text=True) as watch:
         waiting = threading.Timer(60, watch.kill)
         waiting.start()
         got = [watch.stdout.readline()]

@@ -6,11 +6,10 @@
 - runs: long runs and exact maxima against the bound
 - program: `ceiling` as a process
 - watching: the calls on a watcher, with errors planted in them
-- search: weights for a wanted ceiling, by brute force over all lists, with errors planted in the call, and its time
 
 Every part also takes on planted errors, one after the other, and stops when it does not find one: in what the product is held
-against, and in the product itself (evidence_product.py, evidence_program.py, evidence_watching.py, evidence_search.py). Where networkx or glpsol is
-not installed, the part says what is not run. All is drawn from the seed. The calls are those of the static library in dist/, which is built here.
+against, and in the product itself (evidence_product.py, evidence_program.py, evidence_watching.py). Where networkx or glpsol is not installed, the
+part says what is not run. All is drawn from the seed. The calls are those of the static library in dist/, which is built here.
 What is counted must be what README's section Tests says (figures.py).
 
     python3 tests/evidence.py [--long] [--only PART] [SEED]
@@ -26,7 +25,6 @@ import evidence_calls
 import evidence_cycles
 import evidence_program
 import evidence_runs
-import evidence_search
 import evidence_solver
 import evidence_watching
 import figures
@@ -39,7 +37,6 @@ PARTS = {
     'runs': evidence_runs.main,
     'program': lambda program, folder, seed, long: evidence_program.main(seed, long),
     'watching': lambda program, folder, seed, long: evidence_watching.main(folder, seed, long),
-    'search': lambda program, folder, seed, long: evidence_search.main(folder, seed, long),
 }
 
 

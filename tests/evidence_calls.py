@@ -20,8 +20,7 @@ CALLS = FILE_CALLS + ('write',)
 # A request: `calls` says which of the six are made; `cycle_room` and `list_room` are the lengths of the lent lists, `write_room` that of the buffer.
 Request = namedtuple('Request', 'file weights cycle_room contents g d machine list_room set numbers write_room calls')
 
-# The first part of the program, which that of evidence_search.py has, too: what is lent, what is only read, and the answers of three calls.
-LENT_AND_ANSWERED = r'''#include <stdio.h>
+DRIVER = r'''#include <stdio.h>
 #include <stdlib.h>
 #include <string.h>
 #include "hemtaluq.h"
@@ -80,8 +79,7 @@ static void put_quote(const uint8_t *f, uint32_t n, const uint16_t *w, uint32_t 
     else if (a.kind == HEMTALUQ_REFUSED) { printf("refused %d %zu", a.number, a.place); zero(a.ceiling | a.price_class); }
     else printf("kind %d", a.kind);
 }
-'''
-DRIVER = LENT_AND_ANSWERED + r'''static void put_list(const uint8_t *f, uint32_t n, uint32_t machine, uint32_t room) {
+static void put_list(const uint8_t *f, uint32_t n, uint32_t machine, uint32_t room) {
     uint8_t *copy;
     uint16_t *list = lend(2, room, &copy);
     hemtaluq_list_answer a = hemtaluq_list(f, n, machine, list, room);

@@ -1,4 +1,4 @@
-"""An independent implementation of the documents: reading, weighing, quoting, finding weights, listing, confirming, writing, the line of `ceiling`.
+"""An independent implementation of the documents: reading, weighing, quoting, listing, confirming, writing, and the line of `ceiling`.
 
 It was written from the documents, not from the definitions or the code, and goes through all cycles wherever that is
 feasible: weights are judged on every quiet simple cycle, the fewest rows of one are counted there, listings are made by
@@ -6,10 +6,8 @@ enumeration and sorting. Where a machine has too many cycles for that, weights a
 quiet cycle, and the fewest rows by walks of exact lengths (weighing.py).
 
 Each decision that a reader of the documents could get wrong is a method of its own. PLANTED has copies with one error
-each; the comparisons in evidence_answers.py and evidence_program.py must find every one of them. Finding weights has no such copies: it rests on
-weighing and quoting, and errors are planted in the call (evidence_search.py).
+each; the comparisons in evidence_answers.py and evidence_program.py must find every one of them.
 """
-import itertools
 from collections import namedtuple
 
 import weighing
@@ -37,7 +35,6 @@ class TooMany(Exception):
 class Independent:
     most_rows = 1024
     judged = None
-    searched_lists = None
     by_mean = 0
 
     # ---- reading
@@ -283,33 +280,6 @@ class Independent:
             raise Refused(22, 0)
         ceiling = self.ceiling(self.figures(plant, weights), sum(w * x for w, x in zip(weights, contents)), g, d)
         return 'ceiling %d %d' % (ceiling, self.price_class(ceiling))
-
-    # ---- weights for a wanted ceiling
-
-    def check_search(self, plant, contents, allowed, room):
-        if plant.types > 6 or allowed > 6:
-            raise Refused(30, 0)
-        self.check_amounts(plant, contents, 0, 0)
-        if room != plant.types:
-            raise Refused(9, 0)
-
-    def opening_ceiling(self, plant, weights, contents):
-        """The ceiling without progress rows and doublings."""
-        return self.ceiling(self.figures(plant, weights), sum(w * x for w, x in zip(weights, contents)), 0, 0)
-
-    def passing(self, plant, contents, allowed):
-        """Every list of weights up to the allowed one that passes, with its ceiling. The last answer is kept."""
-        if self.searched_lists is None or self.searched_lists[0] is not plant or self.searched_lists[1] != (contents, allowed):
-            effects = {tuple(self.effect(plant, c)) for m in range(len(plant.states)) for c in self.quiet_cycles(plant, m)}
-            lists = [w for w in itertools.product(range(allowed + 1), repeat=plant.types)
-                     if all(self.good(sum(x * e for x, e in zip(w, effect))) for effect in effects)]
-            self.searched_lists = plant, (list(contents), allowed), [(w, self.opening_ceiling(plant, w, contents)) for w in lists]
-        return self.searched_lists[2]
-
-    def find(self, plant, contents, allowed, figure, room):
-        """The first list that gives the figure, or None."""
-        self.check_search(plant, contents, allowed, room)
-        return min((w for w, ceiling in self.passing(plant, contents, allowed) if ceiling <= figure), default=None)
 
     # ---- listing
 

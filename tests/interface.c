@@ -549,141 +549,6 @@ static void null_pointers(void) {
     write_refused("write, no numbers, null", NULL, 0, 20, HEMTALUQ_LIST_LENGTH, 0);
 }
 
-/* ---- weights for a wanted ceiling */
-
-/* A machine of two states that takes type 0 and then type 1: all weights pass but 0, 0. S is 1 and n 2, so that F is 1 + 2 * w. */
-static const uint8_t takes_both[] = {1, 2, 2, 2, 0x0A, 1, 0, 0x0B, 1, 0, 1};
-
-/* Six machines of one state: the first takes type 0 and sends type 1, and so on, and the last takes type 5. So weights pass where each is below the one
- * before it and the last is above 0. S is 0 and n 1: the ceiling is W. */
-static const uint8_t falling[] = {6, 6, 1, 1, 0x0C, 1, 0, 1, 1, 0x0C, 2, 1, 1, 1, 0x0C, 3, 2, 1, 1, 0x0C, 4, 3, 1, 1, 0x0C, 5, 4, 1, 1, 0x08, 5};
-
-/* Looks for weights with a list of sevens of so much room; whether the answer is this one and the list then holds these weights before sevens. */
-static int finds(const uint8_t *file, size_t length, const uint32_t *contents, size_t count, uint16_t allowed, uint64_t figure, size_t room,
-                 hemtaluq_find_answer e, const uint16_t *weights, size_t written) {
-    uint16_t list[70];
-    int good = 1;
-    for (size_t i = 0; i < 70; i++) list[i] = 7;
-    hemtaluq_find_answer a = hemtaluq_find(file, length, contents, count, allowed, figure, list, room);
-    for (size_t i = 0; i < 70; i++) good = good && list[i] == (i < written ? weights[i] : 7);
-    return good && a.kind == e.kind && a.number == e.number && a.place == e.place;
-}
-
-/* The weights that are found pass, and their ceiling is at most the figure. */
-static void find_is(const char *what, const uint8_t *file, size_t length, const uint32_t *contents, size_t count, uint16_t allowed, uint64_t figure,
-                    const uint16_t *weights) {
-    hemtaluq_find_answer e = {HEMTALUQ_FOUND_WEIGHTS, 0, 0};
-    hemtaluq_quote_answer q = hemtaluq_quote(file, length, weights, count, contents, count, 0, 0);
-    check(what, finds(file, length, contents, count, allowed, figure, count, e, weights, count) && q.kind == HEMTALUQ_CEILING && q.ceiling <= figure);
-}
-
-static void none_is(const char *what, const uint8_t *file, size_t length, const uint32_t *contents, size_t count, uint16_t allowed, uint64_t figure) {
-    hemtaluq_find_answer e = {HEMTALUQ_NO_WEIGHTS, 0, 0};
-    check(what, finds(file, length, contents, count, allowed, figure, count, e, no_weights, 0));
-}
-
-/* Every figure is good, so that none can be what is refused. */
-static void find_refused(const char *what, const uint8_t *file, size_t length, const uint32_t *contents, size_t count, uint16_t allowed, size_t room,
-                         uint8_t number, size_t place) {
-    hemtaluq_find_answer e = {HEMTALUQ_REFUSED, number, place};
-    check(what, finds(file, length, contents, count, allowed, 0, room, e, no_weights, 0)
-                    && finds(file, length, contents, count, allowed, UINT64_MAX, room, e, no_weights, 0));
-}
-
-/* Plant A passes where the second weight is below the first; its ceiling is 2 + 4 * w and twice the weight of the contents. */
-static void finding(void) {
-    const uint32_t none[] = {0, 0}, requests[] = {3, 0}, most[] = {HEMTALUQ_LARGEST_AMOUNT, HEMTALUQ_LARGEST_AMOUNT}, second[] = {0, 5};
-    const uint16_t w10[] = {1, 0}, w01[] = {0, 1}, zero[] = {0};
-    const uint8_t no_rows[] = {1, 1, 1, 0};
-    find_is("A, empty, figure 6", plant_a, sizeof plant_a, none, 2, 6, 6, w10);
-    none_is("A, empty, figure 5", plant_a, sizeof plant_a, none, 2, 6, 5);
-    none_is("A, figure 0", plant_a, sizeof plant_a, none, 2, 6, 0);
-    find_is("A, 3 requests, figure 12", plant_a, sizeof plant_a, requests, 2, 6, 12, w10);
-    none_is("A, 3 requests, figure 11", plant_a, sizeof plant_a, requests, 2, 6, 11);
-    find_is("A, the largest figure", plant_a, sizeof plant_a, none, 2, 6, UINT64_MAX, w10);
-    find_is("A, a figure whose lower 32 bits are 0", plant_a, sizeof plant_a, none, 2, 6, UINT64_C(4294967296), w10);
-    find_is("A, allowed 1", plant_a, sizeof plant_a, none, 2, 1, 6, w10);
-    none_is("A, allowed 0", plant_a, sizeof plant_a, none, 2, 0, UINT64_MAX);
-    find_is("A, the largest contents, figure 2,000,006", plant_a, sizeof plant_a, most, 2, 6, 2000006, w10);
-    none_is("A, the largest contents, figure 2,000,005", plant_a, sizeof plant_a, most, 2, 6, 2000005);
-    none_is("B, the largest figure", plant_b, sizeof plant_b, none, 2, 6, UINT64_MAX);
-    /* 0, 1 weighs the contents with 5 and has the ceiling 3 + 2 * 5; 1, 0 comes later, and has 3. */
-    find_is("the first weights, figure 13", takes_both, sizeof takes_both, second, 2, 6, 13, w01);
-    find_is("later weights, figure 12", takes_both, sizeof takes_both, second, 2, 6, 12, w10);
-    find_is("later weights, figure 3", takes_both, sizeof takes_both, second, 2, 6, 3, w10);
-    none_is("later weights, figure 2", takes_both, sizeof takes_both, second, 2, 6, 2);
-    find_is("weight 0 for a type without rows", no_rows, sizeof no_rows, none, 1, 6, 0, zero);
-    find_is("weight 0, allowed 0", no_rows, sizeof no_rows, most, 1, 0, 0, zero);
-}
-
-/* Of six types and weights up to 6, one list alone passes; with one message of each type it weighs 21. */
-static void finding_last(void) {
-    const uint32_t ones[] = {1, 1, 1, 1, 1, 1};
-    const uint16_t last[] = {6, 5, 4, 3, 2, 1};
-    find_is("six types, figure 21", falling, sizeof falling, ones, 6, HEMTALUQ_SEARCHED_WEIGHT, 21, last);
-    none_is("six types, figure 20", falling, sizeof falling, ones, 6, HEMTALUQ_SEARCHED_WEIGHT, 20);
-    none_is("six types, allowed 5", falling, sizeof falling, ones, 6, HEMTALUQ_SEARCHED_WEIGHT - 1, UINT64_MAX);
-}
-
-/* Without types the empty list is the only one. Its lists may have null pointers, as those of a refusal. */
-static void finding_null(void) {
-    const uint8_t path[] = {1, 0, 3, 2, 0x02, 1, 0x03, 1, 2}, ring[] = {1, 0, 1, 1, 0x00};
-    const uint32_t c34[] = {3, 4};
-    hemtaluq_find_answer a = hemtaluq_find(one_state, sizeof one_state, NULL, 0, 6, 0, NULL, 0);
-    check("find, no types, contents and weights null", a.kind == HEMTALUQ_FOUND_WEIGHTS && a.number == 0 && a.place == 0);
-    a = hemtaluq_find(ring, sizeof ring, NULL, 0, 6, UINT64_MAX, NULL, 0);
-    check("find, no types and a quiet cycle, null", a.kind == HEMTALUQ_NO_WEIGHTS && a.number == 0 && a.place == 0);
-    a = hemtaluq_find(NULL, 0, NULL, 0, 6, 0, NULL, 0);
-    check("find, three null lists", a.kind == HEMTALUQ_REFUSED && a.number == HEMTALUQ_FILE_ENDS && a.place == 0);
-    a = hemtaluq_find(plant_a, sizeof plant_a, c34, 2, 6, UINT64_MAX, NULL, 0);
-    check("find, weights null", a.kind == HEMTALUQ_REFUSED && a.number == HEMTALUQ_WEIGHT_COUNT && a.place == 0);
-    find_refused("find, no file, null", NULL, 0, c34, 2, 6, 2, HEMTALUQ_FILE_ENDS, 0);
-    find_refused("find, contents null", plant_a, sizeof plant_a, NULL, 0, 6, 2, HEMTALUQ_CONTENT_COUNT, 0);
-    find_is("no types, S 2, figure 2", path, sizeof path, no_numbers, 0, 6, 2, no_weights);
-    none_is("no types, S 2, figure 1", path, sizeof path, no_numbers, 0, 6, 1);
-    none_is("no types and a quiet cycle", ring, sizeof ring, no_numbers, 0, 0, UINT64_MAX);
-}
-
-/* In the order of the faults: those of the file, 30, 20, 21, 9. Each has all that come after it as well. */
-static void finding_refused(void) {
-    const uint8_t seven[] = {1, 7, 1, 0}, six[] = {1, 6, 1, 0}, more[] = {1, 7, 1, 0, 0};
-    const uint32_t above[] = {3, HEMTALUQ_LARGEST_AMOUNT + 1}, both[] = {UINT32_MAX, UINT32_MAX}, c34[] = {3, 4}, zeros[65] = {0};
-    const uint16_t w000000[] = {0, 0, 0, 0, 0, 0};
-    find_refused("find, an empty file", no_bytes, 0, above, 2, 7, 3, HEMTALUQ_FILE_ENDS, 0);
-    find_refused("find, a file cut", plant_a, sizeof plant_a - 1, above, 2, 7, 3, HEMTALUQ_FILE_ENDS, sizeof plant_a - 1);
-    find_refused("find, a byte too many", more, sizeof more, above, 2, 7, 3, HEMTALUQ_BYTES_REMAIN, 4);
-    find_refused("find, a twin row", twin_row, sizeof twin_row, above, 2, 7, 3, HEMTALUQ_TWIN_ROW, 20);
-    find_refused("find, 7 types", seven, sizeof seven, zeros, 7, 6, 7, HEMTALUQ_SEARCH_SIZE, 0);
-    find_refused("find, 7 types, before the contents", seven, sizeof seven, above, 2, 0, 3, HEMTALUQ_SEARCH_SIZE, 0);
-    find_refused("find, 64 types", largest, HEMTALUQ_LONGEST_FILE, zeros, 64, 6, 64, HEMTALUQ_SEARCH_SIZE, 0);
-    find_is("find, 6 types", six, sizeof six, zeros, 6, 6, 0, w000000);
-    find_refused("find, allowed 7", plant_a, sizeof plant_a, c34, 2, HEMTALUQ_SEARCHED_WEIGHT + 1, 2, HEMTALUQ_SEARCH_SIZE, 0);
-    find_refused("find, allowed 7, before the contents", plant_a, sizeof plant_a, above, 1, 7, 3, HEMTALUQ_SEARCH_SIZE, 0);
-    find_refused("find, allowed 256", plant_a, sizeof plant_a, c34, 2, 256, 2, HEMTALUQ_SEARCH_SIZE, 0);
-    find_refused("find, the largest allowed", plant_a, sizeof plant_a, c34, 2, UINT16_MAX, 2, HEMTALUQ_SEARCH_SIZE, 0);
-    find_refused("find, allowed 7 without types", one_state, sizeof one_state, no_numbers, 0, 7, 0, HEMTALUQ_SEARCH_SIZE, 0);
-    find_refused("find, a content too few", plant_a, sizeof plant_a, both, 1, 6, 3, HEMTALUQ_CONTENT_COUNT, 0);
-    find_refused("find, a content too many", plant_a, sizeof plant_a, zeros, 3, 6, 2, HEMTALUQ_CONTENT_COUNT, 0);
-    find_refused("find, 65 contents", plant_a, sizeof plant_a, zeros, 65, 6, 2, HEMTALUQ_CONTENT_COUNT, 0);
-    find_refused("find, content 1,000,001", plant_a, sizeof plant_a, above, 2, 6, 3, HEMTALUQ_AMOUNT_LIMIT, 1);
-    find_refused("find, the largest contents of 32 bits", plant_a, sizeof plant_a, both, 2, 6, 1, HEMTALUQ_AMOUNT_LIMIT, 0);
-    find_refused("find, an entry too few", plant_a, sizeof plant_a, c34, 2, 6, 1, HEMTALUQ_WEIGHT_COUNT, 0);
-    find_refused("find, an entry too many", plant_a, sizeof plant_a, c34, 2, 6, 3, HEMTALUQ_WEIGHT_COUNT, 0);
-    find_refused("find, 64 entries", plant_a, sizeof plant_a, c34, 2, 6, 64, HEMTALUQ_WEIGHT_COUNT, 0);
-    find_refused("find, an entry and no types", one_state, sizeof one_state, no_numbers, 0, 6, 1, HEMTALUQ_WEIGHT_COUNT, 0);
-}
-
-/* What the header says of find in numbers. */
-static void finding_numbers(void) {
-    check("find has revision 1", !strcmp(SYMBOL(hemtaluq_find), "hemtaluq_find_v1"));
-    check("find has the kinds 10 and 11", HEMTALUQ_FOUND_WEIGHTS == 10 && HEMTALUQ_NO_WEIGHTS == 11);
-    check("find has the fault 30", HEMTALUQ_SEARCH_SIZE == 30);
-    check("find takes 6 types and weights up to 6", HEMTALUQ_SEARCHED_TYPES == 6 && HEMTALUQ_SEARCHED_WEIGHT == 6);
-    check("kind and number stand before place", offsetof(hemtaluq_find_answer, kind) == 0 && offsetof(hemtaluq_find_answer, number) == 1
-                                                    && offsetof(hemtaluq_find_answer, place) == sizeof(size_t));
-    check("an answer of find has no other field", sizeof(hemtaluq_find_answer) == 2 * sizeof(size_t));
-}
-
 /* ---- watchers */
 
 /* The watcher of these checks, and bytes on both sides of it that no call may touch. */
@@ -976,7 +841,7 @@ static void watching_strange(void) {
 }
 
 int main(void) {
-    check("the header has version 8", HEMTALUQ_VERSION == 8);
+    check("the header has version 7", HEMTALUQ_VERSION == 7);
     check("the library has the header's version", hemtaluq_version() == HEMTALUQ_VERSION);
     check("write has revision 2, and read revision 1", !strcmp(SYMBOL(hemtaluq_write), "hemtaluq_write_v2") && !strcmp(SYMBOL(hemtaluq_read), "hemtaluq_read_v1"));
     make_largest();
@@ -995,11 +860,6 @@ int main(void) {
     refusing_twins();
     written_is_read();
     null_pointers();
-    finding_numbers();
-    finding();
-    finding_last();
-    finding_null();
-    finding_refused();
     opening();
     opening_null();
     without_plant();

@@ -20,8 +20,8 @@ import figures
 ROOT = os.path.dirname(os.path.dirname(os.path.abspath(__file__)))
 STRICT = ['-O2', '-Wall', '-Wextra', '-Werror', '-pedantic', '-Idist']
 RUST = ['rustc', '-O', '-D', 'warnings']
-CALLS = ('read', 'weigh', 'quote', 'list', 'confirm', 'write', 'find', 'watch_open', 'watch_row', 'watch_loss', 'watch_doubling')
-PROGRAMS = ('cabinet', 'designer', 'panel', 'offer')
+CALLS = ('read', 'weigh', 'quote', 'list', 'confirm', 'write', 'watch_open', 'watch_row', 'watch_loss', 'watch_doubling')
+PROGRAMS = ('cabinet', 'designer', 'panel')
 
 # Words that are no number from 0 to 1,000,000: none may be taken for another number. The program in Rust gets the last as bytes that are no UTF-8.
 NO_AMOUNTS = ['-1', '-0', 'abc', '1x', 'x1', ' 1', '1 ', '+1', '', '0x1', '1e3', '1.0', '1,0', '1000001', '4294967295', '4294967296', '4294967297',
@@ -57,55 +57,6 @@ RUNS = [
     ('plant_b', ['1', '4294967296', '3', '4'], 2, AMOUNT % 3),
 ] + [('plant_a', [word, '0', '3', '4'], 2, AMOUNT % 2) for word in NO_AMOUNTS] + [('plant_a', ['1', word, '3', '4'], 2, AMOUNT % 3) for word in NO_AMOUNTS] + [
     ('plant_a', ['1', '0', word, '4'], 2, AMOUNT % 0) for word in NO_AMOUNTS] + [('plant_a', ['1', '0', '3', word], 2, AMOUNT % 1) for word in NO_AMOUNTS]
-
-# Words that are no number: none may be taken for a figure.
-NO_FIGURES = ['-1', '-0', 'abc', '1x', 'x1', ' 1', '1 ', '+1', '', '0x1', '1e3', '1.0', '1,0', '\u0661', '\udcff']
-LARGEST_FIGURE = 2 ** 64 - 1
-FOUND = 'weights %s: at most %d steps without a fresh reading (price class %d)'
-NO_WEIGHTS = 'no weights up to %d give a ceiling of at most %d'
-SEARCH_SIZE = 'refused with 30 at 0: the plant has more than 6 types, or the allowed weight is not a number up to 6'
-# What examples/README.md shows. Of the server in turn F is 11 + 66 * w; where the first two weights are 0, the third is 2 or more.
-SHOWN_OFFERS = [('two_clients_in_turn', ['6', '100'] + 6 * ['0'], 0, FOUND % ('1 0 1 0 1 0', 77, 7)),
-                ('two_clients_in_turn', ['6', '76'] + 6 * ['0'], 1, NO_WEIGHTS % (6, 76))]
-# Folder of examples/, ALLOWED, FIGURE and contents, the exit code, and what an offer program prints.
-OFFERS = SHOWN_OFFERS + [
-    ('two_clients_in_turn', ['6', '77'] + 6 * ['0'], 0, FOUND % ('1 0 1 0 1 0', 77, 7)),
-    ('two_clients_in_turn', ['6', '143'] + 6 * ['0'], 0, FOUND % ('0 0 2 0 1 0', 143, 8)),
-    ('two_clients_in_turn', ['6', '142'] + 6 * ['0'], 0, FOUND % ('1 0 1 0 1 0', 77, 7)),
-    ('two_clients_in_turn', ['1', '143'] + 6 * ['0'], 0, FOUND % ('1 0 1 0 1 0', 77, 7)),
-    # The release weighs 2 with the first weights and 1 with the later ones.
-    ('two_clients_in_turn', ['6', '191', '0', '0', '4', '0', '0', '9'], 0, FOUND % ('0 0 2 0 1 0', 191, 8)),
-    ('two_clients_in_turn', ['6', '190', '0', '0', '4', '0', '0', '9'], 0, FOUND % ('1 0 1 0 1 0', 101, 7)),
-    ('two_clients', ['6', '1000000'] + 6 * ['0'], 1, NO_WEIGHTS % (6, 1000000)),
-    ('plant_a', ['6', '12', '3', '4'], 0, FOUND % ('1 0', 12, 4)),
-    ('plant_a', ['6', '11', '3', '4'], 1, NO_WEIGHTS % (6, 11)),
-    ('plant_a', ['1', '12', '3', '4'], 0, FOUND % ('1 0', 12, 4)),
-    ('plant_a', ['0', '12', '3', '4'], 1, NO_WEIGHTS % (0, 12)),
-    ('plant_a', ['06', '0000000000000000000000000000000000000012', '3', '04'], 0, FOUND % ('1 0', 12, 4)),
-    ('plant_a', ['6', '2000006', '1000000', '1000000'], 0, FOUND % ('1 0', 2000006, 21)),
-    ('plant_a', ['6', '2000005', '1000000', '1000000'], 1, NO_WEIGHTS % (6, 2000005)),
-    ('feeder', ['6', '15', '1', '0'], 0, FOUND % ('1 0', 15, 4)),
-    ('feeder', ['6', '14', '1', '0'], 1, NO_WEIGHTS % (6, 14)),
-    ('detour', ['6', '4294967296', '0', '0'], 1, NO_WEIGHTS % (6, 4294967296)),
-    # Figures of 64 bits and more: the largest stands for a larger one.
-    ('plant_b', ['6', '18446744073709551615', '0', '0'], 1, NO_WEIGHTS % (6, LARGEST_FIGURE)),
-    ('plant_b', ['6', '18446744073709551616', '0', '0'], 1, NO_WEIGHTS % (6, LARGEST_FIGURE)),
-    ('plant_b', ['6', '18446744073709551620', '0', '0'], 1, NO_WEIGHTS % (6, LARGEST_FIGURE)),
-    ('plant_b', ['6', '18446744073709551609', '0', '0'], 1, NO_WEIGHTS % (6, LARGEST_FIGURE - 6)),
-    ('plant_a', ['6', '18446744073709551617', '3', '4'], 0, FOUND % ('1 0', 12, 4)),
-    ('plant_a', ['6', '100000000000000000000000000001', '3', '4'], 0, FOUND % ('1 0', 12, 4)),
-    # The faults in the order of the call.
-    ('no_such_folder', ['abc', '1', 'abc'], 2, 'refused with 1 at 0: the plant file ends too soon'),
-    ('twin_row', ['7', '1', '3'], 2, 'refused with 26 at 20: a row is equal to an earlier row of its machine'),
-    ('plant_a', ['7', '12', '3'], 2, SEARCH_SIZE),
-    ('plant_a', ['6', '12', 'abc'], 2, 'refused with 20 at 0: there is not one content for each type'),
-    ('plant_a', ['6', '12', '3', '4', '5'], 2, 'refused with 20 at 0: there is not one content for each type'),
-    ('plant_a', ['6', '12'] + 100 * ['3'], 2, 'refused with 20 at 0: there is not one content for each type'),
-    ('plant_a', ['6', '12', 'abc', 'abc'], 2, AMOUNT % 0),
-    # Some of these would be 6, if they wrapped at their width.
-] + [('plant_a', [word, '12', '3', '4'], 2, SEARCH_SIZE) for word in ['7', '255', '262', '65535', '65536', '65542', '4294967302'] + NO_AMOUNTS] + [
-    ('plant_a', ['6', '12', word, '4'], 2, AMOUNT % 0) for word in NO_AMOUNTS] + [
-    ('plant_a', ['6', '12', '3', word], 2, AMOUNT % 1) for word in NO_AMOUNTS]
 
 # The folders of examples/ with a list; their plant files are the shortest.
 LISTED = ['plant_a', 'plant_b', 'two_clients', 'two_clients_in_turn', 'detour', 'feeder']
@@ -290,25 +241,6 @@ def hold_runs(program, runs):
             sys.exit('interface.py: %s on %s %s: exit code %d, %s' % (program, folder, numbers, done.returncode, done.stdout + done.stderr))
 
 
-def offer_run(program, folder, numbers):
-    return subprocess.run([program, os.path.join('examples', folder, 'plant.bin')] + numbers, cwd=ROOT, capture_output=True, text=True)
-
-
-def hold_offers(program, offers):
-    for folder, numbers, code, line in offers:
-        done = offer_run(program, folder, numbers)
-        if (done.returncode, done.stdout, done.stderr) != (code, line + '\n', ''):
-            sys.exit('interface.py: %s on %s %s: exit code %d, %s' % (program, folder, numbers, done.returncode, done.stdout + done.stderr))
-
-
-def hold_no_figures(program):
-    """A word that is no figure is told with how the program is used: no call can refuse it."""
-    for numbers in [['6', word, '3', '4'] for word in NO_FIGURES] + [['6'], []]:
-        done = offer_run(program, 'plant_a', numbers)
-        if done.returncode != 2 or done.stdout or not done.stderr.startswith('usage: offer PLANT ALLOWED FIGURE CONTENT...'):
-            sys.exit('interface.py: %s with %s: exit code %d, %s' % (program, numbers, done.returncode, done.stdout + done.stderr))
-
-
 def panel_command(program, folder, contents):
     return [program] + [os.path.join('examples', folder, name) for name in ('plant.bin', 'weights.bin')] + contents
 
@@ -408,7 +340,7 @@ def hold_shown():
     """The lines that examples/README.md shows are those of runs."""
     with open(os.path.join(ROOT, 'examples', 'README.md'), encoding='utf-8') as source:
         shown = re.findall(r'(?m)^    (.*)$', source.read())
-    owed = [SHOWN[0][2], *SHOWN_PANEL[4], *(line for *_, line in SHOWN_OFFERS), SHOWN[1][2]]
+    owed = [SHOWN[0][2], *SHOWN_PANEL[4], SHOWN[1][2]]
     if shown != owed:
         sys.exit('interface.py: examples/README.md shows %s, where the programs print %s' % (shown, owed))
 
@@ -437,16 +369,13 @@ def hold_programs(folder):
         hold_unprinted(program)
         if i == 0:    # A million lines take seconds; that the program in Rust has the words, interface.rs holds.
             hold_panel_limits(program, folder)
-    for program in built(folder, 'offer'):
-        hold_offers(program, OFFERS)
-        hold_no_figures(program)
     hold_build_lines(folder)
 
 
 def hold_build_lines(folder):
     """README.md has the lines that compile each program, and they do."""
     first = {'cabinet': lambda program: hold_runs(program, RUNS[:2]), 'designer': lambda program: hold_lists(program, folder, LISTS[:2]),
-             'panel': lambda program: hold_panels(program, PANELS[:2]), 'offer': lambda program: hold_offers(program, OFFERS[:2])}
+             'panel': lambda program: hold_panels(program, PANELS[:2])}
     with open(os.path.join(ROOT, 'README.md'), encoding='utf-8') as source:
         lines = re.findall(r'(?m)^    ((?:gcc|rustc) .*)$', source.read())
     named = [(line.split()[0], program) for line in lines for program in re.findall(r' examples/(\w+)/', line)]
@@ -528,8 +457,7 @@ def hold_other_version(folder):
     library = renamed(folder, 'hemtaluq_version', 'hemtaluq_version_of_before')
     run(['gcc', '-x', 'c', '-', '-c', '-o', other], input='unsigned hemtaluq_version(void) { return 1; }\n')
     files = ['examples/plant_a/plant.bin', 'examples/plant_a/weights.bin']
-    given = {'cabinet': files + ['1', '0', '3', '4'], 'designer': ['examples/plant_a/plant.list.txt', plant], 'panel': files + PANEL_A,
-             'offer': files[:1] + ['6', '12', '3', '4']}
+    given = {'cabinet': files + ['1', '0', '3', '4'], 'designer': ['examples/plant_a/plant.list.txt', plant], 'panel': files + PANEL_A}
     for name in PROGRAMS:
         source = 'examples/%s/%s' % (name, name)
         commands = [['gcc', '-Idist', source + '.c', other, os.path.join(library, 'libhemtaluq.a'), '-o', program]]
@@ -569,10 +497,9 @@ def main():
         if shutil.which('size'):
             hold_no_tables(folder)
     missing = [tool for tool in ('valgrind', 'rustc', 'objcopy', 'size') if not shutil.which(tool)]
-    figures.hold(cabinet_runs=len(RUNS), designer_runs=len(LISTS), panel_runs=len(PANELS), offer_runs=len(OFFERS))
-    print('interface.py: C99 and C++, %d runs of each cabinet program, %d of each designer program, %d of each panel program, '
-          '%d of each offer program, revisions%s'
-          % (len(RUNS), len(LISTS), len(PANELS), len(OFFERS),
+    figures.hold(cabinet_runs=len(RUNS), designer_runs=len(LISTS), panel_runs=len(PANELS))
+    print('interface.py: C99 and C++, %d runs of each cabinet program, %d of each designer program, %d of each panel program, revisions%s'
+          % (len(RUNS), len(LISTS), len(PANELS),
              '; missing, and so not tried: ' + ', '.join(missing) if missing else ', valgrind, rustc, objcopy and size all there'))
 
 

@@ -14,9 +14,6 @@ const LIST_A: [u16; 30] = [2, 2, 2, 2, 0, 1, 1, 0, 0, 0, 1, 0, 2, 1, 1, 0, 2, 2,
 const BOTH: [u8; 7] = [1, 2, 1, 1, 0x0C, 0, 1];
 const LIST_BOTH: [u16; 10] = [1, 2, 1, 1, 0, 0, 3, 1, 0, 0];
 
-// A machine of two states that takes type 0 and then type 1: all weights pass but 0, 0.
-const TAKES_BOTH: [u8; 11] = [1, 2, 2, 2, 0x0A, 1, 0, 0x0B, 1, 0, 1];
-
 fn fault(number: u8, place: usize) -> Fault {
     Fault { number, place }
 }
@@ -52,39 +49,6 @@ fn writing() {
     let file = hemtaluq::write(&longest).expect("the longest list is written");
     assert_eq!(file.len(), hemtaluq::LONGEST_FILE);
     assert_eq!(hemtaluq::read(&file), Ok(Counts { machines: 16, types: 64, rows: 1024 }));
-}
-
-/// Plant A passes where the second weight is below the first; its ceiling is 2 + 4 * w and twice the weight of the contents.
-fn finding() {
-    assert_eq!((hemtaluq::SEARCHED_TYPES, hemtaluq::SEARCHED_WEIGHT), (6, 6));
-    assert_eq!(hemtaluq::find(&PLANT_A, &[3, 0], 6, 12), Ok(Some(vec![1, 0])));
-    assert_eq!(hemtaluq::find(&PLANT_A, &[3, 0], 6, 11), Ok(None));
-    assert_eq!(hemtaluq::find(&PLANT_A, &[3, 0], 1, u64::MAX), Ok(Some(vec![1, 0])));
-    assert_eq!(hemtaluq::find(&PLANT_A, &[3, 0], 0, u64::MAX), Ok(None));
-    assert_eq!(hemtaluq::find(&PLANT_B, &[0, 0], 6, u64::MAX), Ok(None));
-    // The weights 0, 1 come first and have the ceiling 3 + 2 * 5; 1, 0 have 3.
-    assert_eq!(hemtaluq::find(&TAKES_BOTH, &[0, 5], 6, 13), Ok(Some(vec![0, 1])));
-    assert_eq!(hemtaluq::find(&TAKES_BOTH, &[0, 5], 6, 12), Ok(Some(vec![1, 0])));
-    assert_eq!(hemtaluq::find(&[1, 0, 1, 0], &[], 6, 0), Ok(Some(vec![])));
-    assert_eq!(hemtaluq::find(&[1, 0, 1, 1, 0], &[], 6, u64::MAX), Ok(None));
-    assert_eq!(hemtaluq::find(&PLANT_A[..19], &[3, 0], 7, 12), Err(fault(1, 19)));
-    assert_eq!(hemtaluq::find(&[1, 7, 1, 0], &[], 6, 0), Err(fault(30, 0)));
-    assert_eq!(hemtaluq::find(&PLANT_A, &[3], 7, 12), Err(fault(30, 0)));
-    assert_eq!(hemtaluq::find(&PLANT_A, &[3, 0], u16::MAX, 12), Err(fault(30, 0)));
-    assert_eq!(hemtaluq::find(&PLANT_A, &[3], 6, 12), Err(fault(20, 0)));
-    assert_eq!(hemtaluq::find(&PLANT_A, &[3, 1_000_001], 6, 12), Err(fault(21, 1)));
-}
-
-/// The list that is lent is written to where weights are found, and nowhere else.
-fn finding_into() {
-    let mut weights = [7; 3];
-    assert_eq!(hemtaluq::find_into(&PLANT_A, &[3, 0], 6, 12, &mut weights), Err(fault(9, 0)));
-    assert_eq!(hemtaluq::find_into(&PLANT_A, &[3, 0], 6, 12, &mut weights[..1]), Err(fault(9, 0)));
-    assert_eq!(hemtaluq::find_into(&PLANT_A, &[3, 1_000_001], 6, 12, &mut weights[..1]), Err(fault(21, 1)));
-    assert_eq!(hemtaluq::find_into(&PLANT_A, &[3, 0], 6, 11, &mut weights[..2]), Ok(false));
-    assert_eq!(weights, [7; 3]);
-    assert_eq!(hemtaluq::find_into(&PLANT_A, &[3, 0], 6, 12, &mut weights[..2]), Ok(true));
-    assert_eq!(weights, [1, 0, 7]);
 }
 
 fn watching() {
@@ -137,12 +101,11 @@ fn watching_limits() {
 }
 
 fn main() {
-    assert_eq!(hemtaluq::VERSION, 8);
+    assert_eq!(hemtaluq::VERSION, 7);
     assert_eq!(hemtaluq::version(), hemtaluq::VERSION);
     assert_eq!(fault(22, 0).in_words(), "the weights do not pass");
     assert_eq!(fault(26, 0).in_words(), "a row is equal to an earlier row of its machine");
     assert_eq!(fault(29, 0).in_words(), "1,000,000 of its sort were counted, and no more are");
-    assert_eq!(fault(30, 0).in_words(), "the plant has more than 6 types, or the allowed weight is not a number up to 6");
     assert_eq!(hemtaluq::read(&[1, 3, 1, 2, 0, 16]), Ok(Counts { machines: 1, types: 3, rows: 2 }));
     assert_eq!(hemtaluq::read(&[1, 3, 1, 3, 0, 16, 1, 0]), Err(fault(26, 6)));
     assert_eq!(hemtaluq::read(&PLANT_A[..7]), Err(fault(1, 7)));
@@ -168,8 +131,6 @@ fn main() {
     assert_eq!(hemtaluq::confirm(&PLANT_B, &both[..5]), Ok(Confirmed::Negative { message_type: 1, sum: -1 }));
     assert_eq!(hemtaluq::confirm(&PLANT_B, &both[..4]), Err(fault(15, 4)));
     writing();
-    finding();
-    finding_into();
     watching();
     opening();
     watching_limits();

@@ -1,4 +1,4 @@
-/* What cabinet.c, panel.c and offer.c do alike: the files and numbers of their command lines, and faults in words. */
+/* What cabinet.c and panel.c do alike: the files and numbers of their command lines, and faults in words. */
 #include <stdio.h>
 #include "hemtaluq.h"
 
@@ -13,8 +13,7 @@ static const char *in_words(unsigned number) {
         "a content, G or D is not a number up to 1,000,000", "the weights do not pass", "the list of numbers ends early or goes on",
         "a number of the list is outside its values or the limits", "the buffer is too short for the file",
         "a row is equal to an earlier row of its machine", "there is no such row, or it cannot happen now",
-        "there is no such type, or no message of it is present", "1,000,000 of its sort were counted, and no more are",
-        "the plant has more than 6 types, or the allowed weight is not a number up to 6"};
+        "there is no such type, or no message of it is present", "1,000,000 of its sort were counted, and no more are"};
     return number < sizeof words / sizeof words[0] ? words[number] : "unknown";
 }
 
@@ -32,7 +31,7 @@ static size_t load(const char *name, uint8_t *bytes, size_t room) {
 }
 
 /* The weights of a file, of two bytes each, low byte first; how many there are. Half a weight is one weight too many for any plant. */
-static inline size_t load_weights(const char *name, uint16_t weights[HEMTALUQ_MOST_TYPES + 1]) {
+static size_t load_weights(const char *name, uint16_t weights[HEMTALUQ_MOST_TYPES + 1]) {
     uint8_t bytes[2 * HEMTALUQ_MOST_TYPES + 2];
     size_t held = load(name, bytes, sizeof bytes);
     for (size_t t = 0; t < held / 2; t++) weights[t] = (uint16_t)(bytes[2 * t] | bytes[2 * t + 1] << 8);

@@ -1,19 +1,13 @@
 //! Safe wrappers around the C interface of Hemtaluq: slices in, enums out.
 
 /// The version of the interface that these wrappers are written for.
-pub const VERSION: u32 = 8;
+pub const VERSION: u32 = 7;
 
 /// Bytes of the longest plant file.
 pub const LONGEST_FILE: usize = 5154;
 
 /// Numbers of the longest list that says a plant.
 pub const LONGEST_LIST: usize = 6178;
-
-/// The most types of a plant for which weights are searched.
-pub const SEARCHED_TYPES: usize = 6;
-
-/// The largest allowed weight of a search.
-pub const SEARCHED_WEIGHT: u16 = 6;
 
 /// Why a call was refused: the number of the fault and where it was met.
 #[derive(Debug, Clone, Copy, PartialEq, Eq)]
@@ -54,7 +48,6 @@ impl Fault {
             27 => "there is no such row, or it cannot happen now",
             28 => "there is no such type, or no message of it is present",
             29 => "1,000,000 of its sort were counted, and no more are",
-            30 => "the plant has more than 6 types, or the allowed weight is not a number up to 6",
             _ => "unknown",
         }
     }
@@ -146,13 +139,6 @@ struct WriteAnswer {
 }
 
 #[repr(C)]
-struct FindAnswer {
-    kind: u8,
-    number: u8,
-    place: usize,
-}
-
-#[repr(C)]
 struct WatchAnswer {
     kind: u8,
     number: u8,
@@ -174,7 +160,6 @@ struct WatcherLists {
 const REFUSED: u8 = 0;
 const CYCLE: u8 = 3;
 const NEGATIVE: u8 = 7;
-const FOUND_WEIGHTS: u8 = 10;
 
 // The symbols carry the revisions of the structs and arguments above and of the form of the lists: a library with others has other symbols, and
 // is not linked.
@@ -193,8 +178,6 @@ extern "C" {
     fn hemtaluq_confirm(file: *const u8, file_length: usize, set: *const u32, set_length: usize) -> ConfirmAnswer;
     #[link_name = "hemtaluq_write_v2"]
     fn hemtaluq_write(numbers: *const u16, number_count: usize, out: *mut u8, out_length: usize) -> WriteAnswer;
-    #[link_name = "hemtaluq_find_v1"]
-    fn hemtaluq_find(file: *const u8, file_length: usize, contents: *const u32, content_count: usize, allowed: u16, figure: u64, weights: *mut u16, weight_count: usize) -> FindAnswer;
     #[link_name = "hemtaluq_watch_open_v1"]
     fn hemtaluq_watch_open(copy: &mut [u8; 8192], table: &mut [u8; 8192], sizes: &mut [u64; 5], states: &mut [u8; 16], contents: &mut [u64; 64],
                            counts: &mut [u64; 3], file: *const u8, file_length: usize, weights: *const u16, weight_count: usize,
@@ -280,24 +263,6 @@ pub fn write(numbers: &[u16]) -> Result<Vec<u8>, Fault> {
     let length = write_into(numbers, &mut file)?;
     file.truncate(length);
     Ok(file)
-}
-
-/// Whether there are weights from 0 to `allowed` that pass and whose ceiling with these contents, g 0 and d 0 is at most `figure`. Where there are, the
-/// first by ascending comparison from type 0 on is written to `weights`, which has one entry for each type; else that list keeps its contents.
-pub fn find_into(file: &[u8], contents: &[u32], allowed: u16, figure: u64, weights: &mut [u16]) -> Result<bool, Fault> {
-    let a = unsafe { hemtaluq_find(file.as_ptr(), file.len(), contents.as_ptr(), contents.len(), allowed, figure, weights.as_mut_ptr(), weights.len()) };
-    if a.kind == REFUSED {
-        return Err(Fault { number: a.number, place: a.place });
-    }
-    Ok(a.kind == FOUND_WEIGHTS)
-}
-
-/// The first weights by ascending comparison that `find_into` looks for, or none where there are none. There is one entry for each content, and 20 comes
-/// where that is not one for each type, so 9 does not come.
-pub fn find(file: &[u8], contents: &[u32], allowed: u16, figure: u64) -> Result<Option<Vec<u16>>, Fault> {
-    let mut weights = vec![0; contents.len()];
-    let found = find_into(file, contents, allowed, figure, &mut weights)?;
-    Ok(found.then_some(weights))
 }
 
 /// Follows a run of a plant event by event, and says how many quiet rows are left: the ceiling for the progress rows and doublings so far, less the

@@ -2,4 +2,4 @@
 use Rattle.std.specs.Prelude.{ℕ}
 
 abbrev pub interface_version : ℕ
-interface_version = 8
+interface_version = 7

@@ -1,5 +1,5 @@
 // The C interface: the six calls, with answers as structs, and its version. include/hemtaluq.h declares them for C and C++. The exports of the watcher
-// are those of `panel`, and that of the search for weights stands in `sales`.
+// are those of `panel`.
 // The name of a call carries its revision. A call whose struct or arguments change, or the form of a list that it takes, gets the next one, so that
 // an object compiled with an old header finds no symbol and does not link.
 ghost use Rattle.std.specs.Prelude.{◌≡◌, ◌↔◌, length};
@@ -20,7 +20,7 @@ use answer_structs::{
 };
 use cycle_sets::Confirmation;
 
-const VERSION: u32 = 8;
+const VERSION: u32 = 7;
 
 // The version of this library's interface. This export has no revision: what it means never changes.
 #[unsafe(no_mangle)]

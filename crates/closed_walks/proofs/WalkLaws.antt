@@ -17,7 +17,7 @@ use Rattle.livelock.specs.Graphs.{Graph, IsEdge, via}
 use Rattle.livelock.proofs.Graphs.{Within, via_edge, Leads, via_leads, via_bound}
 use Rattle.deciding.specs.Rounds.{edge_graph, EdgesIn}
 use Rattle.deciding.proofs.DecisionLaws.{edges_within}
-use Rattle.closed_walks.specs.ClosedWalks.{ClosedWalk, origin, heaviest, Closes}
+use Rattle.closed_walks.specs.ClosedWalks.{origin, heaviest, Closes}
 
 -- What the search asks of a graph: at most 64 states, and no edge that weighs more than 65,535.
 pub record Searchable (g : Graph) (states : ℕ) : Type 0 where
@@ -30,6 +30,12 @@ pub edges_searchable : {count states : ℕ} {edges : List ℤ} → EdgesIn state
     → Searchable (edge_graph count edges) states
 edges_searchable {count} {states} {edges} ok =
     record { within = edges_within count states edges ok; states_in = ok.states_in; light = λ e u. ok.rise_in e u.0 }
+
+-- A closed walk of edges, from the state a back to it, that weighs zero or more.
+pub record ClosedWalk (g : Graph) (a : ℕ) (es : List ℕ) : Type 0 where
+  pub edges : All (IsEdge g) es
+  pub closed : Walk g.src g.dst a es a
+  pub weighs : sum g.minus es ≤ sum g.plus es
 
 -- ---- walks of exactly k edges
 

@@ -1,14 +1,7 @@
 -- Closed walks from one start: the heaviest walks of exactly k edges, their first edges, and the least k with which one weighs zero or more.
 use Rattle.std.specs.Prelude.{◌≡◌, cond, List, ℕ, zero, suc, ◌+◌, ◌*◌, ◌≤◌, ◌<◌, length, get_or, eqb}
-use Rattle.livelock.specs.Lists.{below, greatest, sum, All}
-use Rattle.livelock.specs.Cycles.{Walk}
+use Rattle.livelock.specs.Lists.{below, greatest}
 use Rattle.livelock.specs.Graphs.{Graph, IsEdge, via}
-
--- A closed walk of edges, from the state a back to it, that weighs zero or more.
-pub record ClosedWalk (g : Graph) (a : ℕ) (es : List ℕ) : Type 0 where
-  pub edges : All (IsEdge g) es
-  pub closed : Walk g.src g.dst a es a
-  pub weighs : sum g.minus es ≤ sum g.plus es
 
 -- Weights of walks are kept with 2 ^ 40 added, and 0 stands for no walk: no walk of at most 64 edges weighs 2 ^ 40 either way.
 abbrev pub origin : ℕ

@@ -1,5 +1,4 @@
-// The contents, g and d: their checks (20, 21 and 22), and the weight W of the contents. No entry point: `quoting` and the
-// search for weights call it.
+// The contents, g and d: their checks (20, 21 and 22), and the weight W of the contents. No entry point: `quoting` calls it.
 ghost use Rattle.std.specs.Prelude.{◌≡◌, [], ◌∷◌, ◌≤◌, length};
 ghost use Rattle.weight_checks.specs.Checks.{first_above};
 ghost use Rattle.contents.specs.Contents.{amounts, AllAtMost, weight_of_contents};
@@ -36,7 +35,7 @@ fn first_above(contents: &[u32], g: u32, d: u32) -> usize
 }
 
 // The refusal of this number and place.
-pub fn refused(number: u8, place: usize) -> Check
+fn refused(number: u8, place: usize) -> Check
     ensures { Refuses number place result }
 {
     Check::Fault(Fault { number, place })

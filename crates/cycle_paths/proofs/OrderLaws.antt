@@ -6,11 +6,9 @@ use mathlib.Core.List.{List, [], ◌∷◌, ◌++◌, map}
 use Prim.Native.Nat.{ℕ, zero, suc, ◌<◌}
 use native.Mathlib.Omega.{arith}
 use Rattle.livelock.specs.Lists.{below, All}
-use Rattle.livelock.specs.Orders.{Before}
 use Rattle.livelock.specs.Plants.{Plant}
 use Rattle.livelock.proofs.ListLaws.{all_below}
-use Rattle.livelock.proofs.Orders.{before_asymmetric}
-use Rattle.cycle_paths.specs.Listings.{In, Ascending, IsListing}
+use Rattle.cycle_paths.specs.Listings.{In, Before, Ascending, IsListing}
 use Rattle.cycle_paths.specs.Cycles.{joined, selected}
 use Rattle.cycle_paths.specs.Rows.{up_from}
 use Rattle.cycle_paths.proofs.ElementLaws.{all_in, in_all, in_either, prefixed_in, joined_in, all_selected, up_from_in}
@@ -93,6 +91,16 @@ increasing_selected test (k ∷ ks) a = go (test k) (increasing_selected test ks
     go false rest = rest
 
 -- ---- cycles
+
+-- Of two cycles not each comes before the other.
+pub before_asymmetric : (c d : List ℕ) → Before c d → Before d c → ⊥
+unfolding Before
+before_asymmetric c [] h k = h
+before_asymmetric [] (y ∷ d) h k = k
+before_asymmetric (x ∷ c) (y ∷ d) (inl h) (inl k) = omega arith
+before_asymmetric (x ∷ c) (y ∷ d) (inl h) (inr k) = omega (arith, k.0)
+before_asymmetric (x ∷ c) (y ∷ d) (inr h) (inl k) = omega (arith, h.0)
+before_asymmetric (x ∷ c) (y ∷ d) (inr h) (inr k) = before_asymmetric c d h.1 k.1
 
 -- Cycles in ascending order are ordered by `Before`,
 ascending_ordered : (cs : List (List ℕ)) → Ascending cs → Ordered Before cs

@@ -12,14 +12,12 @@ use lib.Seq.{get_or-set_other}
 use lib.Dec.{eqb, ltb}
 use borrow.Author.Tests.{eqb-true, eqb-false, ltb-false, eq-eqb, ne_eqb, le-ltb}
 use Rattle.livelock.specs.Lists.{All, Distinct}
-use Rattle.livelock.specs.Orders.{Before}
 use Rattle.livelock.specs.Cycles.{Walk}
 use Rattle.livelock.proofs.ListLaws.{all_weaken, all_both, all_of_map, all_map_of}
-use Rattle.livelock.proofs.Orders.{before_asymmetric}
-use Rattle.cycle_paths.specs.Listings.{In}
+use Rattle.cycle_paths.specs.Listings.{In, Before}
 use Rattle.cycle_paths.specs.Cycles.{unleft, paths_by, paths}
 use Rattle.cycle_paths.proofs.ElementLaws.{prefixed_in, in_prefixed, Given, joined_in, in_joined}
-use Rattle.cycle_paths.proofs.OrderLaws.{Ordered, Increasing, Begins, ordered_same, ordered_prefixed, ordered_joined}
+use Rattle.cycle_paths.proofs.OrderLaws.{Ordered, Increasing, Begins, ordered_same, before_asymmetric, ordered_prefixed, ordered_joined}
 use Rattle.cycle_paths.proofs.MarkLaws.{unleft_falls, now_left, still_left, was_unleft}
 
 module _ (src dst : ℕ → ℕ) (start : ℕ) where

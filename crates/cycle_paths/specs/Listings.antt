@@ -1,7 +1,6 @@
 -- What a listing is (document 01, "Listing").
-use Rattle.std.specs.Prelude.{◌≡◌, ◌⊎◌, List, [], ◌∷◌, ◌++◌, ℕ, ◌≤◌, length}
+use Rattle.std.specs.Prelude.{◌≡◌, ◌⊎◌, List, [], ◌∷◌, ◌++◌, ℕ, ◌≤◌, ◌<◌, length}
 use Rattle.livelock.specs.Lists.{All}
-use Rattle.livelock.specs.Orders.{Before}
 use Rattle.livelock.specs.Plants.{Plant}
 use Rattle.livelock.specs.Cycles.{leaves, first_left, SimpleCycle}
 
@@ -9,6 +8,12 @@ use Rattle.livelock.specs.Cycles.{leaves, first_left, SimpleCycle}
 unfoldable pub In : {A : Type 0} → A → List A → Type 0
 In x [] = ⊥
 In x (y ∷ ys) = (x ≡ y) ⊎ In x ys
+
+-- "row numbers, compared from the first row on": c comes before d.
+unfoldable pub Before : List ℕ → List ℕ → Type 0
+Before c [] = ⊥
+Before [] (y ∷ d) = Unit {0}
+Before (x ∷ c) (y ∷ d) = (x < y) ⊎ ((x ≡ y) × Before c d)
 
 -- "in ascending order": each cycle comes before all that stand behind it, so it is there once.
 unfoldable pub Ascending : List (List ℕ) → Type 0

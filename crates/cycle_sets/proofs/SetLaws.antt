@@ -6,7 +6,7 @@ use Prim.Native.Nat.{ℕ, zero, suc, ◌+◌, ◌-◌, ◌*◌, ◌≤◌, ◌<�
 use native.Mathlib.Omega.{arith}
 use lib.Dec.{ltb}
 use lib.ListN.{length, get_or, replicate, length-replicate}
-use lib.IntN.{ℤ, pos}
+use lib.IntN.{ℤ, pos, negsuc}
 use borrow.Author.Tests.{lt-ltb, le-ltb}
 use Rattle.livelock.specs.Lists.{sum, sumℤ, All}
 use Rattle.livelock.specs.Plants.{Plant}
@@ -28,7 +28,6 @@ use Rattle.set_numbers.specs.Numbers.{entry_begins, part}
 use Rattle.set_entries.specs.Sets.{entry_at, entries_at, read_set}
 use Rattle.set_entries.specs.Entries.{RowsThere, entry_in}
 use Rattle.set_sums.specs.Sums.{Within, having, Added}
-use Rattle.set_sums.proofs.EffectLaws.{difference_unique}
 use Rattle.cycle_sets.specs.Inner.Judging.{SumsOf, JudgedAs, entries_read, fault_met}
 use Rattle.set_numbers.proofs.FoundLaws.{tested, place_same}
 use Rattle.set_entries.proofs.PartLaws.{part_length, part_below}
@@ -36,6 +35,13 @@ use Rattle.set_entries.proofs.EntryLaws.{EntryRead, entry_read}
 use Rattle.cycle_sets.proofs.TableLaws.{sent_is, taken_is}
 
 -- ---- sums of entries
+
+-- A difference is one number.
+difference_unique : (y z : ℤ) (a b : ℕ) → Difference y a b → Difference z a b → y ≡ z
+difference_unique (pos x) (pos y) a b i j = ap pos (omega arith)
+difference_unique (pos x) (negsuc y) a b i j = absurd (omega arith)
+difference_unique (negsuc x) (pos y) a b i j = absurd (omega arith)
+difference_unique (negsuc x) (negsuc y) a b i j = ap negsuc (omega arith)
 
 -- One entry more.
 entry_added : (f : List ℕ → ℕ) (es : List Entry) (e : Entry) → sum (λ x. x.repeats * f x.cycle) (es ++ (e ∷ [])) ≡ sum (λ x. x.repeats * f x.cycle) es + e.repeats * f e.cycle

@@ -1,19 +1,22 @@
 -- The rows of a decoded table are those of the plant that it holds.
-use mathlib.Core.Path.{◌≡◌}
+use mathlib.Core.Path.{◌≡◌, sym, ap}
+use mathlib.Core.Bool.{cond}
+use mathlib.Core.Option.{Option}
 use mathlib.Core.List.{List}
 use Prim.Native.Nat.{ℕ, ◌≤◌, ◌<◌}
 use native.Mathlib.Omega.{arith}
-use Rattle.livelock.specs.Lists.{All}
-use Rattle.livelock.specs.Plants.{Plant, row_at, no_row, row_count, machine_count, RowFits}
-use Rattle.livelock.specs.Cycles.{messages_sent, messages_taken}
+use Rattle.livelock.specs.Lists.{count, All}
+use Rattle.livelock.specs.Plants.{Row, Plant, row_at, no_row, row_count, machine_count, RowFits}
+use Rattle.livelock.specs.Cycles.{is_of_type, messages_sent, messages_taken}
 use Rattle.livelock.proofs.ListLaws.{all_at, all_weaken}
+use Rattle.livelock.proofs.SumLaws.{sum_equal}
 use Rattle.plant.specs.Limits.{WithinLimits}
+use Rattle.tables.specs.Tables.{row_in}
 use Rattle.decoding.specs.Tables.{plant_of, Ready}
 use Rattle.decoding.specs.declared.Shape.{Shape}
 use Rattle.decoding.proofs.TableLaws.{rows_counted, machines_counted, plant_row_is}
 use Rattle.set_entries.specs.Entries.{TableOf}
 use Rattle.set_sums.specs.Sums.{having}
-use Rattle.set_sums.proofs.EffectLaws.{having_is}
 
 -- The states of a row are bytes: a machine has at most 64.
 left_byte : (P : Plant) → WithinLimits P → (k : ℕ) → k < row_count P → (row_at P k).left < 256
@@ -36,12 +39,19 @@ module _ (s : Shape) (table : List ℕ) (ready : Ready s table) (limits : Within
   pub machines_are : machine_count (plant_of s table) ≡ s.machines
   machines_are = machines_counted s table ready.sound
 
--- What rows of the table send of a type is what those of the plant send of it,
+-- How many rows of the table have a type in a field is how many of the plant's rows have it:
+having_is : (field : Row → Option ℕ) (s : Shape) (table : List ℕ) (u : ℕ) (ks : List ℕ) → All (λ k. k < s.rows) ks
+    → having field table u ks ≡ count (λ k. is_of_type (field (row_at (plant_of s table) k)) u) ks
+having_is field s table u ks h =
+    sum_equal (λ k. cond (is_of_type (field (row_in table k)) u) 1 0) (λ k. cond (is_of_type (field (row_at (plant_of s table) k)) u) 1 0) ks
+    (all_weaken _ _ (λ k l. ap (λ (r : Row). cond (is_of_type (field r) u) 1 0) (sym (plant_row_is s table k l))) ks h)
+
+-- so it is with what rows send of a type,
 pub sent_is : (s : Shape) (table : List ℕ) (u : ℕ) (ks : List ℕ) → All (λ k. k < s.rows) ks
     → having (λ r. r.sent) table u ks ≡ messages_sent (plant_of s table) ks u
-sent_is s table u ks h = having_is (λ r. r.sent) (plant_of s table) table u ks (all_weaken _ _ (plant_row_is s table) ks h)
+sent_is = having_is (λ r. r.sent)
 
--- and so it is with what they take.
+-- and with what they take.
 pub taken_is : (s : Shape) (table : List ℕ) (u : ℕ) (ks : List ℕ) → All (λ k. k < s.rows) ks
     → having (λ r. r.taken) table u ks ≡ messages_taken (plant_of s table) ks u
-taken_is s table u ks h = having_is (λ r. r.taken) (plant_of s table) table u ks (all_weaken _ _ (plant_row_is s table) ks h)
+taken_is = having_is (λ r. r.taken)

@@ -1,5 +1,5 @@
 // Decoding plant files into a table of rows: the rows are stored as they are read, and of the rows of a machine their keys are kept, so that a
-// twin is found. No entry point: `weighing`, `listing`, `cycle_sets`, `watchers` and `weight_search` call it.
+// twin is found. No entry point: `weighing`, `listing` and `cycle_sets` call it.
 ghost use Rattle.std.specs.Prelude.{◌≡◌, List, ℕ, ◌+◌, ◌≤◌, ◌<◌, min, length};
 ghost use Rattle.livelock.specs.Plants.{Plant};
 ghost use Rattle.plant.specs.Reading.{read_plant};

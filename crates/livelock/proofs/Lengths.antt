@@ -36,12 +36,6 @@ module _ (n : ℕ) (up down plus minus : ℕ → ℕ) where
       longer : sum down es ≤ sum up es → sum minus es < sum plus es
       longer p = omega (arith, total es h, mul-le-mul_left n p)
 
-  -- However many they are, edges that together are not longer than 0 weigh below zero.
-  pub not_longer : (es : List ℕ) → All Lengthens es → 0 < length es → sum plus es ≤ sum minus es → sum up es < sum down es
-  not_longer es h some short =
-      let l : n * sum up es < n * sum down es = omega (arith, total es h) in
-      lt_of_mul-lt-mul_left n l
-
 -- ---- a graph with weights, and the same with lengths
 
 module _ (n : ℕ) (g : Graph) (es : List ℕ) where

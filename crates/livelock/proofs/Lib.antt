@@ -1,7 +1,6 @@
 -- The theorems, from lists and graphs up to demands 2 and 3.
 pub mod BasicExamples
 pub mod ListLaws
-pub mod Orders
 pub mod StoreLaws
 pub mod BitLaws
 pub mod SumLaws
@@ -16,7 +15,6 @@ pub mod Differences
 pub mod CycleWeights
 pub mod QuietGraphs
 pub mod Decision
-pub mod QuietWalks
 pub mod RunLaws
 pub mod Ceiling
 pub mod CycleSetLaws

@@ -1,6 +1,5 @@
 -- The definitions of the theory, a file for each subject of document 01; then what the crates below the calls promise by.
 pub mod Lists
-pub mod Orders
 pub mod Plants
 pub mod Runs
 pub mod Cycles

@@ -14,12 +14,11 @@ use Rattle.livelock.specs.Cycles.{Walk, leaves, enters, RowOf, first_left, Simpl
 use Rattle.livelock.specs.Weights.{cycle_weight}
 use Rattle.livelock.proofs.ListLaws.{all_weaken, all_both, all_of_map}
 use Rattle.livelock.proofs.Walks.{walk_first}
-use Rattle.livelock.specs.Graphs.{IsEdge, Cycle}
+use Rattle.livelock.specs.Graphs.{Cycle}
 use Rattle.livelock.specs.Differences.{Difference}
 use Rattle.livelock.proofs.Differences.{difference_minus}
 use Rattle.livelock.proofs.CycleWeights.{sent_weight, taken_weight, below_zero_iff, zero_or_more_iff}
 use Rattle.livelock.proofs.QuietGraphs.{QuietRowOf, row_within}
-use Rattle.livelock.proofs.QuietWalks.{QuietWalk}
 use Rattle.tables.specs.Tables.{row_in}
 use Rattle.decoding.specs.Tables.{plant_of, rows_before, Ready}
 use Rattle.plant.specs.Limits.{WithinLimits}
@@ -93,23 +92,9 @@ module _ (P : Plant) (formed : WellFormed P) (ws : List ℕ) (m count : ℕ) (li
     edges_walk (edge_in list i).to t es u.1 (subst (λ (x : ℕ). Walk (leaves P) (enters P) x (map row_of_edge es) t) (sym (each i u.0).entered) w.1),
   )
 
-  -- The graph's edges are the first `count`.
-  edges_below : (es : List ℕ) → All (IsEdge (edge_graph count list)) es → AllEdges es
-  edges_below es = all_weaken _ (λ i. i < count) (λ i x. x.0) es
-
-  -- ---- closed walks
-
-  -- The rows of a closed walk over the edges are a quiet closed walk, of machine m and from the same state.
-  abbrev closed_quiet : (a : ℕ) (es : List ℕ) → 0 < length es → All (IsEdge (edge_graph count list)) es
-      → Walk (edge_graph count list).src (edge_graph count list).dst a es a → QuietWalk P (map row_of_edge es)
-  closed_quiet a es some edges closed =
-      record {
-        machine = m;
-        at = a;
-        non_empty = subst (λ (n : ℕ). 0 < n) (sym (length-map es row_of_edge)) some;
-        rows = all_of_map (QuietRowOf P m) row_of_edge es (all_weaken _ (λ i. QuietRowOf P m (row_of_edge i)) (λ i x. (each i x.0).row) es edges);
-        closed = rows_walk a a es (edges_below es edges) closed;
-      }
+  -- What holds of the row of each edge holds of each row of a list of edges.
+  all_rows : (F : ℕ → Type 0) → ((i : ℕ) → i < count → F (row_of_edge i)) → (es : List ℕ) → AllEdges es → All F (map row_of_edge es)
+  all_rows F f es u = all_of_map F row_of_edge es (all_weaken (λ i. i < count) (λ i. F (row_of_edge i)) f es u)
 
   -- ---- cycles
 
@@ -132,15 +117,15 @@ module _ (P : Plant) (formed : WellFormed P) (ws : List ℕ) (m count : ℕ) (li
   cycle_fails : (es : List ℕ) → Cycle (edge_graph count list) es → sum (edge_graph count list).minus es ≤ sum (edge_graph count list).plus es
       → SimpleCycle P m (map row_of_edge es) × Quiet P (map row_of_edge es) × (pos 0 ≤ℤ cycle_weight P ws (map row_of_edge es))
   cycle_fails es c h =
-      let u = edges_below es c.edges in
-      let w = closed_quiet c.at es c.non_empty c.edges c.closed in (
+      let u : AllEdges es = all_weaken _ (λ i. i < count) (λ i x. x.0) es c.edges in
+      let some : 0 < length (map row_of_edge es) = subst (λ (n : ℕ). 0 < n) (sym (length-map es row_of_edge)) c.non_empty in (
         record {
-          non_empty = w.non_empty;
-          of_machine = all_weaken (QuietRowOf P m) (RowOf P m) (λ j r. r.0) (map row_of_edge es) w.rows;
-          closed = walk_first (leaves P) (enters P) c.at (map row_of_edge es) w.non_empty w.closed;
+          non_empty = some;
+          of_machine = all_rows (RowOf P m) (λ i l. (each i l).row.0) es u;
+          closed = walk_first (leaves P) (enters P) c.at (map row_of_edge es) some (rows_walk c.at c.at es u c.closed);
           once = subst Distinct (same_left es u) c.once;
         },
-        all_weaken (QuietRowOf P m) (λ j. has_progress (row_at P j) ≡ false) (λ j r. r.1) (map row_of_edge es) w.rows,
+        all_rows (λ j. has_progress (row_at P j) ≡ false) (λ i l. (each i l).row.1) es u,
         (zero_or_more_iff P formed ws (map row_of_edge es)).1 (omega (arith, h, same_weights es u)),
       )
 
@@ -247,11 +232,6 @@ module _ (shape : Shape) (table : List ℕ) (ready : Ready shape table) (limits 
     pub machine_long : (k : ℕ) → NoneBelow (edge_graph count list) k → (c : List ℕ) → SimpleCycle (plant_of shape table) m c → Quiet (plant_of shape table) c
         → pos 0 ≤ℤ cycle_weight (plant_of shape table) ws c → k ≤ length c
     machine_long = cycles_long (plant_of shape table) limits.formed ws m count list edge_row row_edge
-
-    -- The rows of a closed walk over the edges are a quiet closed walk of the plant.
-    pub machine_walk : (a : ℕ) (es : List ℕ) → 0 < length es → All (IsEdge (edge_graph count list)) es
-        → Walk (edge_graph count list).src (edge_graph count list).dst a es a → QuietWalk (plant_of shape table) (map (λ i. (edge_in list i).row) es)
-    machine_walk = closed_quiet (plant_of shape table) limits.formed ws m count list edge_row
 
     -- The rows of a cycle of edges that is zero or more are a quiet simple cycle of the machine that weighs zero or more.
     pub machine_fails : (es : List ℕ) → Cycle (edge_graph count list) es

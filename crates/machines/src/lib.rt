@@ -1,5 +1,5 @@
-// The machines of a plant, one after the other: the first with a quiet cycle that weighs zero or more. No entry point: `shortest_cycles`,
-// `weighing` and `weight_trials` call it.
+// The machines of a plant, one after the other: the first with a quiet cycle that weighs zero or more. No entry point: `shortest_cycles` and
+// `weighing` call it.
 ghost use Rattle.std.specs.Prelude.{◌≡◌, ◌≤◌};
 ghost use Rattle.livelock.specs.Figures.{most_states};
 ghost use Rattle.decoding.specs.Tables.{plant_of};

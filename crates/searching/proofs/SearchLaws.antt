@@ -20,9 +20,9 @@ use Rattle.livelock.proofs.Pigeonhole.{left_once}
 use Rattle.livelock.proofs.Walks.{visited, walk-append, HasCycle, distinct_or_cycle}
 use Rattle.livelock.specs.Graphs.{Graph, IsEdge, Cycle}
 use Rattle.deciding.specs.Rounds.{NoneBelow}
-use Rattle.closed_walks.specs.ClosedWalks.{ClosedWalk, origin, heaviest, Closes, entry, FirstEdge, FirstEdges, LeastFrom}
-use Rattle.closed_walks.proofs.WalkLaws.{Searchable, walk_closes}
-use Rattle.searching.specs.Searches.{LeastWithin, Closing, WalkWritten, Written}
+use Rattle.closed_walks.specs.ClosedWalks.{origin, heaviest, Closes, entry, FirstEdge, LeastFrom, Noted}
+use Rattle.closed_walks.proofs.WalkLaws.{Searchable, ClosedWalk, walk_closes}
+use Rattle.searching.specs.Searches.{LeastWithin, Written}
 
 -- ---- a shortest closed walk is simple
 
@@ -218,28 +218,24 @@ none_at_all ok many h least es c w = absurd (omega (arith, h es c w, cycle_few o
 
 -- It is the least of all, for the limit is no more than the number of states.
 pub record Least (g : Graph) (states start k : ℕ) : Type 0 where
-  pub closing : Closing g states start k
+  pub start_in : start < states
+  pub some_edge : 1 ≤ k
+  pub few : k ≤ states
+  pub closes : Closes g start k
   pub least : (s j : ℕ) → s < states → 1 ≤ j → j < k → Closes g s j → ⊥
 
 -- The search found it.
 pub least_found : {g : Graph} {states limit start k : ℕ} → limit ≤ states → k ≤ limit → LeastWithin g states limit start k → Least g states start k
 least_found below found h =
-    record {
-      closing = record { start_in = (h.closes found).0; some_edge = h.some_edge; few = omega arith; closes = (h.closes found).1 };
-      least = h.least;
-    }
+    record { start_in = (h.closes found).0; some_edge = h.some_edge; few = omega arith; closes = (h.closes found).1; least = h.least }
 
 -- A search from the start that was found, up to the length that was found, finds this length again.
 pub least_again : {g : Graph} {states start k r : ℕ} → Least g states start k → LeastFrom g start k r → r ≡ k
 least_again {g} {states} {start} {k} {r} h f = go (dec_lt k r)
   where
     go : Dec (k < r) → r ≡ k
-    go (yes l) = absurd (f.least k h.closing.some_edge l h.closing.closes)
-    go (no l) = elim (dec_lt r k) [ yes m ↦ absurd (h.least start r h.closing.start_in f.some_edge m (f.closes (omega arith))) | no m ↦ omega arith ]
-
--- The number that a search from one start finds, if it is at most the number of states, closes from there.
-pub closing_from : {g : Graph} {states start k : ℕ} → start < states → k ≤ states → LeastFrom g start states k → Closing g states start k
-closing_from in-states few f = record { start_in = in-states; some_edge = f.some_edge; few = few; closes = f.closes few }
+    go (yes l) = absurd (f.least k h.some_edge l h.closes)
+    go (no l) = elim (dec_lt r k) [ yes m ↦ absurd (h.least start r h.start_in f.some_edge m (f.closes (omega arith))) | no m ↦ omega arith ]
 
 -- ---- the walk that is written
 
@@ -268,7 +264,7 @@ unfolding All Walk
 walk_end_in {states = states} ok a t [] l u w = subst (λ (x : ℕ). x < states) w l
 walk_end_in ok a t (e ∷ es) l u w = walk_end_in ok _ t es (ok.within e u.0).1 u.1 w.1
 
-module _ {g : Graph} {states start k : ℕ} (ok : Searchable g states) (closing : Closing g states start k) where
+module _ {g : Graph} {states start k : ℕ} (ok : Searchable g states) (least : Least g states start k) where
   -- Nothing is written yet.
   pub walk_begins : (row : ℕ → ℕ) (before : List ℕ) → Walking g row start k before start 0 before
   unfolding All Walk sum
@@ -280,7 +276,7 @@ module _ {g : Graph} {states start k : ℕ} (ok : Searchable g states) (closing 
         long = refl;
         edges = tt;
         joined = refl;
-        weighs = rw z (omega (arith, closing.closes));
+        weighs = rw z (omega (arith, least.closes));
         written = refl;
         kept = refl;
       }
@@ -288,17 +284,18 @@ module _ {g : Graph} {states start k : ℕ} (ok : Searchable g states) (closing 
   module _ {row : ℕ → ℕ} {before : List ℕ} {s i : ℕ} {after : List ℕ} (w : Walking g row start k before s i after) where
     -- There is a walk on from s,
     walk_alive : 0 < heaviest g start (k - i) s
-    walk_alive = omega (arith, w.weighs, sum_light ok w.walk w.edges, w.long, w.within, closing.few, ok.states_in)
+    walk_alive = omega (arith, w.weighs, sum_light ok w.walk w.edges, w.long, w.within, least.few, ok.states_in)
 
     -- s is one of the states,
     pub walk_in : s < states
-    walk_in = walk_end_in ok start s w.walk closing.start_in w.edges w.joined
+    walk_in = walk_end_in ok start s w.walk least.start_in w.edges w.joined
 
     -- and the first edge of the walk on is noted.
-    pub walk_leads : (noted : List ℕ) → i < k → FirstEdges g states start k noted → FirstEdge g start (k - i - 1) s (entry noted ((k - i - 1) * 64) s)
-    walk_leads noted l first =
+    pub walk_leads : {limit : ℕ} {noted : List ℕ} → i < k → Noted g states start limit k noted → k ≤ limit
+        → FirstEdge g start (k - i - 1) s (entry noted ((k - i - 1) * 64) s)
+    walk_leads l n few =
         let q : k - i ≡ suc (k - i - 1) = omega arith in
-        first (k - i - 1) s (omega arith) walk_in (rw q at walk_alive)
+        n.first_edges few (k - i - 1) s (omega arith) walk_in (rw q at walk_alive)
 
     module _ (l : i < k) (room : 64 ≤ length before) (e : ℕ) (h : FirstEdge g start (k - i - 1) s e) where
       abbrev shown : List ℕ → List ℕ
@@ -308,7 +305,7 @@ module _ {g : Graph} {states start k : ℕ} (ok : Searchable g states) (closing 
       written_next =
           ap
           (λ (x : List ℕ). set x i (row e))
-          (w.written ∙ ap (λ (x : List ℕ). shown w.walk ++ x) (drop-cons before i 0 (omega (arith, closing.few, ok.states_in))))
+          (w.written ∙ ap (λ (x : List ℕ). shown w.walk ++ x) (drop-cons before i 0 (omega (arith, least.few, ok.states_in))))
           ∙ set_at
           (shown w.walk)
           (get_or before i 0)
@@ -337,10 +334,15 @@ module _ {g : Graph} {states start k : ℕ} (ok : Searchable g states) (closing 
             kept = rw length-set w.kept;
           }
 
+    none_shorter : i ≡ k → NoneShorter g (length w.walk)
+    none_shorter all a es x y c =
+        least.least a (length es) (begins_in ok a a es x c.edges c.closed) x (omega (arith, w.long)) (walk_closes c)
+
     -- All k edges are written. No edges lead on from s, and yet there is a walk to the start: so s is the start, and the walk is closed.
-    pub walk_closed : k ≤ i → WalkWritten g row start k before after
+    -- It is a shortest one that weighs zero or more, so it is a simple cycle.
+    pub walk_ends : k ≤ i → Written g row k before after
     unfolding heaviest
-    walk_closed h = go (eqb s start) refl
+    walk_ends h = go (eqb s start) refl
       where
         all : i ≡ k
         all = omega (arith, w.within)
@@ -348,34 +350,20 @@ module _ {g : Graph} {states start k : ℕ} (ok : Searchable g states) (closing 
         z : k - i ≡ 0
         z = omega arith
 
-        go : (b : Bool) → eqb s start ≡ b → WalkWritten g row start k before after
+        go : (b : Bool) → eqb s start ≡ b → Written g row k before after
         go true t =
             let weighs = rw (z, t) at w.weighs in
+            let closed : ClosedWalk g start w.walk =
             record {
-              walk = w.walk;
+              edges = w.edges;
+              closed = subst (Walk g.src g.dst start w.walk) (eqb-true s start t) w.joined;
+              weighs = omega (arith, weighs);
+            } in
+            record {
+              cycle = w.walk;
               long = w.long ∙ all;
-              closed =
-                  record {
-                    edges = w.edges;
-                    closed = subst (Walk g.src g.dst start w.walk) (eqb-true s start t) w.joined;
-                    weighs = omega (arith, weighs);
-                  };
+              simple = shortest_is_cycle g start w.walk (omega (arith, w.long, least.some_edge)) closed (none_shorter all);
+              weighs = closed.weighs;
               shown = rw (← all) w.written;
             }
         go false t = absurd (omega (arith, rw (z, t) at walk_alive))
-
--- The walk that was written is a shortest one that weighs zero or more, so it is a simple cycle.
-pub written_simple : {g : Graph} {states start k : ℕ} {row : ℕ → ℕ} {before after : List ℕ} → Searchable g states → Least g states start k
-    → WalkWritten g row start k before after → Written g row k before after
-written_simple {g} {states} {start} {k} ok found w =
-    record {
-      cycle = w.walk;
-      long = w.long;
-      simple = shortest_is_cycle g start w.walk (omega (arith, w.long, found.closing.some_edge)) w.closed none_shorter;
-      weighs = w.closed.weighs;
-      shown = w.shown;
-    }
-  where
-    none_shorter : NoneShorter g (length w.walk)
-    none_shorter a es x y c =
-        found.least a (length es) (begins_in ok a a es x c.edges c.closed) x (omega (arith, w.long)) (walk_closes c)

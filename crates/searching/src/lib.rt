@@ -1,10 +1,9 @@
-// A cycle of an edge list to show: the closed walk with the fewest edges that weighs zero or more, from any state or from one. It knows no plant.
-// No entry point: `shortest_cycles` calls it, and `weight_trials` calls `closing_walk`.
-ghost use Rattle.std.specs.Prelude.{◌≡◌, ◌≤◌, ◌<◌, length};
-ghost use Rattle.edge_lists.specs.EdgeLists.{edge_in};
+// A cycle of an edge list to show: the closed walk with the fewest edges that weighs zero or more. It knows no plant. No entry point:
+// `shortest_cycles` calls it.
+ghost use Rattle.std.specs.Prelude.{◌≡◌, ◌≤◌, length};
 ghost use Rattle.deciding.specs.Rounds.{edge_graph, EdgesIn};
-ghost use Rattle.closed_walks.specs.ClosedWalks.{NotedRoom, FirstEdges};
-ghost use Rattle.searching.specs.Searches.{LeastWithin, Closing, WalkWritten, ClosingFrom, ShownWithin};
+ghost use Rattle.closed_walks.specs.ClosedWalks.{NotedRoom};
+ghost use Rattle.searching.specs.Searches.{LeastWithin, ShownWithin};
 
 // A state, and how many edges a closed walk from it has.
 #[derive(Drop)]
@@ -40,29 +39,6 @@ fn least(
     Start { start, length }
 }
 
-// Writes the rows of a closed walk of k edges from the start to the front of the list, in running order, by the first edges that are noted.
-fn write_walk(
-    edges: &[i16],
-    count: usize,
-    states: usize,
-    start: usize,
-    k: usize,
-    noted: &[u8],
-    rows: &mut [u16],
-)
-    requires { EdgesIn states count edges.now × Closing (edge_graph count edges.now) states start k × FirstEdges (edge_graph count edges.now) states start k noted.now × NotedRoom states noted.now × (64 ≤ length rows.old) }
-    ensures { WalkWritten (edge_graph count edges.now) (λ e. (edge_in edges.now e).row) start k rows.old rows.new }
-{
-    let mut s = start;
-    let mut i = 0;
-    while i < k {
-        let e = casts::index_u8(noted[(k - i - 1) * 64 + s]);
-        rows[i] = edge_lists::row_of(edges, e);
-        s = edge_lists::to_of(edges, e);
-        i += 1;
-    }
-}
-
 // Finds a cycle with the fewest edges and writes its rows to the front of the list, in running order; hands back how many they are, or one
 // more than the limit if no cycle has as few as that. The rounds from its start are made once more, for later starts have overwritten the
 // first edges.
@@ -84,7 +60,14 @@ fn show_noted(
     }
     let start = found.start;
     let k = closed_walks::least_from(edges, count, states, start, found.length, walks, noted);
-    write_walk(edges, count, states, start, k, noted, cycle);
+    let mut s = start;
+    let mut i = 0;
+    while i < k {
+        let e = casts::index_u8(noted[(k - i - 1) * 64 + s]);
+        cycle[i] = edge_lists::row_of(edges, e);
+        s = edge_lists::to_of(edges, e);
+        i += 1;
+    }
     k
 }
 
@@ -101,25 +84,4 @@ pub fn show(edges: &[i16], count: usize, states: usize, limit: usize, cycle: &mu
     }
     let mut noted = [0; 4096];
     show_noted(edges, count, states, limit, &mut walks, &mut noted, cycle)
-}
-
-// Finds a closed walk from one start that weighs zero or more, simple or not, with at most as many edges as there are states. Writes its rows to the
-// front of the list, in running order, and hands back how many they are; one more than the number of states if it finds none.
-pub fn closing_walk(
-    edges: &[i16],
-    count: usize,
-    states: usize,
-    start: usize,
-    rows: &mut [u16],
-) -> usize
-    requires { EdgesIn states count edges.now × (start < states) × (64 ≤ length rows.old) }
-    ensures { ClosingFrom count edges.now states start result rows.old rows.new }
-{
-    let mut walks = [0; 128];
-    let mut noted = [0; 4096];
-    let k = closed_walks::least_from(edges, count, states, start, states, &mut walks, &mut noted);
-    if k <= states {
-        write_walk(edges, count, states, start, k, &noted, rows);
-    }
-    k
 }

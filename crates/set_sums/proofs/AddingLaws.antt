@@ -98,54 +98,65 @@ module _ (s : List ℤ) where
 
 -- ---- one row
 
-module _ (repeats : ℕ) (few : repeats ≤ 1000000) (now : List ℤ) (room : length now ≡ 64) where
+module _ (table : List ℕ) (repeats : ℕ) (few : repeats ≤ 1000000) (rows : List ℕ) (before now : List ℤ) (h : Added table repeats rows before now) where
   -- One more message sent changes no sum by more than 1,000,000,
-  sent_within : (m x : ℕ) → Within x now → Within (x + 1000000) (raised now m (pos repeats))
-  sent_within m x w = raised_within now room m (pos repeats) x 1000000 few w
+  sent_within : (m x : ℕ) → Within x before → Within (x + length rows * 2000000 + 1000000) (raised now m (pos repeats))
+  sent_within m x w = raised_within now h.room m (pos repeats) (x + length rows * 2000000) 1000000 few (h.within x w)
 
   -- and leaves room in 64 bits to take one from the sums.
-  pub sent_small : Within (2 ^ 61 + 128000000) now → (m : ℕ) (mid : List ℤ) → mid ≡ raised now m (to_z w64 repeats) → Within (2 ^ 62) mid
-  sent_small small m mid e =
-      subst (Within (2 ^ 62)) (sym (e ∙ ap (raised now m) (times_is repeats few))) (λ i. omega (arith, sent_within m (2 ^ 61 + 128000000) small i))
+  pub sent_small : Within (2 ^ 61) before → length rows < 64 → (m : ℕ) (mid : List ℤ) → mid ≡ raised now m (to_z w64 repeats) → Within (2 ^ 62) mid
+  sent_small small short m mid e = subst (Within (2 ^ 62)) (sym (e ∙ ap (raised now m) (times_is repeats few))) (λ i. omega (arith, sent_within m (2 ^ 61) small i))
 
-  module _ (table : List ℕ) (k x y : ℕ) (sends : type_of x ≡ (row_in table k).sent) (takes : type_of y ≡ (row_in table k).taken) where
+  module _ (k x y : ℕ) (sends : type_of x ≡ (row_in table k).sent) (takes : type_of y ≡ (row_in table k).taken) where
     -- Row k adds to the sum of what it sends,
     abbrev up : List ℤ
     up = raised now x (pos repeats)
 
     up_room : length up ≡ 64
-    up_room = raised_room now room x (pos repeats)
+    up_room = raised_room now h.room x (pos repeats)
 
     -- and takes from that of what it takes.
     abbrev down : List ℤ
     down = raised up y (neg_ℤ (pos repeats))
 
     -- In all it changes no sum by more than 2,000,000.
-    row_within : (n : ℕ) → Within n now → Within (n + 1 * 2000000) down
+    row_within : (n : ℕ) → Within n before → Within (n + length (rows ++ (k ∷ [])) * 2000000) down
     row_within n w i =
-        omega (arith, raised_within up up_room y (neg_ℤ (pos repeats)) (n + 1000000) 1000000 (omega (arith, size_neg repeats)) (sent_within x n w) i)
+        omega (
+          arith,
+          length-append rows (k ∷ []),
+          raised_within up up_room y (neg_ℤ (pos repeats)) (n + length rows * 2000000 + 1000000) 1000000 (omega (arith, size_neg repeats)) (sent_within x n w) i,
+        )
 
-    -- Whether the row has a type, as a count.
-    one_row_lem : (field : Row → Option ℕ) (z : ℕ) → type_of z ≡ field (row_in table k) → (t : ℕ) → repeats * having field table t (k ∷ []) ≡ repeats * one z t
+    -- One more row that has a type.
+    one_more : (field : Row → Option ℕ) (z : ℕ) → type_of z ≡ field (row_in table k) → (t : ℕ)
+        → repeats * having field table t (rows ++ (k ∷ [])) ≡ repeats * having field table t rows + repeats * one z t
     unfolding sum
-    one_row_lem field z is t = omega (arith, ap (λ (o : Option ℕ). repeats * cond (is_of_type o t) 1 0) is)
+    one_more field z is t =
+        omega (
+          arith,
+          ap (λ (n : ℕ). repeats * n) (sum-append (λ j. cond (is_of_type (field (row_in table j)) t) 1 0) rows (k ∷ [])),
+          ap (λ (o : Option ℕ). repeats * cond (is_of_type o t) 1 0) is,
+        )
 
-    -- After row k, it is added.
-    row_added : Added table repeats (k ∷ []) now down
+    -- After row k, one row more is added.
+    row_added : Added table repeats (rows ++ (k ∷ [])) before down
     row_added =
         record {
           room = raised_room up up_room y (neg_ℤ (pos repeats));
           sums = λ t a b i.
-              let u = raised_difference now room x (pos repeats) repeats 0 t a b (omega arith) i in
-              let d = raised_difference up up_room y (neg_ℤ (pos repeats)) 0 repeats t (a + repeats * one x t) (b + 0 * one x t) (difference_neg repeats) u in
-              difference_shift (get_or down t (pos 0)) _ _ (a + repeats * having (λ r. r.sent) table t (k ∷ [])) (b + repeats * having (λ r. r.taken) table t (k ∷ [])) (omega (arith, one_row_lem (λ r. r.sent) x sends t, one_row_lem (λ r. r.taken) y takes t)) d;
+              let a' : ℕ = a + repeats * having (λ r. r.sent) table t rows in
+              let b' : ℕ = b + repeats * having (λ r. r.taken) table t rows in
+              let u = raised_difference now h.room x (pos repeats) repeats 0 t a' b' (omega arith) (h.sums t a b i) in
+              let d = raised_difference up up_room y (neg_ℤ (pos repeats)) 0 repeats t (a' + repeats * one x t) (b' + 0 * one x t) (difference_neg repeats) u in
+              difference_shift (get_or down t (pos 0)) _ _ (a + repeats * having (λ r. r.sent) table t (rows ++ (k ∷ []))) (b + repeats * having (λ r. r.taken) table t (rows ++ (k ∷ []))) (omega (arith, one_more (λ r. r.sent) x sends t, one_more (λ r. r.taken) y takes t)) d;
           within = row_within;
         }
 
     -- The same as the code does it, in 64 bits.
     pub row_stored : (mid after : List ℤ) → mid ≡ raised now x (to_z w64 repeats) → after ≡ raised mid y (to_z w64 (of_z w64 (pos 0 -ℤ to_z w64 repeats)))
-        → Added table repeats (k ∷ []) now after
-    row_stored mid after e f = subst (Added table repeats (k ∷ []) now) (sym (f ∙ rw (e, less_is repeats few, times_is repeats few))) row_added
+        → Added table repeats (rows ++ (k ∷ [])) before after
+    row_stored mid after e f = subst (Added table repeats (rows ++ (k ∷ [])) before) (sym (f ∙ rw (e, less_is repeats few, times_is repeats few))) row_added
 
 -- ---- the rows one after the other
 
@@ -158,24 +169,3 @@ none_added table repeats before room =
       sums = λ t a b i. difference_shift (get_or before t (pos 0)) a b (a + repeats * 0) (b + repeats * 0) (omega arith) i;
       within = λ x w i. omega (arith, w i);
     }
-
-module _ (table : List ℕ) (repeats : ℕ) (rows : List ℕ) (before now : List ℤ) (h : Added table repeats rows before now) where
-  -- While fewer than 64 rows are added, the sums leave room for one more.
-  pub room_for_one : Within (2 ^ 61) before → length rows < 64 → Within (2 ^ 61 + 128000000) now
-  room_for_one small short i = omega (arith, h.within (2 ^ 61) small i)
-
-  -- One more row that has a type.
-  one_more : (field : Row → Option ℕ) (k t : ℕ) → repeats * having field table t (rows ++ (k ∷ [])) ≡ repeats * having field table t rows + repeats * having field table t (k ∷ [])
-  one_more field k t = omega (arith, ap (λ (n : ℕ). repeats * n) (sum-append (λ j. cond (is_of_type (field (row_in table j)) t) 1 0) rows (k ∷ [])))
-
-  -- With one row more, the rows and that row are added.
-  pub one_more_added : (k : ℕ) (after : List ℤ) → Added table repeats (k ∷ []) now after → Added table repeats (rows ++ (k ∷ [])) before after
-  one_more_added k after j =
-      record {
-        room = j.room;
-        sums = λ t a b i.
-            difference_shift (get_or after t (pos 0)) _ _ (a + repeats * having (λ r. r.sent) table t (rows ++ (k ∷ []))) (b + repeats * having (λ r. r.taken) table t (rows ++ (k ∷ [])))
-            (omega (arith, one_more (λ r. r.sent) k t, one_more (λ r. r.taken) k t))
-            (j.sums t (a + repeats * having (λ r. r.sent) table t rows) (b + repeats * having (λ r. r.taken) table t rows) (h.sums t a b i));
-        within = λ x w i. omega (arith, length-append rows (k ∷ []), j.within (x + length rows * 2000000) (h.within x w) i);
-      }

@@ -1,4 +1,3 @@
 -- Laws of the sums of a cycle set.
 pub mod SizeLaws
 pub mod AddingLaws
-pub mod EffectLaws

@@ -32,7 +32,7 @@ size_fits (pos d) h = record { sfits = h }
 size_fits (negsuc d) h = record { sfits = omega arith }
 
 -- A number comes back from 64 bits where it is small.
-pub back : (z : ℤ) → nat_abs z < 2 ^ 63 → to_z w64 (of_z w64 z) ≡ z
+back : (z : ℤ) → nat_abs z < 2 ^ 63 → to_z w64 (of_z w64 z) ≡ z
 back z h = to_z-of_z (size_fits z h)
 
 -- A change of at most 1,000,000 either way, added to a small number in 64 bits.
@@ -51,18 +51,10 @@ module _ (repeats : ℕ) (few : repeats ≤ 1000000) where
   pub times_is : to_z w64 repeats ≡ pos repeats
   times_is = to_z_pos w64 (omega arith)
 
-  -- so it stays small;
-  pub times_small : nat_abs (to_z w64 repeats) ≤ 1000000
-  times_small = rw times_is few
-
   -- taken from 0 it fits 64 bits,
   pub less_fits : SFits w64 (pos 0 -ℤ to_z w64 repeats)
   less_fits = rw (times_is, +ℤ_idl (neg_ℤ (pos repeats))) (size_fits (neg_ℤ (pos repeats)) (omega (arith, size_neg repeats)))
 
-  -- comes back,
+  -- and comes back.
   pub less_is : to_z w64 (of_z w64 (pos 0 -ℤ to_z w64 repeats)) ≡ neg_ℤ (pos repeats)
   less_is = to_z-of_z less_fits ∙ rw (times_is, +ℤ_idl (neg_ℤ (pos repeats)))
-
-  -- and is as small.
-  pub less_small : nat_abs (to_z w64 (of_z w64 (pos 0 -ℤ to_z w64 repeats))) ≤ 1000000
-  less_small = rw less_is (omega (arith, size_neg repeats))

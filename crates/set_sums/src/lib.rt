@@ -1,6 +1,5 @@
-// The effects of the entries of a cycle set added up, a sum for each message type. No entry point: `cycle_sets` and `stored_effects` call it.
-ghost use Rattle.std.specs.Prelude.{◌≡◌, [], ◌∷◌, ◌+◌, ◌^◌, ◌≤◌, length, get_or, nat_abs};
-ghost use Rattle.tables.specs.Tables.{RoomFor};
+// The effects of the entries of a cycle set added up, a sum for each message type. No entry point: `cycle_sets` calls it.
+ghost use Rattle.std.specs.Prelude.{◌≡◌, ◌+◌, ◌^◌, ◌≤◌, length, get_or, nat_abs};
 ghost use Rattle.set_numbers.specs.Numbers.{part};
 ghost use Rattle.set_entries.specs.Entries.{RowsThere};
 ghost use Rattle.set_sums.specs.Sums.{raised, Within, Added};
@@ -17,26 +16,19 @@ fn add_to(sums: &mut [i64; 64], message: u8, change: i64)
     sums[t] = sums[t] + change;
 }
 
-// The sums with what row k sends, less what it takes, added so many times.
-pub fn add_row(table: &[u8], k: usize, repeats: u32, sums: &mut [i64; 64])
-    requires { RoomFor (k + 1) table.now × (repeats ≤ 1000000) × Within (2 ^ 61 + 128000000) sums.old × (length sums.old ≡ 64) }
-    ensures { Added table.now repeats (k ∷ []) sums.old sums.new }
-{
-    let times = repeats as i64;
-    let sent = tables::sent_of(table, k);
-    let taken = tables::taken_of(table, k);
-    add_to(sums, sent, times);
-    add_to(sums, taken, -times);
-}
-
 // The sums with what the rows at `at` up to `end` send, less what they take, added so many times.
 fn add_rows(table: &[u8], set: &[u32], at: usize, end: usize, repeats: u32, sums: &mut [i64; 64])
     requires { (at ≤ end) × RowsThere table.now set.now at end × (end ≤ at + 64) × (repeats ≤ 1000000) × Within (2 ^ 61) sums.old × (length sums.old ≡ 64) }
     ensures { Added table.now repeats (part set.now at end) sums.old sums.new }
 {
+    let times = repeats as i64;
     let mut i = at;
     while i < end {
-        add_row(table, set[i] as usize, repeats, sums);
+        let k = set[i] as usize;
+        let sent = tables::sent_of(table, k);
+        let taken = tables::taken_of(table, k);
+        add_to(sums, sent, times);
+        add_to(sums, taken, -times);
         i += 1;
     }
 }

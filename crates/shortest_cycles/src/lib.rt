@@ -1,5 +1,5 @@
 // The cycle shown: a shortest of all machines. Rows go into a buffer, and are copied once to the lent list: a shorter cycle of a later
-// machine must not leave there the rest of a longer one. No entry point: `weighing` calls it, and `weight_search` calls `copy_front`.
+// machine must not leave there the rest of a longer one. No entry point: `weighing` calls it.
 ghost use Rattle.std.specs.Prelude.{◌≡◌, ◌≤◌, min, length, take};
 ghost use Rattle.std.proofs.lemmas.List.Edits.{sets};
 ghost use Rattle.decoding.specs.Tables.{plant_of};
@@ -67,14 +67,14 @@ fn shortest(
     least
 }
 
-// Copies the first `count` numbers of a list to the front of another.
-pub fn copy_front(numbers: &[u16], count: usize, list: &mut [u16])
-    requires { (count ≤ length numbers.now) × (count ≤ length list.old) }
-    ensures { list.new ≡ sets list.old 0 (take count numbers.now) }
+// Copies the first `count` rows to the front of a list.
+fn copy_rows(rows: &[u16], count: usize, cycle: &mut [u16])
+    requires { (count ≤ length rows.now) × (count ≤ length cycle.old) }
+    ensures { cycle.new ≡ sets cycle.old 0 (take count rows.now) }
 {
     let mut i = 0;
     while i < count {
-        list[i] = numbers[i];
+        cycle[i] = rows[i];
         i += 1;
     }
 }
@@ -95,6 +95,6 @@ pub fn show(
 {
     let mut rows = [0; MOST];
     let least = shortest(table, shape, first, weights, n, edges, &mut rows);
-    copy_front(&rows, least, cycle);
+    copy_rows(&rows, least, cycle);
     least
 }

@@ -3,7 +3,7 @@ from . import binding
 from .cycle_sets import numbers_of, where_in_set
 from .outcomes import accepted
 from .texts import counted, grouped
-from .words import where_in_amounts, where_in_search
+from .words import where_in_amounts
 
 SHORTEST_LISTING = 4096
 
@@ -17,14 +17,6 @@ def weighed(library, plant, weights):
 
 def quoted(library, plant, weights, contents, g, d):
     return accepted(library, library.quote(plant.data, weights, contents, g, d), where_in_amounts(plant, weights, contents, g, d))
-
-
-def found(library, plant, contents, allowed, figure):
-    """The first weights up to the allowed one that pass with a ceiling of at most the figure, or None where there are none."""
-    weights = binding.room('uint16_t', len(plant.types))
-    where = where_in_search(plant, contents, allowed, library.limits)
-    answer = accepted(library, library.find(plant.data, contents, allowed, figure, weights), where)
-    return list(weights) if library.kind(answer) == 'FOUND_WEIGHTS' else None
 
 
 def listed(library, plant, machine, most):

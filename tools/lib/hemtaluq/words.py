@@ -53,18 +53,6 @@ def where_in_amounts(plant, weights, contents=(), g=0, d=0):
     return where
 
 
-def where_in_search(plant, contents, allowed, limits):
-    """What stands at the place of a refusal of a search for weights. The place of 30 is 0 for both of its reasons, so they are told."""
-    def where(number, place):
-        if number != 30:
-            return where_in_amounts(plant, (), contents)(number, place)
-        above = ['the allowed weight is %s' % grouped(allowed)] * (allowed > limits['SEARCHED_WEIGHT'])
-        if len(plant.types) > limits['SEARCHED_TYPES']:
-            above.append('the plant has %s; `hemtaluq weights` looks for weights for any plant' % counted(len(plant.types), 'type'))
-        return ', and '.join(above)
-    return where
-
-
 def given(number, noun):
     return '%s %s' % (counted(number, noun), 'was' if number == 1 else 'were')
 
@@ -99,17 +87,6 @@ def passed_words(plant, weights, answer):
             SETTING, 'at most %s quiet rows (rows without progress) happen:' % bound(answer),
             '  W  the weight of what the buffers hold at the start, %s' % opening_weight(plant, weights),
             '  g  how many progress rows happen', '  d  how many doublings happen: how often the bus delivers one message twice']
-
-
-def opening_words(plant, contents):
-    return 'with the contents ' + amounts.in_words(plant, contents) if plant.types else 'without types'
-
-
-def ceiling_words(plant, contents, g, d, answer):
-    """A ceiling, its price class and what it says of runs."""
-    return ['ceiling %d, price class %d' % (answer.ceiling, answer.price_class),
-            'No run that opens %s and has at most %s and at most %s has more than %s.'
-            % (opening_words(plant, contents), counted(g, 'progress row'), counted(d, 'doubling'), counted(answer.ceiling, 'quiet row'))]
 
 
 def cycle_words(plant, weights, rows):

@@ -11,11 +11,11 @@ slice-aggregate-shortest c = search rules
 shortest-requires : tie.Need-shortest-requires
 shortest-requires c κs = search rules
 
-slice-aggregate-copy-front : tie.Need-slice-aggregate-copy-front
-slice-aggregate-copy-front c = search rules
+slice-aggregate-copy-rows : tie.Need-slice-aggregate-copy-rows
+slice-aggregate-copy-rows c = search rules
 
-copy-front-requires : tie.Need-copy-front-requires
-copy-front-requires c κs =
+copy-rows-requires : tie.Need-copy-rows-requires
+copy-rows-requires c κs =
     let all = c.before.before.before.before.shortest.ensures in
     (omega (arith, all.few, c.before.before.rows2.given), omega (arith, all.few, c.before.before.before.before.before.before.before.before.before.before.requires.1))
 
@@ -28,7 +28,7 @@ same-length-2 c = search rules
 returns : tie.Need-returns
 returns c =
     let p = c.before.before.before.before.before.before.before.before.before.before.before.before.before.requires in
-    shortest_shown _ _ _ p.0.weighable c.before.before.before.before.before.before.before.shortest.ensures (omega (arith, c.before.before.before.before.before.rows2.given)) p.1 c.before.before.copy-front.ensures
+    shortest_shown _ _ _ p.0.weighable c.before.before.before.before.before.before.before.shortest.ensures (omega (arith, c.before.before.before.before.before.rows2.given)) p.1 c.before.before.copy-rows.ensures
 
 pub show_spec : {M : Type 1} → statement M
 show_spec =
@@ -36,8 +36,8 @@ show_spec =
     (tie.spec
     slice-aggregate-shortest
     shortest-requires
-    slice-aggregate-copy-front
-    copy-front-requires
+    slice-aggregate-copy-rows
+    copy-rows-requires
     same_length
     same-length-2
     returns)

@@ -1,9 +1,10 @@
 """Weights judged, and ceilings: weigh, quote."""
-from ..amounts import contents_for, kept_form, weights_for
+from ..amounts import contents_for, in_words, kept_form, weights_for
 from ..calls import quoted, weighed
 from ..options import AMOUNTS, MOST_DOUBLINGS, Once, add_contents, add_output, add_weights, keep, whole_number
 from ..outcomes import NO, YES, Outcome
-from ..words import DOUBLING, PRICE_CLASS, ceiling_words, cycle_words, figures_of, named, passed_words, row_json
+from ..texts import counted
+from ..words import DOUBLING, PRICE_CLASS, cycle_words, figures_of, named, passed_words, row_json
 
 ORDER = 20
 
@@ -35,7 +36,11 @@ def quote(library, arguments):
     answer = quoted(library, plant, weights, contents, arguments.g, arguments.d)
     said = {'answer': 'ceiling', 'ceiling': answer.ceiling, 'class': answer.price_class, 'g': arguments.g, 'd': arguments.d,
             'weights': named(plant, weights), 'contents': named(plant, contents)}
-    return Outcome(YES, said, '\n'.join(ceiling_words(plant, contents, arguments.g, arguments.d, answer)))
+    opening = 'with the contents ' + in_words(plant, contents) if plant.types else 'without types'
+    text = ['ceiling %d, price class %d' % (answer.ceiling, answer.price_class),
+            'No run that opens %s and has at most %s and at most %s has more than %s.'
+            % (opening, counted(arguments.g, 'progress row'), counted(arguments.d, 'doubling'), counted(answer.ceiling, 'quiet row'))]
+    return Outcome(YES, said, '\n'.join(text))
 
 
 def add(commands):

@@ -17,9 +17,7 @@ whole plant and shows another cycle, and so on. In the end the proved call has p
 answer holds whatever the solver does; that the largest weight is as small as can be, and then the sum of the weights, is the solver's word.
 
 A balanced set is quiet cycles, repeated, that together send at least what they take of each type; where there is one, no weights pass. What
-lies beyond the limits of the calls no proved call can judge: that is told as undecided, with exit status 2.
-
-For weights with a wanted ceiling, in a plant of at most 6 types, there is `find`.'''
+lies beyond the limits of the calls no proved call can judge: that is told as undecided, with exit status 2.'''
 
 
 def teller(silent):

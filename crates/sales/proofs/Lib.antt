@@ -1,2 +1,0 @@
--- Laws of the structs.
-pub mod StructsDiffer

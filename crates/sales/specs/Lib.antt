@@ -1,2 +1,0 @@
--- The answers of the search for weights as structs of the C interface.
-pub mod Structs

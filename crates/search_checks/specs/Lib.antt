@@ -1,2 +1,0 @@
--- How the input of the search for weights is judged.
-pub mod Checks

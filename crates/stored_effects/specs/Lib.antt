@@ -1,2 +1,0 @@
--- Effects of quiet closed walks in a list.
-pub mod StoredEffects

@@ -1,3 +1,0 @@
--- Laws of counting up.
-pub mod CountingLaws
-pub mod BasicExamples

@@ -1,2 +1,0 @@
--- Lists of weights, and how they are counted up.
-pub mod Counting

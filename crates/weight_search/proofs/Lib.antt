@@ -1,6 +1,0 @@
--- Laws of the search for weights.
-pub mod OwedLaws
-pub mod SearchLaws
-pub mod FindLaws
-pub mod QuoteLaws
-pub mod BasicExamples

@@ -1,2 +1,0 @@
--- One list of weights tried.
-pub mod Trials
