@@ -1,4 +1,6 @@
 // The line of the program `ceiling`: an answer of weighing, written as a line. No entry point: `ceiling_run` calls it.
+#![tactic(auto)]
+
 ghost use Rattle.std.specs.Prelude.{◌*◌, ◌≤◌, ◌≡◌, length, take};
 ghost use Rattle.figure_lines.specs.FigureLines.{figures};
 ghost use Rattle.figure_lines.specs.Writing.{WroteLine};

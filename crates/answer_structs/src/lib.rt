@@ -1,4 +1,6 @@
 // The answers of the calls as structs of the C interface, and the functions that make them. No entry point: `cabinet` calls them.
+#![tactic(auto)]
+
 ghost use Rattle.std.specs.Prelude.{◌≡◌};
 ghost use Rattle.reading.specs.Answers as ReadingAnswers;
 ghost use Rattle.weighing.specs.Answers as WeighingAnswers;

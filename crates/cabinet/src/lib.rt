@@ -2,6 +2,8 @@
 // are those of `panel`.
 // The name of a call carries its revision. A call whose struct or arguments change, or the form of a list that it takes, gets the next one, so that
 // an object compiled with an old header finds no symbol and does not link.
+#![tactic(auto)]
+
 ghost use Rattle.std.specs.Prelude.{◌≡◌, ◌↔◌, length};
 ghost use Rattle.plant.specs.Reading.{read_plant};
 ghost use Rattle.reading.specs.Answers as ReadingAnswers;

@@ -1,5 +1,7 @@
 // Narrow numbers in wider types; the value is the same. A call asks nothing of an element that is read and widened, where a cast in place
 // asks that it fits.
+#![tactic(auto)]
+
 ghost use Rattle.std.specs.Prelude.{◌≡◌, ◌<◌};
 
 // A byte (a state, an edge number) as an index.

@@ -1,4 +1,6 @@
 // The work of the program `ceiling`: reads its two files by name and prints one line. Each stored run is a program whose main calls it.
+#![tactic(auto)]
+
 ghost use Rattle.std.specs.Prelude.{◌≡◌, ◌≤◌, ◌<◌, length, pos, ◌<ℤ◌};
 ghost use Rattle.io.specs.Counts.{IsPrefixLen};
 ghost use Rattle.plant.specs.Limits.{longest_file};

@@ -1,5 +1,7 @@
 // A configuration in lent lists, the states of the machines and the messages of each type: one message more or less, whether a row can happen, and
 // what it leaves. The lists may hold any numbers: no index leaves them, and nothing wraps. No entry point: `watching` calls it.
+#![tactic(auto)]
+
 ghost use Rattle.std.specs.Prelude.{◌≡◌, ◌+◌, ◌-◌, ◌<◌, ◌^◌, min, length};
 ghost use Rattle.configurations.specs.Configurations.{Removes, Adds, RowCan, RowMoves};
 

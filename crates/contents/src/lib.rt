@@ -1,4 +1,6 @@
 // The contents, g and d: their checks (20, 21 and 22), and the weight W of the contents. No entry point: `quoting` calls it.
+#![tactic(auto)]
+
 ghost use Rattle.std.specs.Prelude.{◌≡◌, [], ◌∷◌, ◌≤◌, length};
 ghost use Rattle.weight_checks.specs.Checks.{first_above};
 ghost use Rattle.contents.specs.Contents.{amounts, AllAtMost, weight_of_contents};

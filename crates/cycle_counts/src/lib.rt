@@ -1,5 +1,7 @@
 // The number of entries that the listing of some rows needs, by depth-first extension of a path whose rows are not kept. No entry point:
 // `listing` calls it.
+#![tactic(auto)]
+
 ghost use Rattle.std.specs.Prelude.{◌≡◌, suc, ◌+◌, ◌-◌, ◌*◌, ◌≤◌, ◌<◌, ◌^◌, min, length};
 ghost use Rattle.graphs.specs.Graphs.{left_of, entered_of, next_of, head_of, into_of, between_of, last_of};
 ghost use Rattle.state_marks.specs.Marks.{column, marks_of};

@@ -1,4 +1,6 @@
 // One entry of a listing, stored in a lent list: the row count and the rows of a cycle. No entry point: `cycle_paths` calls it.
+#![tactic(auto)]
+
 ghost use Rattle.std.specs.Prelude.{◌≡◌, suc, ◌+◌, ◌≤◌, ◌<◌, ◌^◌, length, take};
 ghost use Rattle.std.proofs.lemmas.List.Edits.{sets};
 ghost use Rattle.cycle_entries.specs.Entries.{entry_of, Added};

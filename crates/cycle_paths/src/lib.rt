@@ -1,5 +1,7 @@
 // The simple cycles of some rows, by depth-first extension of a path. It knows no plant. No entry point: `cycle_counts` and
 // `listing` call it.
+#![tactic(auto)]
+
 ghost use Rattle.std.specs.Prelude.{◌≡◌, ◌<◌, ◌^◌, length, take};
 ghost use Rattle.graphs.specs.Graphs.{left_of, entered_of, next_of, head_of, into_of, last_of};
 ghost use Rattle.state_marks.specs.Marks.{column, marks_of};

@@ -1,4 +1,6 @@
 // Confirming cycle sets: the entries are judged one by one, and their effects are added.
+#![tactic(auto)]
+
 ghost use Rattle.std.specs.Prelude.{◌≡◌, ◌↔◌, ◌≤◌, min, length, get_or, pos};
 ghost use Rattle.plant.specs.Reading.{read_plant};
 ghost use Rattle.plant.specs.Limits.{WithinLimits};

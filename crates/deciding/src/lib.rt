@@ -1,5 +1,7 @@
 // Whether every simple cycle of an edge list weighs below zero: relaxation in place (Bellman and Ford) with lengths 1 + n × weight. It
 // knows no plant. No entry point: `machines` calls it, and `closed_walks` its relaxation of an edge.
+#![tactic(auto)]
+
 ghost use Rattle.std.specs.Prelude.{◌≡◌, ◌≤◌, length, pos, ◌+ℤ◌, ◌*ℤ◌};
 ghost use Rattle.livelock.specs.Graphs.{lengthened};
 ghost use Rattle.deciding.specs.Signs.{rise, fall};

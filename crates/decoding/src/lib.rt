@@ -1,5 +1,7 @@
 // Decoding plant files into a table of rows: the rows are stored as they are read, and of the rows of a machine their keys are kept, so that a
 // twin is found. No entry point: `weighing`, `listing` and `cycle_sets` call it.
+#![tactic(auto)]
+
 ghost use Rattle.std.specs.Prelude.{◌≡◌, List, ℕ, ◌+◌, ◌≤◌, ◌<◌, min, length};
 ghost use Rattle.livelock.specs.Plants.{Plant};
 ghost use Rattle.plant.specs.Reading.{read_plant};
@@ -18,7 +20,7 @@ const MOST_ROWS: usize = 255;
 const FEW_ROWS: usize = 32;
 
 // What a table of rows lacks for a plant. Machine m has the rows from first[m] up to, and not including, first[m + 1]. Entries past the counts are unused.
-#[derive(Drop)]
+#[derive(Clone, Copy)]
 pub struct Shape {
     pub types: u8,
     pub machines: usize,

@@ -1,6 +1,8 @@
 // A list of edges: one lent list of 16-bit numbers, four for each edge. Edge i stands in the numbers from 4 × i on: the state it leaves, the state it
 // enters, its weight and its row. The numbers are signed, so that a weight is read as it is: the search would take a tenth longer if it had to subtract.
 // No entry point: these functions have the only indices into an edge list, and the other crates know their contracts.
+#![tactic(auto)]
+
 ghost use Rattle.std.specs.Prelude.{◌≡◌, ◌+◌, ◌≤◌, nat_abs};
 ghost use Rattle.edge_lists.specs.EdgeLists.{edge_in, EdgeRoom, HasEdge, StoredEdge};
 

@@ -1,4 +1,6 @@
 // The quiet rows of one machine, copied into a lent list of edges, which deciding and searching are lent in turn. No entry point: `machines` calls it.
+#![tactic(auto)]
+
 ghost use Rattle.std.specs.Prelude.{◌≡◌, ◌-◌, ◌≤◌};
 ghost use Rattle.livelock.specs.Weights.{message_weight};
 ghost use Rattle.plant.specs.Steps.{type_of};

@@ -1,4 +1,6 @@
 // Demand 2, "No plant has both", of the two calls themselves: the theorem (specs/ and proofs/), and a function that makes both calls.
+#![tactic(auto)]
+
 ghost use Rattle.std.specs.Prelude.{◌≡◌, true, ◌↔◌};
 ghost use Rattle.weighing.specs.Answers as Weighing;
 ghost use Rattle.cycle_sets.specs.Answers as Confirming;

@@ -1,4 +1,6 @@
 // A line of a word and decimal figures, written to a lent list. No entry point: `answer_line` calls it.
+#![tactic(auto)]
+
 ghost use Rattle.std.specs.Prelude.{◌+◌, ◌≤◌, length};
 ghost use Rattle.figure_lines.specs.FigureLines.{figure, figures, line_with};
 ghost use Rattle.figure_lines.specs.Writing.{Wrote, ShortLine, WroteLine};

@@ -1,4 +1,6 @@
 // The figures F, n, G and n × w of demand 3. No entry point: `weighing` calls it.
+#![tactic(auto)]
+
 ghost use Rattle.std.specs.Prelude.{◌≡◌, ◌-◌, ◌≤◌, max, length, get_or};
 ghost use Rattle.livelock.specs.Lists.{below, sum, greatest};
 ghost use Rattle.figures.specs.FigureSums.{FiguresOf, SomeStates};

@@ -1,5 +1,7 @@
 // Where a part of a file ends, as an offset in the whole file, and whether the file ends after its last row. No entry point: `reading` and
 // `decoding` call it.
+#![tactic(auto)]
+
 ghost use Rattle.std.specs.Prelude.{◌≡◌, ◌+◌, ◌^◌, ◌<◌};
 ghost use Rattle.livelock.specs.Plants.{Plant};
 ghost use Rattle.plant.specs.Found.{and_then, moved_by};

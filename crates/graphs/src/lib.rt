@@ -4,6 +4,8 @@
 // Where there is no row, it is the number after the last row.
 // No entry point: the crates that search a graph know the contracts of these functions, and have no index into it; `machine_graphs`
 // makes a graph.
+#![tactic(auto)]
+
 ghost use Rattle.std.specs.Prelude.{◌≡◌, ◌+◌, ◌*◌, ◌<◌, get_or};
 ghost use Rattle.graphs.specs.Graphs.{left_of, entered_of, next_of, head_of, into_of, between_of, last_of};
 

@@ -1,5 +1,7 @@
 // The numbers of a list that says a plant, judged one by one: a number within its range, and a count of rows. No entry point: `writing` calls it; the
 // numbers of a row are judged together, by `row_numbers`.
+#![tactic(auto)]
+
 ghost use Rattle.std.specs.Prelude.{◌≡◌, ◌-◌, ◌≤◌, min};
 ghost use Rattle.plant.specs.Reading.{in_range};
 ghost use Rattle.plant.specs.Steps.{field_found};

@@ -1,4 +1,6 @@
 // Listing the simple cycles of a machine.
+#![tactic(auto)]
+
 ghost use Rattle.std.specs.Prelude.{◌≡◌, min, length};
 ghost use Rattle.plant.specs.Limits.{WithinLimits};
 ghost use Rattle.tables.specs.Tables.{RoomFor};

@@ -1,5 +1,7 @@
 // The graph of a machine's rows, made from a table. These functions have the only indices by which a graph is changed. No entry point:
 // `listing` calls it.
+#![tactic(auto)]
+
 ghost use Rattle.std.specs.Prelude.{◌≡◌, ◌+◌, ◌*◌, ◌≤◌, ◌<◌, length, get_or};
 ghost use Rattle.graphs.specs.Graphs.{between_of};
 ghost use Rattle.machine_graphs.specs.Graphs.{Listable, NoRows, Graphed};

@@ -1,5 +1,7 @@
 // The machines of a plant, one after the other: the first with a quiet cycle that weighs zero or more. No entry point: `shortest_cycles` and
 // `weighing` call it.
+#![tactic(auto)]
+
 ghost use Rattle.std.specs.Prelude.{◌≡◌, ◌≤◌};
 ghost use Rattle.livelock.specs.Figures.{most_states};
 ghost use Rattle.decoding.specs.Tables.{plant_of};
@@ -8,7 +10,7 @@ ghost use Rattle.machines.specs.Machines.{Weighable, EdgesBeside, FirstFailing};
 use decoding::Shape;
 
 // A machine with a cycle that weighs zero or more, or the count of machines if there is none, and how many edges that machine has.
-#[derive(Drop)]
+#[derive(Clone, Copy)]
 pub struct Failing {
     pub machine: usize,
     pub count: usize,

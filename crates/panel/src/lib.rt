@@ -1,5 +1,7 @@
 // The C interface of the watcher: opening, and one event a call, over the lists that the caller lends. `cabinet` has the other exports, and the
 // rule of revisions. include/hemtaluq.h has the lists as one struct, and a function on it for each export.
+#![tactic(auto)]
+
 ghost use Rattle.std.specs.Prelude.{◌≡◌};
 ghost use Rattle.livelock.specs.Runs as Runs;
 ghost use Rattle.watched_runs.specs.Answers.{answer_of};

@@ -1,5 +1,7 @@
 // The format of the plant file: its bytes and counts. Each byte is judged when it is read, and the first fault met decides. No entry point:
 // `row_fields`, `reading` and `decoding` call it.
+#![tactic(auto)]
+
 ghost use Rattle.std.specs.Prelude.{◌≡◌, ◌≤◌};
 ghost use Rattle.plant.specs.Reading.{byte_at, in_range, byte_in, count_byte, rows_byte};
 ghost use Rattle.plant.specs.Steps.{field_found};

@@ -1,4 +1,6 @@
 // One row of a plant file: its map byte, and then a byte for each field whose bit stands. No entry point: `reading` and `decoding` call it.
+#![tactic(auto)]
+
 ghost use Rattle.std.specs.Prelude.{◌≡◌, ℕ, ◌≤◌};
 ghost use Rattle.plant.specs.Reading.{read_row};
 ghost use Rattle.plant_rows.specs.Rows.{row_found};
@@ -7,7 +9,7 @@ use plant::{Fault, FieldStep};
 use row_fields::{has_bit, map_byte, state_field, type_field};
 
 // A row that was read, and the offset after it. 64 stands for no type.
-#[derive(Drop)]
+#[derive(Clone, Copy)]
 pub struct RowFields {
     pub left: u8,
     pub entered: u8,

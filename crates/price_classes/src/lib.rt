@@ -1,4 +1,6 @@
 // The price class of a ceiling, by its leading zeros. No entry point: `quoting` calls it.
+#![tactic(auto)]
+
 ghost use Rattle.std.specs.Prelude.{◌≡◌, ◌<◌, ◌^◌};
 ghost use Rattle.price_classes.specs.Classes.{class_of};
 

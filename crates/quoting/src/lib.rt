@@ -1,4 +1,6 @@
 // Quoting ceilings and price classes.
+#![tactic(auto)]
+
 ghost use Rattle.std.specs.Prelude.{◌≤◌, length};
 ghost use Rattle.figures.specs.FigureSums.{figures_in};
 ghost use Rattle.contents.specs.Contents.{AllAtMost};

@@ -1,5 +1,7 @@
 // The call that only reads: the counts of a plant file, or its first fault. No row is stored; of the rows of a machine their keys are kept, so
 // that a twin is found.
+#![tactic(auto)]
+
 ghost use Rattle.std.specs.Prelude.{◌≡◌, [], ℕ, ◌+◌, ◌≤◌};
 ghost use Rattle.livelock.specs.Plants.{Plant, row_count, machine_count};
 ghost use Rattle.plant.specs.Reading.{no_machines, read_rows, read_machine, read_machines, read_plant};

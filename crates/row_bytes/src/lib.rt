@@ -1,5 +1,7 @@
 // The bytes of a row, stored in a buffer one behind the other. Every field is stored, and where its bit does not stand the next one takes
 // its place: a store is cheaper than a jump that cannot be foreseen. No entry point: `written_rows` and `writing` call it.
+#![tactic(auto)]
+
 ghost use Rattle.std.specs.Prelude.{◌≡◌, cond, ℕ, ◌+◌, ◌≤◌, ◌<◌, length, eqb};
 ghost use Rattle.plant.specs.Limits.{most_row_bytes};
 ghost use Rattle.plant_files.specs.Files.{byte_if, map_with, row_bytes};

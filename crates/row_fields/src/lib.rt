@@ -1,4 +1,6 @@
 // The fields of a row: its map byte, and a byte for each state and type whose bit stands. No entry point: `plant_rows` calls it.
+#![tactic(auto)]
+
 ghost use Rattle.std.specs.Prelude.{◌≡◌, ◌≤◌, ◌<◌};
 ghost use Rattle.plant.specs.Reading.{has_bit, map_byte, state_field, type_field};
 ghost use Rattle.plant.specs.Steps.{field_found};

@@ -1,5 +1,7 @@
 // The six numbers of a row in a list that says a plant, judged together, with their fault apart; and the row that they say. No entry point:
 // `written_rows` calls it.
+#![tactic(auto)]
+
 ghost use Rattle.std.specs.Prelude.{◌≡◌, false, ℕ, ◌+◌, ◌≤◌, ◌<◌, length};
 ghost use Rattle.plant.specs.Steps.{fault_found, type_of};
 ghost use Rattle.plant_rows.specs.Rows.{fields_row};

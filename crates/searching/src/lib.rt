@@ -1,5 +1,7 @@
 // A cycle of an edge list to show: the closed walk with the fewest edges that weighs zero or more. It knows no plant. No entry point:
 // `shortest_cycles` calls it.
+#![tactic(auto)]
+
 ghost use Rattle.std.specs.Prelude.{◌≡◌, ◌≤◌, length};
 ghost use Rattle.deciding.specs.Rounds.{edge_graph, EdgesIn};
 ghost use Rattle.closed_walks.specs.ClosedWalks.{NotedRoom};

@@ -1,5 +1,7 @@
 // The entries of a cycle set: the numbers of one are read, and then it is judged whether its rows are a quiet simple cycle of its machine.
 // No entry point: `cycle_sets` calls it.
+#![tactic(auto)]
+
 ghost use Rattle.std.specs.Prelude.{◌≡◌, false, ◌+◌, ◌^◌, ◌≤◌, ◌<◌, get_or, replicate};
 ghost use Rattle.livelock.specs.Plants.{has_progress};
 ghost use Rattle.tables.specs.Tables.{row_in, row_of, RoomFor};

@@ -1,5 +1,7 @@
 // The numbers of a cycle set: each is judged as it is read, and the first fault met decides. It knows no table. No entry point:
 // `set_entries` and `cycle_sets` call it.
+#![tactic(auto)]
+
 ghost use Rattle.std.specs.Prelude.{◌≡◌, ◌+◌, ◌-◌, ◌^◌, ◌≤◌, min, get_or};
 ghost use Rattle.set_numbers.specs.Numbers.{number_in, rows_at, first_numbers, entry_begins, value_found, part};
 

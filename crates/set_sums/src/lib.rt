@@ -1,4 +1,6 @@
 // The effects of the entries of a cycle set added up, a sum for each message type. No entry point: `cycle_sets` calls it.
+#![tactic(auto)]
+
 ghost use Rattle.std.specs.Prelude.{◌≡◌, ◌+◌, ◌^◌, ◌≤◌, length, get_or, nat_abs};
 ghost use Rattle.set_numbers.specs.Numbers.{part};
 ghost use Rattle.set_entries.specs.Entries.{RowsThere};

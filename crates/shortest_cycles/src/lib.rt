@@ -1,5 +1,7 @@
 // The cycle shown: a shortest of all machines. Rows go into a buffer, and are copied once to the lent list: a shorter cycle of a later
 // machine must not leave there the rest of a longer one. No entry point: `weighing` calls it.
+#![tactic(auto)]
+
 ghost use Rattle.std.specs.Prelude.{◌≡◌, ◌≤◌, min, length, take};
 ghost use Rattle.std.proofs.lemmas.List.Edits.{sets};
 ghost use Rattle.decoding.specs.Tables.{plant_of};

@@ -1,5 +1,7 @@
 // The states of a machine as the bits of a number: those that a path has left, and dead ends, which are marked as if they were left.
 // No entry point: the crates that list and count cycles call it.
+#![tactic(auto)]
+
 ghost use Rattle.std.specs.Prelude.{◌≡◌, ◌<◌, get_or, set, eqb};
 ghost use Rattle.state_marks.specs.Marks.{marks_of, BelowOnly, OthersKept, Closed};
 ghost use Rattle.graphs.specs.Graphs.{into_of};

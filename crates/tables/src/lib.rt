@@ -1,6 +1,8 @@
 // A table of decoded rows: one lent list of bytes, eight for each row. Row k stands in the bytes from 8 × k on: its machine, the state it leaves,
 // the state it enters, the type it sends, the type it takes (64 stands for no type), and 1 if it is a progress row. Two bytes are unused.
 // No entry point: these functions have the only indices into a table, and the other crates know their contracts.
+#![tactic(auto)]
+
 ghost use Rattle.std.specs.Prelude.{◌≡◌, ◌+◌, cond};
 ghost use Rattle.plant.specs.Steps.{type_of};
 ghost use Rattle.plant_rows.specs.Rows.{fields_row};
@@ -9,7 +11,7 @@ ghost use Rattle.tables.specs.Tables.{row_in, row_of, RoomFor, Stored};
 use plant_rows::RowFields;
 
 // A row of a table.
-#[derive(Drop)]
+#[derive(Clone, Copy)]
 pub struct TableRow {
     pub machine: u8,
     pub left: u8,

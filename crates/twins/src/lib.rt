@@ -1,5 +1,7 @@
 // Twin rows: whether a row is equal to an earlier row of its machine. Of each row of the machine a key is kept, which is one number, and of all of
 // them the states that they leave, as the bits of another. No entry point: `reading`, `decoding` and `written_rows` call it.
+#![tactic(auto)]
+
 ghost use Rattle.std.specs.Prelude.{◌≡◌, ◌&&◌, cond, ◌+◌, ◌*◌, ◌^◌, ◌%◌, ◌<◌, ◌≤◌, length, take, eqb};
 ghost use Rattle.std.specs.Int.Bits.{bit_or};
 ghost use Rattle.plant.specs.Steps.{type_of};

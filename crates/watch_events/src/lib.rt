@@ -1,4 +1,6 @@
 // The events of a watcher, over the lists that it lends. No entry point for Rattle: `watching` calls it, and `panel`, the C interface.
+#![tactic(auto)]
+
 ghost use Rattle.std.specs.Prelude.{◌≡◌, ◌≤◌, ◌<◌, length};
 ghost use Rattle.livelock.specs.Runs as Runs;
 ghost use Rattle.watched_runs.specs.Answers.{answer_of, refused};

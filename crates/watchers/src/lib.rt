@@ -1,4 +1,6 @@
 // A watcher, and its opening on a plant file, weights and contents. The events that it takes are crate `watching`'s.
+#![tactic(auto)]
+
 ghost use Rattle.std.specs.Prelude.{◌≡◌, ◌≤◌, length, take};
 ghost use Rattle.watched_runs.specs.Answers.{answer_of};
 ghost use Rattle.watched_runs.specs.Owed.{blank, Opens};

@@ -1,4 +1,6 @@
 // The panel watcher: how many quiet rows are left. One event a call, on a watcher that `Watcher::open` or a call handed back.
+#![tactic(auto)]
+
 ghost use Rattle.livelock.specs.Runs as Runs;
 ghost use Rattle.watched_runs.specs.Answers.{answer_of};
 ghost use Rattle.watched_runs.specs.Owed.{Steps};

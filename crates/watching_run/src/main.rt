@@ -1,5 +1,7 @@
 // A watched run of plant A with weights 2 and 1 and contents 3 and 4, by watchers by value, and a watcher whose opening is refused: a line for
 // each call.
+#![tactic(auto)]
+
 use watched_runs::Watched;
 use watchers::Watcher;
 

@@ -1,4 +1,6 @@
 // Weighing a plant.
+#![tactic(auto)]
+
 ghost use Rattle.std.specs.Prelude.{◌≤◌, min, length};
 ghost use Rattle.weighing.specs.Answers.{answer_of, judgement_of};
 ghost use Rattle.weighing.specs.Weighing.{Owed, OwedVerdict};

@@ -1,4 +1,6 @@
 // The checks of the weights (9 and 10) and of the list that is lent for a cycle (11). No entry point: `weighing` calls it.
+#![tactic(auto)]
+
 ghost use Rattle.std.specs.Prelude.{◌≡◌};
 ghost use Rattle.weight_checks.specs.Checks.{first_above, WeightsChecked, RoomChecked};
 

@@ -1,4 +1,6 @@
 // The weights of a file's bytes, as they are handed to weighing. No entry point: `answer_line` calls it.
+#![tactic(auto)]
+
 ghost use Rattle.std.specs.Prelude.{◌+◌, ◌*◌, ◌/◌, min, ◌≡◌, length, take};
 ghost use Rattle.io.specs.Counts.{IsPrefixLen};
 ghost use Rattle.weight_files.specs.WeightFiles.{weights_of, handed_over};

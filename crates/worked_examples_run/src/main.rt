@@ -1,5 +1,7 @@
 // Runs every worked example of document 01, its tempting errors, the published test's running example, a plant with a detour and quotes for a
 // bus that doubles messages through the calls, and prints a line for each.
+#![tactic(auto)]
+
 use cycle_sets::Confirmation;
 use listing::Listed;
 use quoting::Quoted;

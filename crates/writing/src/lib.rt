@@ -1,6 +1,8 @@
 // Writing plant files: a list of numbers goes in, and the shortest file of the plant that it says comes out, or a refusal. The file is made in a
 // buffer of our own and copied at the end, so that nothing is written with a refusal. Of the rows of a machine their keys are kept, so that a twin is
 // found.
+#![tactic(auto)]
+
 ghost use Rattle.std.specs.Prelude.{◌≡◌, ◌+◌, ◌-◌, ◌*◌, ◌≤◌, min, length};
 ghost use Rattle.livelock.specs.Plants.{Plant, row_count};
 ghost use Rattle.plant.specs.Reading.{no_machines};
@@ -182,7 +184,7 @@ fn write_in(numbers: &[u16], file: &mut [u8], keys: &mut [u32], out: &mut [u8]) 
                     place: 0,
                 });
             }
-            bytes::copy(&file[..length], out);
+            out[..length].copy_from_slice(&file[..length]);
             Writing::Wrote(length)
         }
     }

@@ -1,5 +1,7 @@
 // Writing the rows of a machine: each is judged, held against the earlier rows of its machine, and stored behind them. No entry point: `writing`
 // calls it.
+#![tactic(auto)]
+
 ghost use Rattle.std.specs.Prelude.{◌≡◌, [], ℕ, ◌+◌, ◌*◌, ◌≤◌};
 ghost use Rattle.livelock.specs.Plants.{Plant};
 ghost use Rattle.plant.specs.Limits.{most_row_bytes, rows_in};
