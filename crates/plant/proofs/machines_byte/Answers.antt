@@ -1,0 +1,5 @@
+use Rattle.std.proofs.Common.{rules}
+use Rattle.plant.proofs.machines_byte.Goals as goal
+
+pub returns : goal.returns
+returns c = c.byte_in.ensures
