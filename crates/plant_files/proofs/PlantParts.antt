@@ -15,7 +15,7 @@ use borrow.Author.Tests.{lt-ltb, le-ltb, eqb-true, eq-eqb, ne_eqb}
 use Rattle.livelock.specs.Lists.{All, Distinct}
 use Rattle.livelock.specs.Plants.{Row, Plant, machine_count, state_count, RowFits}
 use Rattle.livelock.proofs.ListLaws.{all_append, all_weaken, all_always}
-use Rattle.plant.specs.Limits.{Ascending, rows_in_lem, WithinLimits}
+use Rattle.plant.specs.Limits.{Ascending, rows_in, WithinLimits}
 use Rattle.plant.specs.Reading.{with_machine, no_machines}
 use Rattle.plant.proofs.Bounds.{RowIn}
 use Rattle.plant.proofs.MachineRows.{rows_in-append, rows_in_own, rows_in_other}
@@ -69,31 +69,31 @@ distinct_below k (r ∷ rs) d = go (ltb r.machine k) (distinct_below k rs d.1)
     go false ih = ih
 
 -- In ascending order of their machines the rows before machine k + 1 are those before machine k and then those of k.
-pub below_next : (k : ℕ) (rs : List Row) → Ascending rs → rows_below (k + 1) rs ≡ rows_below k rs ++ rows_in_lem k rs
-unfolding rows_below rows_in_lem Ascending
+pub below_next : (k : ℕ) (rs : List Row) → Ascending rs → rows_below (k + 1) rs ≡ rows_below k rs ++ rows_in k rs
+unfolding rows_below rows_in Ascending
 below_next k [] h = refl
 below_next k (r ∷ rs) h = go (dec_lt r.machine k) (ℕ_discrete r.machine k) (below_next k rs h.1)
   where
     Goal : Type 0
     Goal =
         cond (ltb r.machine (k + 1)) (r ∷ rows_below (k + 1) rs) (rows_below (k + 1) rs)
-        ≡ cond (ltb r.machine k) (r ∷ rows_below k rs) (rows_below k rs) ++ cond (eqb r.machine k) (r ∷ rows_in_lem k rs) (rows_in_lem k rs)
+        ≡ cond (ltb r.machine k) (r ∷ rows_below k rs) (rows_below k rs) ++ cond (eqb r.machine k) (r ∷ rows_in k rs) (rows_in k rs)
 
-    go : Dec (r.machine < k) → Dec (r.machine ≡ k) → rows_below (k + 1) rs ≡ rows_below k rs ++ rows_in_lem k rs → Goal
+    go : Dec (r.machine < k) → Dec (r.machine ≡ k) → rows_below (k + 1) rs ≡ rows_below k rs ++ rows_in k rs → Goal
     go (yes l) d ih = rw (lt-ltb r.machine (k + 1) (omega arith), lt-ltb r.machine k l, ne_eqb r.machine k (λ e. omega arith)) (ap (λ (x : List Row). r ∷ x) ih)
     go (no l) (yes e) ih =
         let none = none_below k rs (subst (λ (x : ℕ). All (λ q. x ≤ q.machine) rs) e h.0) in
         rw (lt-ltb r.machine (k + 1) (omega arith), le-ltb r.machine k (omega arith), eq-eqb r.machine k e, none)
-        (ap (λ (x : List Row). r ∷ x) (ih ∙ ap (λ (x : List Row). x ++ rows_in_lem k rs) none))
+        (ap (λ (x : List Row). r ∷ x) (ih ∙ ap (λ (x : List Row). x ++ rows_in k rs) none))
     go (no l) (no n) ih = rw (le-ltb r.machine (k + 1) (omega arith), le-ltb r.machine k (omega arith), ne_eqb r.machine k n) ih
 
 -- The rows of a machine lie in it.
-pub rows_in_lem : (types : ℕ) (states : List ℕ) (k : ℕ) (rs : List Row) → All (RowFits types states) rs → All (RowIn k (get_or states k 0) types) (rows_in_lem k rs)
-unfolding rows_in_lem All
+pub rows_in_lem : (types : ℕ) (states : List ℕ) (k : ℕ) (rs : List Row) → All (RowFits types states) rs → All (RowIn k (get_or states k 0) types) (rows_in k rs)
+unfolding rows_in All
 rows_in_lem types states k [] h = tt
 rows_in_lem types states k (r ∷ rs) h = go (eqb r.machine k) refl (rows_in_lem types states k rs h.1)
   where
-    go : (b : Bool) → eqb r.machine k ≡ b → All (RowIn k (get_or states k 0) types) (rows_in_lem k rs) → All (RowIn k (get_or states k 0) types) (cond b (r ∷ rows_in_lem k rs) (rows_in_lem k rs))
+    go : (b : Bool) → eqb r.machine k ≡ b → All (RowIn k (get_or states k 0) types) (rows_in k rs) → All (RowIn k (get_or states k 0) types) (cond b (r ∷ rows_in k rs) (rows_in k rs))
     go true e ih =
         let m : r.machine ≡ k = eqb-true r.machine k e in (
           record {
@@ -112,7 +112,7 @@ unfoldable pub up_to : Plant → ℕ → Plant
 up_to p k = record { types = p.types; states = take k p.states; rows = rows_below k p.rows }
 
 module _ (p : Plant) (w : WithinLimits p) where
-  pub next_machine : (k : ℕ) → k < machine_count p → with_rows (with_machine (up_to p k) (state_count p k)) (rows_in_lem k p.rows) ≡ up_to p (k + 1)
+  pub next_machine : (k : ℕ) → k < machine_count p → with_rows (with_machine (up_to p k) (state_count p k)) (rows_in k p.rows) ≡ up_to p (k + 1)
   unfolding up_to
   next_machine k l = λ i. record {
     types = p.types;
@@ -144,13 +144,13 @@ module _ (p : Plant) (w : WithinLimits p) where
 
 module _ (f : List Row → List ℕ) where
   -- What is written of machines depends on their states and rows only,
-  machines_same : (n k : ℕ) (p q : Plant) → ((j : ℕ) → j < k + n → (state_count p j ≡ state_count q j) × (rows_in_lem j p.rows ≡ rows_in_lem j q.rows))
+  machines_same : (n k : ℕ) (p q : Plant) → ((j : ℕ) → j < k + n → (state_count p j ≡ state_count q j) × (rows_in j p.rows ≡ rows_in j q.rows))
       → machines_as f n k p ≡ machines_as f n k q
   unfolding machines_as
   machines_same zero k p q h = refl
   machines_same (suc n) k p q h =
       let o = h k (omega arith) in
-      rw (o.0, o.1) (ap (λ (l : List ℕ). (state_count q k ∷ (length (rows_in_lem k q.rows) ∷ f (rows_in_lem k q.rows))) ++ l) (machines_same n (k + 1) p q (λ j l. h j (omega arith))))
+      rw (o.0, o.1) (ap (λ (l : List ℕ). (state_count q k ∷ (length (rows_in k q.rows) ∷ f (rows_in k q.rows))) ++ l) (machines_same n (k + 1) p q (λ j l. h j (omega arith))))
 
   -- and the last machine comes last.
   machines-snoc : (n k : ℕ) (p : Plant) → machines_as f (n + 1) k p ≡ machines_as f n k p ++ machine_as f p (k + n)
@@ -171,20 +171,20 @@ module _ (f : List Row → List ℕ) where
       ∙ (ap (λ (l : List ℕ). l ++ machine_as f (with_rows (with_machine p states) rs) (0 + machine_count p)) (machines_same (machine_count p) 0 (with_rows (with_machine p states) rs) p before)
       ∙ ap (λ (l : List ℕ). machines_as f (machine_count p) 0 p ++ l) last)
     where
-      before : (j : ℕ) → j < 0 + machine_count p → (state_count (with_rows (with_machine p states) rs) j ≡ state_count p j) × (rows_in_lem j (p.rows ++ rs) ≡ rows_in_lem j p.rows)
+      before : (j : ℕ) → j < 0 + machine_count p → (state_count (with_rows (with_machine p states) rs) j ≡ state_count p j) × (rows_in j (p.rows ++ rs) ≡ rows_in j p.rows)
       before j h =
           let l : j < machine_count p = omega (arith, h) in (
             get_or-append p.states (states ∷ []) 0 j l,
             rows_in-append j p.rows rs
-                ∙ (ap (λ (xs : List Row). rows_in_lem j p.rows ++ xs) (rows_in_other j rs (all_weaken _ _ (λ r e f. omega (arith, e, f, l)) rs own)) ∙ append-nil (rows_in_lem j p.rows)),
+                ∙ (ap (λ (xs : List Row). rows_in j p.rows ++ xs) (rows_in_other j rs (all_weaken _ _ (λ r e f. omega (arith, e, f, l)) rs own)) ∙ append-nil (rows_in j p.rows)),
           )
 
       last : machine_as f (with_rows (with_machine p states) rs) (0 + machine_count p) ≡ states ∷ (length rs ∷ f rs)
       last =
           let z : 0 + machine_count p ≡ machine_count p = omega arith in
-          let rows : rows_in_lem (machine_count p) (p.rows ++ rs) ≡ rs =
+          let rows : rows_in (machine_count p) (p.rows ++ rs) ≡ rs =
           rows_in-append (machine_count p) p.rows rs
-          ∙ (ap (λ (xs : List Row). xs ++ rows_in_lem (machine_count p) rs) (rows_in_other (machine_count p) p.rows (all_weaken _ _ (λ r l e. omega (arith, l, e)) p.rows numbered))
+          ∙ (ap (λ (xs : List Row). xs ++ rows_in (machine_count p) rs) (rows_in_other (machine_count p) p.rows (all_weaken _ _ (λ r l e. omega (arith, l, e)) p.rows numbered))
           ∙ rows_in_own (machine_count p) rs own) in
           rw (z, rows, get_or_at p.states states [] 0 (machine_count p) refl)
 

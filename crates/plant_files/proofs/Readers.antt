@@ -11,7 +11,7 @@ use Rattle.livelock.specs.Plants.{Row, Plant, row_count, machine_count, state_co
 use Rattle.livelock.proofs.ListLaws.{all_at}
 use Rattle.plant.specs.Found.{Found, found, and_then}
 use Rattle.plant.specs.Twins.{unless_twin}
-use Rattle.plant.specs.Limits.{rows_in_lem, WithinLimits}
+use Rattle.plant.specs.Limits.{rows_in, WithinLimits}
 use Rattle.plant.specs.Reading.{with_row, with_machine, no_machines}
 use Rattle.plant.proofs.Bounds.{RowIn}
 use Rattle.plant.proofs.Gives.{Gives, value, gives_then, gives_weaken, gives_unless}
@@ -131,7 +131,7 @@ module _ (x : MachineReader) (p : Plant) (w : WithinLimits p)
       there = omega (arith, c)
 
       rs : List Row
-      rs = rows_in_lem k p.rows
+      rs = rows_in k p.rows
 
       few : (length rs ≤ 255) × (row_count (up_to p k) + length rs ≤ 1024)
       few = (

@@ -1,0 +1,5 @@
+use Rattle.std.proofs.Common.{rules}
+use Rattle.set_numbers.proofs.repeats_in.Goals as goal
+
+pub returns : goal.returns
+returns c = c.number_in.ensures

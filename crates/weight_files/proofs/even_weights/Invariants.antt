@@ -1,0 +1,15 @@
+use Rattle.std.proofs.Common.{rules}
+use Rattle.weight_files.proofs.WeightLaws.{weight_next, weights_done, counted}
+use mathlib.Core.Path.{◌≡◌}
+use Prim.Native.Nat.{◌-◌, ◌≤◌}
+use native.Mathlib.Omega.{arith}
+use lib.ListN.{length, take, length-set}
+use Rattle.weight_files.specs.WeightFiles.{weights_of}
+use Rattle.weight_files.proofs.even_weights.Given as goal
+
+-- `even_weights` meets its contract: after i turns the list begins with the first i weights.
+abbrev pub invariant-loop-i : goal.invariant-loop-i
+invariant-loop-i l = (l.i ≤ l.n) × (length l.list ≡ 65) × (take l.i l.list ≡ take l.i (weights_of l.bytes))
+
+abbrev pub decreases-loop-i : goal.decreases-loop-i
+decreases-loop-i l = l.n - l.i
