@@ -34,7 +34,7 @@ CHOSEN = {
     "twoClientsInTurn": "two_clients_in_turn_file",
 }
 # The same, where the lemma's name stands already in the new spelling.
-CHOSEN_IN = {"worked_examples/proofs/AnswerLaws.antt": {"figures-of": "figures_of_lem"}, "plant_files/proofs/PlantParts.antt": {"rows_in": "rows_in_lem"}, "plant_files/proofs/Readers.antt": {"rows_in": "rows_in_lem"}}
+CHOSEN_IN = {"plant_lists/proofs/NumberLaws.antt": {"in-range": "in_range_lem"}, "plant_lists/proofs/ListSays.antt": {"in-range": "in_range_lem"}, "worked_examples/proofs/AnswerLaws.antt": {"figures-of": "figures_of_lem"}, "plant_files/proofs/PlantParts.antt": {"rows_in": "rows_in_lem"}, "plant_files/proofs/Readers.antt": {"rows_in": "rows_in_lem"}}
 # A module that Rattle now makes itself: the crate, its old name and its new one.
 MODULES = [("watched_runs", "Contracts", "Owed")]
 

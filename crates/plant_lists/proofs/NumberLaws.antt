@@ -34,8 +34,8 @@ module _ (passes : ℕ → Bool) (s : List ℕ) (at : ℕ) where
 
 -- ---- what is found, for the laws of lists
 
-pub in_range : (low end x : ℕ) → low ≤ x → x < end → in_range low end x ≡ true
-in_range low end x l h = (both_iff _ _ (at_most_iff low x) (less_iff x end)).1 (l, h)
+pub in_range_lem : (low end x : ℕ) → low ≤ x → x < end → in_range low end x ≡ true
+in_range_lem low end x l h = (both_iff _ _ (at_most_iff low x) (less_iff x end)).1 (l, h)
 
 pub ranged : (low end x : ℕ) → in_range low end x ≡ true → (low ≤ x) × (x < end)
 ranged low end x h = (both_iff _ _ (at_most_iff low x) (less_iff x end)).0 h

@@ -1,4 +1,3 @@
--- `row_length` meets its contract: no product or sum overflows.
 use Prim.Native.Nat.{ℕ, ◌+◌, ◌*◌, ◌≤◌}
 use native.Mathlib.Nat.{mul-le-mul_left}
 use native.Mathlib.Omega.{arith}
@@ -10,10 +9,10 @@ use mir.Facts.{to_z_pos, to_z-of_z}
 use Rattle.livelock.proofs.Differences.{difference_times}
 use Rattle.deciding.specs.Signs.{rise, fall}
 use Rattle.deciding.proofs.SignLaws.{rise_fall, difference_fits, difference_length}
-use borrow.Author.Rules.{rules}
-use Rattle.deciding.proofs.row_length.Statement.{statement}
-use Rattle.deciding.proofs.row_length.Tie as tie
+use Rattle.std.proofs.Common.{rules}
+use Rattle.deciding.proofs.row_length.Goals as goal
 
+-- `row_length` meets its contract: no product or sum overflows.
 -- The product and the sum fit 64 bits, so the code's numbers are these.
 module _ (n : ℕ) (z : ℤ) (few : n ≤ 64) (up : rise z ≤ 65535) (down : fall z ≤ 65535) where
   small : n * rise z + n * fall z ≤ 8388480
@@ -26,25 +25,19 @@ module _ (n : ℕ) (z : ℤ) (few : n ≤ 64) (up : rise z ≤ 65535) (down : fa
   sum_fits first l =
       difference_fits (pos first +ℤ pos n *ℤ z) (first + n * rise z) (n * fall z) (difference_length first n z) (omega (arith, small))
 
-cast-result : tie.Need-overflow-cast-result
-cast-result c = search rules
-
-mul-result : tie.Need-overflow-mul-result
-mul-result c =
+pub overflow_mul-result : goal.overflow_mul-result
+overflow_mul-result c =
     rw (to_z_pos w64 {n = c.args.n} (omega (arith, c.requires.0)), to_z-of_z c.ranges.weight)
     (product_fits c.args.n c.args.weight c.requires.0 c.requires.1 c.requires.2)
 
-add-result : tie.Need-overflow-add-result
-add-result c =
+pub overflow_add-result : goal.overflow_add-result
+overflow_add-result c =
     rw
     (to_z_pos w64 {n = c.args.n} (omega (arith, c.requires.0)), to_z-of_z c.ranges.weight, to_z-of_z (product_fits c.args.n c.args.weight c.requires.0 c.requires.1 c.requires.2))
     (sum_fits c.args.n c.args.weight c.requires.0 c.requires.1 c.requires.2 _ (lit≤ tt))
 
-returns : tie.Need-returns
+pub returns : goal.returns
 returns c =
     rw
     (to_z_pos w64 {n = c.args.n} (omega (arith, c.requires.0)), to_z-of_z c.ranges.weight, to_z-of_z (product_fits c.args.n c.args.weight c.requires.0 c.requires.1 c.requires.2))
     (to_z-of_z (sum_fits c.args.n c.args.weight c.requires.0 c.requires.1 c.requires.2 _ (lit≤ tt)))
-
-pub row_length_spec : {M : Type 1} → statement M
-row_length_spec = tie.close (tie.spec cast-result mul-result add-result returns)

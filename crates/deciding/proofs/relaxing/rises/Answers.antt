@@ -1,4 +1,3 @@
--- `rises` meets its contract: the sum fits 64 bits, and the test is that of the numbers.
 use Prim.Native.Nat.{◌+◌}
 use native.Mathlib.Omega.{arith}
 use lib.IntN.{pos, ◌+ℤ◌}
@@ -6,26 +5,23 @@ use mir.Syntax.{w64}
 use mir.Facts.{to_z_pos, to_z-of_z}
 use Rattle.deciding.specs.Signs.{rise, fall}
 use Rattle.deciding.proofs.SignLaws.{difference_test, difference_sum_of, along_fits, along_is}
-use Rattle.deciding.proofs.relaxing.rises.Statement.{statement}
-use Rattle.deciding.proofs.relaxing.rises.Tie as tie
+use Rattle.deciding.proofs.relaxing.rises.Goals as goal
 
-cast-result : tie.Need-overflow-cast-result
-cast-result c = record { sfits = omega (arith, c.requires.1) }
+-- `rises` meets its contract: the sum fits 64 bits, and the test is that of the numbers.
+pub overflow_cast-result : goal.overflow_cast-result
+overflow_cast-result c = record { sfits = omega (arith, c.requires.1) }
 
-add-result : tie.Need-overflow-add-result
-add-result c =
+pub overflow_add-result : goal.overflow_add-result
+overflow_add-result c =
     rw (to_z_pos w64 {n = c.args.next} (omega (arith, c.requires.1)), to_z-of_z c.ranges.length)
     (along_fits c.args.next c.args.length c.requires.1 c.requires.2 c.requires.3)
 
-cast-result-2 : tie.Need-overflow-cast-result-2
-cast-result-2 c = record { sfits = omega (arith, c.requires.0) }
+pub overflow_cast-result-2 : goal.overflow_cast-result-2
+overflow_cast-result-2 c = record { sfits = omega (arith, c.requires.0) }
 
-returns : tie.Need-returns
+pub returns : goal.returns
 returns c =
     let a = c.args in
     let e = along_is a.next a.length c.requires.1 c.requires.2 c.requires.3 c.ranges.length in
     rw (e, to_z_pos w64 {n = a.at} (omega (arith, c.requires.0)))
     (difference_test (pos a.next +ℤ a.length) (rise a.length + a.next) (fall a.length) a.at (difference_sum_of a.next a.length))
-
-pub rises_spec : {M : Type 1} → statement M
-rises_spec = tie.close (tie.spec cast-result add-result cast-result-2 returns)
