@@ -1,0 +1,21 @@
+use Rattle.std.proofs.Common.{rules}
+use Prim.Native.Nat.{ℕ, ◌-◌, ◌≤◌}
+use mathlib.Core.Path.{◌≡◌, refl, ◌∙◌}
+use mathlib.Core.List.{List}
+use native.Mathlib.Omega.{arith}
+use lib.ListN.{length}
+use Rattle.reading.proofs.CountLaws.{MachinesLeft, machines_begin, machines_stop, machines_go_on, machines_end}
+use Rattle.reading.proofs.check_machines_in.Given as goal
+
+-- `check_machines_in` meets its contract: what is left to read after i machines, from a plant with these counts, gives what the whole gives.
+pub record Inv (file : List ℕ) (n from types : ℕ) (before keys : List ℕ) (at rows i : ℕ) : Type 0 where
+  pub within : i ≤ n
+  pub few_rows : rows ≤ 1024
+  pub long : length keys ≡ length before
+  pub left : MachinesLeft n from types file at rows i
+
+abbrev pub invariant-loop-i : goal.invariant-loop-i
+invariant-loop-i l = Inv l.file l.n l.from l.types l.initial.keys l.keys l.at l.rows l.i
+
+abbrev pub decreases-loop-i : goal.decreases-loop-i
+decreases-loop-i l = l.n - l.i
