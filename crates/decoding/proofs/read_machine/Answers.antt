@@ -34,11 +34,8 @@ returns-in-Fault-rows_step c =
 pub slice_bounds-read_rows-count : goal.slice_bounds-read_rows-count
 slice_bounds-read_rows-count c = (each_found _ _ (rows_byte_each _ _ _) (told field_found c.rows_byte-rows_step.ensures c.in-Value-rows_step.is)).0.inside
 
--- NO NEED part-read-rows-start : tie.Need-slice-bounds-read-rows-start
--- part-read-rows-start c = (each_found _ _ (rows_byte_each _ _ _) (told field_found c.before.before.before.before.rows-byte.ensures c.before.before.rows_step.given.1)).0.inside
-
--- NO NEED part-read-rows-end : tie.Need-slice-bounds-read-rows-end
--- part-read-rows-end c = search rules
+pub slice_bounds-read_rows-start : goal.slice_bounds-read_rows-start
+slice_bounds-read_rows-start c = (each_found _ _ (rows_byte_each _ _ _) (told field_found c.rows_byte-rows_step.ensures c.in-Value-rows_step.is)).0.inside
 
 pub read_rows-end-requires : goal.read_rows-end-requires
 read_rows-end-requires c =

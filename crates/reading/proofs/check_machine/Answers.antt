@@ -20,11 +20,8 @@ returns-in-Fault-rows_step c = record { counted = λ p t u numbered. fault_kept 
 pub slice_bounds-check_rows-count : goal.slice_bounds-check_rows-count
 slice_bounds-check_rows-count c = (each_found _ _ (rows_byte_each _ _ _) (told field_found c.rows_byte-rows_step.ensures c.in-Value-rows_step.is)).0.inside
 
--- NO NEED part-check-rows-start : tie.Need-slice-bounds-check-rows-start
--- part-check-rows-start c = (each_found _ _ (rows_byte_each _ _ _) (told field_found c.before.before.before.before.rows-byte.ensures c.before.before.rows_step.given.1)).0.inside
-
--- NO NEED part-check-rows-end : tie.Need-slice-bounds-check-rows-end
--- part-check-rows-end c = search rules
+pub slice_bounds-check_rows-start : goal.slice_bounds-check_rows-start
+slice_bounds-check_rows-start c = (each_found _ _ (rows_byte_each _ _ _) (told field_found c.rows_byte-rows_step.ensures c.in-Value-rows_step.is)).0.inside
 
 pub check_rows-inner-requires : goal.check_rows-inner-requires
 check_rows-inner-requires c =

@@ -16,7 +16,7 @@ use Rattle.set_sums.proofs.add_rows.Given as goal
 
 -- `add_rows` meets its contract: after each row, the rows so far are added.
 abbrev pub invariant-loop-i : goal.invariant-loop-i
-invariant-loop-i l = (l.times ≡ l.repeats) × (l.at ≤ l.i) × (l.i ≤ l.end) × Added l.table l.repeats (part l.set l.at l.i) l.initial.sums l.sums
+invariant-loop-i l = (l.times ≡ pos l.repeats) × (l.at ≤ l.i) × (l.i ≤ l.end) × Added l.table l.repeats (part l.set l.at l.i) l.initial.sums l.sums
 
 abbrev pub decreases-loop-i : goal.decreases-loop-i
 decreases-loop-i l = l.end - l.i

@@ -18,13 +18,13 @@ free_below : (c : goal.Start) → bit_xor c.args.marks 16777215 < 4294967296
 free_below c = let m : c.args.marks < 4294967296 = search rules in xor_lt 32 c.args.marks 16777215 m (omega arith)
 
 first_below : (c : goal.After-into_of) → bit_and c.into_of.result (bit_xor c.args.marks 16777215) < 4294967296
-first_below c = omega (arith, and_le_r c.into_of.result (bit_xor c.args.marks 16777215), (let free_below_here : bit_xor c.args.marks 16777215 < 4294967296 = let m : c.args.marks < 4294967296 = search rules in xor_lt 32 c.args.marks 16777215 m (omega arith) in free_below_here)
+first_below c = omega (arith, and_le_r c.into_of.result (bit_xor c.args.marks 16777215), (let free_below_here : bit_xor c.args.marks 16777215 < 4294967296 = let m : c.args.marks < 4294967296 = search rules in xor_lt 32 c.args.marks 16777215 m (omega arith) in free_below_here))
 
 more_below : (c : goal.After-into_of-in-loop-todo) → bit_and c.into_of-in-loop-todo.result (bit_xor (bit_xor c.args.marks 16777215) c.loop-todo.live) < 4294967296
 more_below c =
     let a = c.args in
     let l = c.loop-todo in
-    omega (arith, and_le_r c.into_of-in-loop-todo.result (bit_xor (bit_xor a.marks 16777215) l.live), xor_lt 32 (bit_xor a.marks 16777215) l.live (let free_below_here : bit_xor c.args.marks 16777215 < 4294967296 = let m : c.args.marks < 4294967296 = search rules in xor_lt 32 c.args.marks 16777215 m (omega arith) in free_below_here) l.invariant.2)
+    omega (arith, and_le_r c.into_of-in-loop-todo.result (bit_xor (bit_xor a.marks 16777215) l.live), xor_lt 32 (bit_xor a.marks 16777215) l.live ((let free_below_here : bit_xor c.args.marks 16777215 < 4294967296 = let m : c.args.marks < 4294967296 = search rules in xor_lt 32 c.args.marks 16777215 m (omega arith) in free_below_here)) l.invariant.2)
 
 pub loop-todo-init : goal.loop-todo-init
 loop-todo-init c = (omega arith, first_below c, first_below c, rw c.into_of.ensures (growing_begins (into_of c.args.graph.now) c.args.start (bit_xor c.args.marks 16777215)))

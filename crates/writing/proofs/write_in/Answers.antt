@@ -13,7 +13,7 @@ pub returns-then-out-length : goal.returns-then-out-length
 returns-then-out-length c =
     let a = c.args in
     let o = owes_room a.numbers.now _ _ a.out.now _ c.write_plant-step.ensures.plant_stored _ c.in-At.is (omega (arith, c.if-out-length.true)) in
-    (o.0, (o.1, o.2))
+    record { result_value = o.0; out_after = o.1; writes_shortest = o.2 }
 
 -- NO NEED slice-reshare-prefix-copy : tie.Need-slice-reshare-prefix-copy
 -- slice-reshare-prefix-copy c =
@@ -34,7 +34,7 @@ pub returns-in-Fault : goal.returns-in-Fault
 returns-in-Fault c =
     let a = c.args in
     let o = owes_fault a.numbers.now _ _ a.out.now _ c.write_plant-step.ensures.plant_stored _ c.in-Fault.is in
-    (o.0, (o.1, o.2))
+    record { result_value = o.0; out_after = o.1; writes_shortest = o.2 }
 
 pub returns-else-out-length : goal.returns-else-out-length
 returns-else-out-length c =
@@ -43,4 +43,4 @@ returns-else-out-length c =
     let point = c.in-At.point in
     let o = owes_file a.numbers.now _ _ a.out.now _ c.write_plant-step.ensures.plant_stored _ c.in-At.is (omega (arith, c.if-out-length.false)) _
     (copied point.pos c.write_plant-step.new.1.0 a.out.now _ (omega (arith, near.0, near.1, near.2, c.file-1.given, c.requires.0)) c.copy.ensures.1) in
-    (o.0, (o.1, o.2))
+    record { result_value = o.0; out_after = o.1; writes_shortest = o.2 }
