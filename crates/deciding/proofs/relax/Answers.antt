@@ -11,7 +11,7 @@ use Rattle.deciding.specs.Rounds.{edge_graph, Pass}
 use Rattle.deciding.proofs.DecisionLaws.{length_low, pass_starts, pass_low, edge_keeps, edge_raises}
 use Rattle.std.proofs.Common.{rules}
 use Rattle.deciding.proofs.relax.Goals as goal
-use Rattle.deciding.proofs.relax.Goals.{After-from_of-a, After-slice_known-in-loop-i-2-1, After-to_of-b}
+use Rattle.deciding.proofs.relax.Goals.{After-from_of-a, After-slice_known-in-loop-i-2-1, After-to_of-b, then-rises, else-rises}
 
 -- Both states of an edge are states of the machine,
 left_in : (c : goal.After-from_of-a) → c.from_of-a.result < c.args.states
@@ -73,7 +73,7 @@ rises-requires c =
     (omega (arith, low c.from_of-a.result), low c.to_of-b.result, rw (made, long) short.0, rw (made, long) short.1)
 
 pub raised-requires : goal.raised-requires
-raised-requires c = rises-requires (goal.at.raised-requires c).After-slice_known-in-loop-i-2-1 κs
+raised-requires c = rises-requires (goal.at.raised-requires c).After-slice_known-in-loop-i-2-1
 
 pub offset_bounds-heights-a-then-rises : goal.offset_bounds-heights-a-then-rises
 offset_bounds-heights-a-then-rises c = omega (arith, left_in (goal.at.offset_bounds-heights-a-then-rises c).After-from_of-a, c.requires.0.states_in)
@@ -94,10 +94,10 @@ loop-i-preserved c =
     let long = rw (fit, weight.ensures) at c.row_length-length.ensures in
     let test = rw (left, entered, made, long) at c.rises.ensures in (
       omega (arith, there),
-      ⊎_elim
-          (λ w. rw (w.2, w.3, left) (edge_raises a.n a.count a.states a.edges.now c.requires.0 c.requires.1 l.i there a.heights.now l.heights l.last l.invariant.1 c.requires.2 (sym test ∙ w.0.taken) _ (rw (left, entered, made, long) at w.1.ensures)))
-          (λ w. rw (w.1, w.2) (edge_keeps a.n a.count a.states a.edges.now c.requires.0 c.requires.1 l.i there a.heights.now l.heights l.last l.invariant.1 (sym test ∙ w.0.left)))
-          c.if-rises.branch,
+      elim c.if-rises.branch [
+        | then-rises w ↦ rw (w.heights-is, w.last-is, left) (edge_raises a.n a.count a.states a.edges.now c.requires.0 c.requires.1 l.i there a.heights.now l.heights l.last l.invariant.1 c.requires.2 (sym test ∙ w.if-rises.true) _ (rw (left, entered, made, long) at w.raised.ensures))
+        | else-rises w ↦ rw (w.heights-is, w.last-is) (edge_keeps a.n a.count a.states a.edges.now c.requires.0 c.requires.1 l.i there a.heights.now l.heights l.last l.invariant.1 (sym test ∙ w.if-rises.false))
+      ],
     )
 
 pub shape_of-heights : goal.shape_of-heights

@@ -30,7 +30,7 @@ pub overflow_cast-times : goal.overflow_cast-times
 overflow_cast-times c = size_fits (pos _) (omega (arith, c.requires.3))
 
 pub loop-i-init : goal.loop-i-init
-loop-i-init c = let a = c.args in (refl, le_refl _, c.requires.0, rw (part_empty a.set.now a.at a.at (le_refl _)) (none_added a.table.now a.repeats a.sums.now c.requires.5))
+loop-i-init c = let a = c.args in (times_is a.repeats c.requires.3, le_refl _, c.requires.0, rw (part_empty a.set.now a.at a.at (le_refl _)) (none_added a.table.now a.repeats a.sums.now c.requires.5))
 
 pub bounds-set-i : goal.bounds-set-i
 bounds-set-i c = omega (arith, c.requires.1.there, c.loop-i-test.true)
@@ -68,7 +68,7 @@ loop-i-preserved c =
     let l = c.loop-i in
     let t = c.loop-i-test.true in
     let added = row_stored a.table.now a.repeats p.3 _ a.sums.now l.sums l.invariant.3 (get_or a.set.now l.i 0) _ _ c.sent_of-sent.ensures c.taken_of-taken.ensures _ _ c.add_to.ensures c.add_to-in-loop-i.ensures in
-    (refl, omega (arith, l.invariant.1), omega (arith, t), rw (part_next a.set.now a.at l.i l.invariant.1 (omega (arith, p.1.there, t))) added)
+    (times_is a.repeats p.3, omega (arith, l.invariant.1), omega (arith, t), rw (part_next a.set.now a.at l.i l.invariant.1 (omega (arith, p.1.there, t))) added)
 
 pub returns : goal.returns
 returns c =

@@ -52,7 +52,7 @@ returns c =
     let n = c.in-Value.field.value in
     let near = near_more s (c.put-after_types.result + (2 * n + most_row_bytes * 1024)) longest_file c.write_machines-step.result
     (omega (arith, below_end 1 17 _ _ _ _ first, c.put-after_machines.ensures.upper_bound, c.put-after_types.ensures.upper_bound)) c.write_machines-step.ensures.near in
-    rw c.list_end.ensures (
-      plant_is s _ _ _ _ first _ _ second _ _ _ _ _ c.put-after_machines.ensures.stored c.put-after_types.ensures.stored c.write_machines-step.ensures.machines_stored,
-      end_near s longest_file c.write_machines-step.result near,
-    )
+    rw c.list_end.ensures (record {
+      plant_stored = plant_is s _ _ _ _ first _ _ second _ _ _ _ _ c.put-after_machines.ensures.stored c.put-after_types.ensures.stored c.write_machines-step.ensures.machines_stored;
+      near = end_near s longest_file c.write_machines-step.result near;
+    })
