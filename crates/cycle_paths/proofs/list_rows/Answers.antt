@@ -72,9 +72,9 @@ loop-row-preserved c =
     let shut = closed_first _ _ low.result marked.result _ (state_in (goal.at.loop-row-preserved c).After-left_of-start) low.ensures marked.ensures closed.ensures in (
       omega (arith, l.invariant.0),
       omega arith,
-      e.0.path_room,
+      e.path_kept.path_room,
       adding_part l.invariant.3 _ _ (entries_closed (left_of g) (entered_of g) c.args.first (last_of g) (into_of g) l.row start.result l.path (marks_of 24 closed.result) start.ensures p.from shut (marks_length 24 closed.result) l.invariant.0 (omega (arith, h, c.requires.0.last_is))) _ _ c.out-1.given
-          (added_in l.invariant.3.same_length (e.1 (left_of g) c.args.first p.links p.from l.invariant.0)),
+          (added_in l.invariant.3.same_length (e.extended_in (left_of g) c.args.first p.links p.from l.invariant.0)),
     )
 
 pub shape_of-out : goal.shape_of-out

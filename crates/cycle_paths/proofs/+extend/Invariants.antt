@@ -1,0 +1,29 @@
+use Rattle.std.proofs.Common.{rules}
+use mathlib.Core.Path.{◌≡◌, refl, sym, ap, subst}
+use mathlib.Core.Logic.{⊎_elim}
+use Prim.Native.Nat.{ℕ, suc, ◌-◌, ◌<◌, ◌≤◌}
+use native.Mathlib.Omega.{arith}
+use lib.ListN.{length, get_or, set, take, length-set}
+use Rattle.graphs.specs.Graphs.{entered_of, next_of, head_of, into_of, last_of}
+use Rattle.cycle_paths.specs.Cycles.{unleft}
+use Rattle.state_marks.specs.Marks.{column, marks_of}
+use Rattle.cycle_paths.specs.Inner.Extending.{PathKept}
+use Rattle.state_marks.proofs.MarkLaws.{marks_length}
+use Rattle.cycle_paths.proofs.MarkLaws.{unleft_falls}
+use Rattle.cycle_paths.proofs.FillingLaws.{added_in}
+use Rattle.cycle_paths.proofs.ExtensionLaws.{enter_unleft, Extending, extending_begins, extending_named, extending_stops, extending_ends, extending_skip, extending_close, extending_enter, closed_unleft, path_kept}
+use Rattle.cycle_paths.proofs.+extend.Given as goal
+
+-- `extend` meets its contract: the entries from row k on are left to be added, and each turn adds those of one row. The measure of the
+-- calls is the number of states not yet left.
+abbrev pub invariant-loop-k : goal.invariant-loop-k
+invariant-loop-k l =
+    (l.low ≤ l.k) × PathKept l.depth l.initial.path l.path × Extending (entered_of l.graph) (next_of l.graph) (head_of l.graph) (into_of l.graph) (last_of l.graph) l.start (marks_of 24 l.marks) (take l.depth l.initial.path) l.low l.high (length l.initial.out) l.initial.out l.pos l.k l.used l.out
+
+abbrev pub decreases-loop-k : goal.decreases-loop-k
+decreases-loop-k l =
+    l.high - l.k
+
+-- Each call leaves one state more.
+abbrev pub decreases-extend : goal.decreases-extend
+decreases-extend l = unleft (marks_of 24 l.marks)

@@ -1,0 +1,18 @@
+use Rattle.std.proofs.Common.{rules}
+use mathlib.Core.Path.{◌≡◌, refl, ◌∙◌}
+use Prim.Native.Nat.{ℕ, ◌-◌, ◌≤◌, ◌<◌}
+use native.Mathlib.Omega.{arith}
+use lib.ListN.{length}
+use borrow.Author.Tests.{not-true, not-false}
+use Rattle.decoding.specs.Tables.{plant_of}
+use Rattle.machines.specs.Machines.{MachinePasses}
+use Rattle.machines.proofs.TurnLaws.{when_true, when_false, below_next, turn_rows, turn_edges, turn_states, turn_passes, turn_fails}
+use Rattle.machines.proofs.first_failing.Given as goal
+
+-- `first_failing` meets its contract: the machines so far pass; the first for which deciding says no ends the loop.
+abbrev pub invariant-loop-m : goal.invariant-loop-m
+invariant-loop-m l =
+    (l.m ≤ l.shape.machines) × ((j : ℕ) → j < l.m → l.from ≤ j → MachinePasses (plant_of l.shape l.table) l.weights j) × (length l.edges ≡ length l.initial.edges) × (l.from ≤ l.m)
+
+abbrev pub decreases-loop-m : goal.decreases-loop-m
+decreases-loop-m l = l.shape.machines - l.m
