@@ -1,0 +1,42 @@
+use Rattle.std.proofs.Common.{rules}
+use mathlib.Core.Path.{◌≡◌, refl, ◌∙◌}
+use mathlib.Core.Logic.{⊎_elim}
+use Prim.Native.Nat.{◌-◌}
+use native.Mathlib.Omega.{arith}
+use lib.ListN as List
+use Rattle.deciding.specs.Rounds.{edge_graph}
+use Rattle.searching.proofs.SearchLaws.{Sought, sought_none, sought_fewer, sought_same, sought_all}
+use Rattle.searching.proofs.least.Goals as goal
+
+pub overflow_add-length : goal.overflow_add-length
+overflow_add-length c = omega (arith, c.requires.1, c.requires.0.states_in)
+
+pub loop-s-init : goal.loop-s-init
+loop-s-init c = (sought_none _ _ _, refl, c.requires.2)
+
+pub overflow_sub-length : goal.overflow_sub-length
+overflow_sub-length c = c.loop-s.invariant.0.some_edge
+
+pub least_from-k-requires : goal.least_from-k-requires
+least_from-k-requires c =
+    let p = c.requires in
+    let l = c.loop-s in
+    (p.0, omega (arith, c.loop-s-test.true), omega (arith, l.invariant.0.few, p.1), l.invariant.2, omega (arith, l.invariant.1, p.3))
+
+pub loop-s-preserved : goal.loop-s-preserved
+loop-s-preserved c =
+    let l = c.loop-s in
+    let here = c.loop-s-test.true in
+    let from-s = c.least_from-k.ensures in (
+      ⊎_elim (λ w. rw w.1 (sought_fewer l.invariant.0 here from-s.0 w.0.taken)) (λ w. rw w.1 (sought_same l.invariant.0 here from-s.0 w.0.left)) c.if-k-length.branch,
+      c.noted-1.given ∙ l.invariant.1,
+      from-s.1.1,
+    )
+
+pub shape_of-noted : goal.shape_of-noted
+shape_of-noted c = c.loop-s.invariant.1
+
+pub returns : goal.returns
+returns c =
+    let i = c.loop-s.invariant in
+    record { least_within = sought_all c.loop-s-test.false i.0; walks_len = i.2 }
