@@ -22,3 +22,7 @@ invariant-loop-k l =
 
 abbrev pub decreases-loop-k : goal.decreases-loop-k
 decreases-loop-k l = l.high - l.k
+
+-- Each call leaves one state more.
+abbrev pub decreases-count : goal.decreases-count
+decreases-count l = unleft (marks_of 24 l.marks)

@@ -7,6 +7,7 @@ use lib.ListN as List
 use Rattle.deciding.specs.Rounds.{edge_graph}
 use Rattle.searching.proofs.SearchLaws.{Sought, sought_none, sought_fewer, sought_same, sought_all}
 use Rattle.searching.proofs.least.Goals as goal
+use Rattle.searching.proofs.least.Goals.{then-k-length, else-k-length}
 
 pub overflow_add-length : goal.overflow_add-length
 overflow_add-length c = omega (arith, c.requires.1, c.requires.0.states_in)
@@ -28,9 +29,12 @@ loop-s-preserved c =
     let l = c.loop-s in
     let here = c.loop-s-test.true in
     let from-s = c.least_from-k.ensures in (
-      ⊎_elim (λ w. rw w.1 (sought_fewer l.invariant.0 here from-s.0 w.0.taken)) (λ w. rw w.1 (sought_same l.invariant.0 here from-s.0 w.0.left)) c.if-k-length.branch,
+      elim c.if-k-length.branch [
+        | then-k-length w ↦ rw w.start-is (sought_fewer l.invariant.0 here from-s.least_from w.if-k-length.true)
+        | else-k-length w ↦ rw w.start-is (sought_same l.invariant.0 here from-s.least_from w.if-k-length.false)
+      ],
       c.noted-1.given ∙ l.invariant.1,
-      from-s.1.1,
+      from-s.walks_len,
     )
 
 pub shape_of-noted : goal.shape_of-noted
