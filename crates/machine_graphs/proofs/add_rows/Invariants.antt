@@ -1,0 +1,13 @@
+use Rattle.std.proofs.Common.{rules}
+use mathlib.Core.Path.{◌≡◌, subst}
+use Prim.Native.Nat.{ℕ, ◌+◌, ◌-◌, ◌<◌, ◌≤◌}
+use native.Mathlib.Omega.{arith}
+use Rattle.machine_graphs.proofs.GraphLaws.{Begun, begun_none, begun_few, begun_row, begun_ends}
+use Rattle.machine_graphs.proofs.add_rows.Given as goal
+
+-- `add_rows` meets its contract: after each turn the graph has the rows from k on.
+abbrev pub invariant-loop-k : goal.invariant-loop-k
+invariant-loop-k l = (l.first ≤ l.k) × (l.k ≤ l.last) × Begun l.table l.k l.last l.graph
+
+abbrev pub decreases-loop-k : goal.decreases-loop-k
+decreases-loop-k l = l.k

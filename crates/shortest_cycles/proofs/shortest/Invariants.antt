@@ -1,0 +1,18 @@
+use Rattle.std.proofs.Common.{rules}
+use mathlib.Core.Path.{◌≡◌, refl, ◌∙◌}
+use Prim.Native.Nat.{◌-◌}
+use native.Mathlib.Omega.{arith}
+use lib.ListN.{length}
+use Rattle.decoding.specs.Tables.{plant_of}
+use Rattle.machines.proofs.TurnLaws.{turn_edges}
+use Rattle.shortest_cycles.specs.Inner.Turns.{ShortestOf}
+use Rattle.shortest_cycles.proofs.ShortestLaws.{first_searched, turn_searched, all_searched}
+use Rattle.shortest_cycles.proofs.shortest.Given as goal
+
+-- `shortest` meets its contract: before each turn, the shortest cycle of the machines before machine m was written.
+abbrev pub invariant-loop-m : goal.invariant-loop-m
+invariant-loop-m l =
+    ShortestOf (plant_of l.shape l.table) l.weights l.m l.least l.rows × (length l.edges ≡ length l.initial.edges) × (length l.rows ≡ length l.initial.rows)
+
+abbrev pub decreases-loop-m : goal.decreases-loop-m
+decreases-loop-m l = l.shape.machines - l.m
