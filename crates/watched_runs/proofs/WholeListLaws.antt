@@ -83,6 +83,8 @@ module _ (file ws : List ℕ) (c : Configuration) (P : Plant) (end : ℕ) (reads
   -- By induction on the list: whatever it begins with, what is left of it begins with the lists handed back.
   follow : (done : List Event) (s t : Kept) (es : List Event) (answers : List Answer) → Holds s (watched done) → Calls s es answers t → Follows P ws c done es answers
   follow done s t [] [] holds ended = at_end
+  follow done s t [] (a ∷ answers) holds calls = elim calls [ ]
+  follow done s t (e ∷ es) [] holds calls = elim calls [ ]
   follow done s t (e ∷ es) (a ∷ answers) holds (called {t = next} steps rest) =
       one_call done e es answers s next a holds steps (λ h. follow done next t es answers h rest) (λ h. follow (done ++ (e ∷ [])) next t es answers h rest)
 
@@ -106,6 +108,8 @@ module _ (e : Event) (s t : Kept) (a : Answer) (holds : Holds s unopened) (steps
 
 all_impossible : (s t : Kept) (es : List Event) (answers : List Answer) → Holds s unopened → Calls s es answers t → AllImpossible es answers
 all_impossible s t [] [] holds ended = no_more
+all_impossible s t [] (a ∷ answers) holds calls = elim calls [ ]
+all_impossible s t (e ∷ es) [] holds calls = elim calls [ ]
 all_impossible s t (e ∷ es) (a ∷ answers) holds (called {t = next} steps rest) =
     subst (λ (b : Answer). AllImpossible (e ∷ es) (b ∷ answers)) (sym (empty_answer e s next a holds steps))
     (one_more (all_impossible next t es answers (empty_held e s next a holds steps) rest))

@@ -1,0 +1,33 @@
+use Rattle.std.proofs.Common.{rules}
+use mathlib.Core.Path.{sym}
+use native.Mathlib.Omega.{arith}
+use Rattle.figures.proofs.FigureLaws.{states_limit}
+use Rattle.machines.proofs.TurnLaws.{machines_are}
+use Rattle.weighing.proofs.WeighingLaws.{most_is, none_fails, failing_verdict, passing_verdict}
+use Rattle.weighing.proofs.judge_table.Goals as goal
+
+-- `judge_table` meets its contract: the weights pass exactly where no machine fails.
+pub slice_bounds-states-end : goal.slice_bounds-states-end
+slice_bounds-states-end c = let few = c.requires.0.ready.sound.few_machines in search rules
+
+pub slice_bounds-figures_of-end : goal.slice_bounds-figures_of-end
+slice_bounds-figures_of-end c = sym (machines_are _ _ _ c.requires.0)
+
+pub figures_of-figures-requires : goal.figures_of-figures-requires
+figures_of-figures-requires c = let limits = c.requires.0.limits in (limits.some_machine, limits.few_machines, λ m l. (states_limit _ limits m l).0)
+
+pub first_failing-failing-requires : goal.first_failing-failing-requires
+first_failing-failing-requires c =
+    let p = c.requires in
+    (p.0, omega arith, most_is _ _ _ p.0 c.figures_of-figures.result c.figures_of-figures.ensures, p.1)
+
+pub returns-then-failing-shape : goal.returns-then-failing-shape
+returns-then-failing-shape c =
+    let ok = c.requires.0 in
+    let figures = c.figures_of-figures in
+    passing_verdict _ _ _ ok figures.result figures.ensures (none_fails _ _ _ ok _ _ _ c.first_failing-failing.ensures (omega (arith, c.if-failing-shape.true)))
+
+pub returns : goal.returns
+returns c =
+    let failing = c.first_failing-failing.ensures in
+    failing_verdict _ _ _ c.requires.0 _ _ _ failing (omega (arith, failing.within, c.if-failing-shape.false))
