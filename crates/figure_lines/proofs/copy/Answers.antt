@@ -1,9 +1,5 @@
-use Rattle.std.proofs.Common.{rules}
-use mathlib.Core.Path.{◌≡◌}
-use Prim.Native.Nat.{◌-◌, ◌≤◌}
 use native.Mathlib.Omega.{arith}
-use lib.ListN.{length, take, length-set}
-use lib.Seq.{sets}
+use lib.ListN.{length-set}
 use Rattle.livelock.proofs.StoreLaws.{sets_next}
 use Rattle.figure_lines.proofs.WritingLaws.{copied_all}
 use Rattle.figure_lines.proofs.copy.Goals as goal

@@ -1,11 +1,7 @@
-use Rattle.std.proofs.Common.{rules}
 use mathlib.Core.Path.{◌≡◌}
 use Prim.Native.Nat.{◌-◌, ◌≤◌}
-use native.Mathlib.Omega.{arith}
-use lib.ListN.{length, take, length-set}
+use lib.ListN.{length, take}
 use lib.Seq.{sets}
-use Rattle.livelock.proofs.StoreLaws.{sets_next}
-use Rattle.figure_lines.proofs.WritingLaws.{copied_all}
 use Rattle.figure_lines.proofs.copy.Given as goal
 
 -- `copy` meets its contract: after i turns the first i bytes are written.

@@ -1,9 +1,5 @@
-use Rattle.std.proofs.Common.{rules}
-use Prim.Native.Nat.{◌-◌, ◌≤◌}
 use native.Mathlib.Omega.{arith}
-use lib.ListN.{length, take}
 use Rattle.figure_lines.specs.FigureLines.{figures}
-use Rattle.figure_lines.specs.Writing.{Wrote}
 use Rattle.figure_lines.proofs.WritingLaws.{wrote-length, wrote_nothing}
 use Rattle.figure_lines.proofs.DecimalLaws.{figure_room, figures_more, figures_all}
 use Rattle.figure_lines.proofs.write_figures.Goals as goal

@@ -1,4 +1,3 @@
-use Rattle.std.proofs.Common.{rules}
 use native.Mathlib.Omega.{arith}
 use Rattle.figure_lines.proofs.WritingLaws.{wrote-length, wrote_then}
 use Rattle.figure_lines.proofs.DecimalLaws.{line_length}

@@ -1,9 +1,6 @@
-use Rattle.std.proofs.Common.{rules}
-use Rattle.weight_files.proofs.WeightLaws.{weight_next, weights_done, counted}
 use mathlib.Core.Path.{◌≡◌}
 use Prim.Native.Nat.{◌-◌, ◌≤◌}
-use native.Mathlib.Omega.{arith}
-use lib.ListN.{length, take, length-set}
+use lib.ListN.{length, take}
 use Rattle.weight_files.specs.WeightFiles.{weights_of}
 use Rattle.weight_files.proofs.even_weights.Given as goal
 
