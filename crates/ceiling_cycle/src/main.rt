@@ -1,5 +1,5 @@
 #![tactic(auto)]
 
-fn main() {
-    ceiling_run::run();
+fn main(rt: HostRuntime) {
+    ceiling_run::run(&rt);
 }

@@ -1,34 +1,33 @@
 // Printing words, numbers and lists.
 ghost use Rattle.std.specs.Prelude.{◌≤◌, length};
 
-use libc::STDOUT_FILENO;
 use plant::Fault;
 
-pub fn say(text: &[u8]) {
-    io::write_all(STDOUT_FILENO, text);
+pub fn say(rt: &impl Print, text: &[u8]) {
+    let _ = rt.write_all(text);
 }
 
-pub fn number(n: u64) {
-    io::print_decimal(STDOUT_FILENO, n);
+pub fn number(rt: &impl Print, n: u64) {
+    let _ = rt.print(n);
 }
 
 // A number and the words before it.
-pub fn say_number(text: &[u8], n: u64) {
-    say(text);
-    number(n);
+pub fn say_number(rt: &impl Print, text: &[u8], n: u64) {
+    say(rt, text);
+    number(rt, n);
 }
 
 // An entry of a list, behind a space.
-fn entry(x: u16) {
-    say_number(b" ", x as u64);
+fn entry(rt: &impl Print, x: u16) {
+    say_number(rt, b" ", x as u64);
 }
 
 // The first entries of a list.
-pub fn entries(list: &[u16], count: usize) {
+pub fn entries(rt: &impl Print, list: &[u16], count: usize) {
     let mut i = 0;
     while i < count {
         if i < list.len() {
-            entry(list[i]);
+            entry(rt, list[i]);
         }
         i += 1;
     }
@@ -51,15 +50,15 @@ fn lowest(list: &[u16], count: usize) -> usize
 }
 
 // The rows of a cycle from the lowest on: it may be shown from any of them.
-pub fn cycle(list: &[u16], count: usize) {
+pub fn cycle(rt: &impl Print, list: &[u16], count: usize) {
     if count <= list.len() {
         let low = lowest(list, count);
-        entries(&list[low..], count - low);
-        entries(list, low);
+        entries(rt, &list[low..], count - low);
+        entries(rt, list, low);
     }
 }
 
-pub fn refused(fault: Fault) {
-    say_number(b"refused with ", fault.number as u64);
-    say_number(b" at ", fault.place as u64);
+pub fn refused(rt: &impl Print, fault: Fault) {
+    say_number(rt, b"refused with ", fault.number as u64);
+    say_number(rt, b" at ", fault.place as u64);
 }
