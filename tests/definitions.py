@@ -174,7 +174,7 @@ def truth(b):
 
 def plant_text(plant):
     rows = ''.join(
-        'rowWith %d %d %d %s %s %s ∷ '
+        'row_with %d %d %d %s %s %s ∷ '
         % (r.machine, r.left, r.entered, option(r.sent), option(r.taken), truth(r.progress)) for r in plant.rows)
     return 'record { types = %d; states = %s; rows = %s[] }' % (plant.types, numbers(plant.states), rows)
 
@@ -183,28 +183,28 @@ def entry_text(entry):
     return 'record { machine = %d; repeats = %d; cycle = %s }' % (entry[0], entry[1], numbers(entry[2]))
 
 
-HEADER = '''use mathlib.Core.Path.{_≡_, refl}
+HEADER = '''use mathlib.Core.Path.{◌≡◌, refl}
 use mathlib.Core.Bool.{Bool, true, false}
 use mathlib.Core.Option.{Option, none, some}
-use mathlib.Core.List.{List, [], _∷_}
+use mathlib.Core.List.{List, [], ◌∷◌}
 use Prim.Native.Nat.{ℕ}
-use lib.ListN.{getD}
+use lib.ListN.{get_or}
 use lib.IntN.{ℤ, pos, negsuc}
-use Rattle·livelock.specs.Lists.{below, sum, sumℤ, greatest}
-use Rattle·livelock.specs.Plants.{Plant, rowWith, hasProgress}
-use Rattle·livelock.specs.Runs.{Configuration, Event, row, loss, doubling, canHappen, changed, after, afterAll, run}
-use Rattle·livelock.specs.Runs.{isQuietRow, isProgressRow, isDoubling, quietRows, progressRows, doublings}
-use Rattle·livelock.specs.Weights.{cycleWeight}
-use Rattle·livelock.specs.Figures.{mostStates, base, perProgress, perDoubling, figuresOf, contentsWeight, ceilingOf}
-use Rattle·livelock.specs.CycleSets.{Entry, setEffect}
-use Rattle·livelock.specs.Tests.{every, isDistinct, isWalk, isSimpleCycle, isQuietCycle}
-use Rattle·livelock.proofs.Tests.{isWellFormed}
-use Rattle·livelock.specs.Graphs.{via}
-use Rattle·livelock.proofs.Graphs.{longest}
-use Rattle·livelock.proofs.Decision.{statePotential, isPassing}
+use Rattle.livelock.specs.Lists.{below, sum, sumℤ, greatest}
+use Rattle.livelock.specs.Plants.{Plant, row_with, has_progress}
+use Rattle.livelock.specs.Runs.{Configuration, Event, row, loss, doubling, can_happen, changed, after, after_all, run}
+use Rattle.livelock.specs.Runs.{is_quiet_row, is_progress_row, is_doubling, quiet_rows, progress_rows, doublings}
+use Rattle.livelock.specs.Weights.{cycle_weight}
+use Rattle.livelock.specs.Figures.{most_states, base, per_progress, per_doubling, figures_of, contents_weight, ceiling_of}
+use Rattle.livelock.specs.CycleSets.{Entry, set_effect}
+use Rattle.livelock.specs.Tests.{every, is_distinct, is_walk, is_simple_cycle, is_quiet_cycle}
+use Rattle.livelock.proofs.Tests.{is_well_formed}
+use Rattle.livelock.specs.Graphs.{via}
+use Rattle.livelock.proofs.Graphs.{longest}
+use Rattle.livelock.proofs.Decision.{state_potential, is_passing}
 '''
-UNFOLD = ('below sum sumℤ greatest hasProgress canHappen changed after afterAll run isQuietRow isProgressRow isDoubling '
-          'cycleWeight setEffect every isDistinct isWalk via longest statePotential')
+UNFOLD = ('below sum sumℤ greatest has_progress can_happen changed after after_all run is_quiet_row is_progress_row is_doubling '
+          'cycle_weight set_effect every is_distinct is_walk via longest state_potential')
 
 
 def events_text(events):
@@ -232,54 +232,54 @@ def state(theorems, rng, i, plant):
     ws = numbers(weights)
     theorems.define(p, 'Plant', plant_text(plant))
     f, n, per_progress, per_doubling = figures(plant, weights)
-    theorems.equal('figures%d' % i, [('base %s %s' % (p, ws), str(f)), ('mostStates %s' % p, str(n)), ('perProgress %s %s' % (p, ws), str(per_progress)),
-                                     ('perDoubling %s %s' % (p, ws), str(per_doubling)), ('isWellFormed %s' % p, 'true'),
-                                     ('isPassing %s %s' % (p, ws), truth(passes(plant, weights)))], p)
+    theorems.equal('figures%d' % i, [('base %s %s' % (p, ws), str(f)), ('most_states %s' % p, str(n)), ('per_progress %s %s' % (p, ws), str(per_progress)),
+                                     ('per_doubling %s %s' % (p, ws), str(per_doubling)), ('is_well_formed %s' % p, 'true'),
+                                     ('is_passing %s %s' % (p, ws), truth(passes(plant, weights)))], p)
 
     states = [rng.randrange(count) for count in plant.states]
     contents = [rng.randint(0, 3) for _ in range(plant.types)] + LACKING
     events = random_events(rng, plant, 25)
     happened, end, left = simulate(plant, states, contents, events)
     quiet, progress, doubled = counted(plant, happened)
-    theorems.define(c, 'Configuration', 'record { state = λ m. getD %s m 0; content = λ t. getD %s t 0 }' % (numbers(states), numbers(contents)))
+    theorems.define(c, 'Configuration', 'record { state = λ m. get_or %s m 0; content = λ t. get_or %s t 0 }' % (numbers(states), numbers(contents)))
     theorems.define('events%d' % i, 'List Event', events_text(events))
-    counts = [('%s %s %s events%d' % (name, p, c, i), str(x)) for name, x in (('quietRows', quiet), ('progressRows', progress), ('doublings', doubled))]
-    owed = ('ceilingOf (figuresOf %s %s) (contentsWeight %s %s (%s .content)) %d %d' % (p, ws, p, ws, c, progress, doubled),
+    counts = [('%s %s %s events%d' % (name, p, c, i), str(x)) for name, x in (('quiet_rows', quiet), ('progress_rows', progress), ('doublings', doubled))]
+    owed = ('ceiling_of (figures_of %s %s) (contents_weight %s %s %s.content) %d %d' % (p, ws, p, ws, c, progress, doubled),
             str(ceiling(plant, weights, contents, progress, doubled)))
     theorems.equal('run%d' % i, counts + [owed]
-                   + [('afterAll %s %s events%d .state %d' % (p, c, i, m), str(s)) for m, s in enumerate(end)]
-                   + [('afterAll %s %s events%d .content %d' % (p, c, i, t), str(x)) for t, x in enumerate(left)]
+                   + [('(after_all %s %s events%d).state %d' % (p, c, i, m), str(s)) for m, s in enumerate(end)]
+                   + [('(after_all %s %s events%d).content %d' % (p, c, i, t), str(x)) for t, x in enumerate(left)]
                    + [('run %s %s events%d' % (p, c, i), events_text(happened))], '%s %s events%d' % (p, c, i))
 
     every = [(m, list(x)) for m in range(len(plant.states)) for x in simple_cycles(plant, m)]
     chosen = rng.sample(every, min(len(every), 4))
     for j, (m, cycle) in enumerate(chosen):
-        sides = [('isSimpleCycle %s %d %s' % (p, m, numbers(cycle)), 'true'),
-                 ('isQuietCycle %s %s' % (p, numbers(cycle)), truth(not any(plant.rows[k].progress for k in cycle))),
-                 ('cycleWeight %s %s %s' % (p, ws, numbers(cycle)), signed(weight(plant, weights, cycle)))]
+        sides = [('is_simple_cycle %s %d %s' % (p, m, numbers(cycle)), 'true'),
+                 ('is_quiet_cycle %s %s' % (p, numbers(cycle)), truth(not any(plant.rows[k].progress for k in cycle))),
+                 ('cycle_weight %s %s %s' % (p, ws, numbers(cycle)), signed(weight(plant, weights, cycle)))]
         theorems.equal('cycle%d-%d' % (i, j), sides, p)
     for j in range(3):
         m, cycle = rng.randrange(len(plant.states)), [rng.randrange(len(plant.rows) + 1) for _ in range(rng.randint(0, 3))]
-        theorems.equal('list%d-%d' % (i, j), [('isSimpleCycle %s %d %s' % (p, m, numbers(cycle)), truth(tuple(cycle) in simple_cycles(plant, m)))], p)
+        theorems.equal('list%d-%d' % (i, j), [('is_simple_cycle %s %d %s' % (p, m, numbers(cycle)), truth(tuple(cycle) in simple_cycles(plant, m)))], p)
     if chosen and plant.types:
         entries = [(m, rng.randint(1, 9), cycle) for m, cycle in chosen]
         theorems.define('set%d' % i, 'List Entry', ''.join(entry_text(e) + ' ∷ ' for e in entries) + '[]')
-        theorems.equal('sums%d' % i, [('setEffect %s set%d %d' % (p, i, t), signed(z)) for t, z in enumerate(set_sums(plant, entries))], '%s set%d' % (p, i))
+        theorems.equal('sums%d' % i, [('set_effect %s set%d %d' % (p, i, t), signed(z)) for t, z in enumerate(set_sums(plant, entries))], '%s set%d' % (p, i))
 
 
 def check(text):
     """Have `rt` check the theorems in a copy of the repository, as one crate more."""
     with tempfile.TemporaryDirectory() as folder:
-        shutil.copytree(os.path.join(ROOT, 'crates', 'livelock'), os.path.join(folder, 'crates', 'livelock'))
+        shutil.copytree(os.path.join(ROOT, 'crates', 'livelock'), os.path.join(folder, 'crates', 'livelock'), ignore=shutil.ignore_patterns('out'))
         crate = os.path.join(folder, 'crates', 'agreement')
         for part in ('src', 'specs', 'proofs'):
             os.makedirs(os.path.join(crate, part))
-        for path, content in (('src/lib.rt', '// Theorems only.\n'), ('specs/Lib.antt', ''), ('proofs/Lib.antt', 'pub mod Agreement\n'), ('proofs/Agreement.antt', text)):
+        for path, content in (('src/lib.rt', '// Theorems only.\n#![tactic(auto)]\n'), ('specs/Lib.antt', ''), ('proofs/Lib.antt', 'pub mod Agreement\n'), ('proofs/Agreement.antt', text)):
             with open(os.path.join(crate, path), 'w', encoding='utf-8') as out:
                 out.write(content)
         with open(os.path.join(folder, 'crates.txt'), 'w', encoding='utf-8') as out:
             out.write('livelock:\nagreement: livelock\n')
-        done = subprocess.run(['rt', 'check', 'agreement'], cwd=folder, capture_output=True, text=True)
+        done = subprocess.run(['rt', 'check'], cwd=crate, capture_output=True, text=True)
         if done.returncode != 0:
             lines = [line for line in (done.stdout + done.stderr).split('\n') if 'error' in line or line.startswith('rt:')]
             sys.exit('definitions.py: rt does not find the numbers of the second implementation:\n' + '\n'.join(lines[:20]))
