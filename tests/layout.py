@@ -12,12 +12,14 @@ import tempfile
 
 EXPORTS = '''
 #[repr(C)]
+#[derive(Clone, Copy)]
 pub struct Row { pub machine: u8, pub left: u8, pub entered: u8, pub sent: u8, pub taken: u8, pub progress: bool }
 
 #[repr(C)]
+#[derive(Drop)]
 pub struct Rows { pub rows: [Row; 1024] }
 
-#[no_mangle]
+#[unsafe(no_mangle)]
 pub extern "C" fn by_value(t: Rows, k: usize) -> u8 {
     if k < 1024 {
         let r = t.rows[k];
@@ -26,7 +28,7 @@ pub extern "C" fn by_value(t: Rows, k: usize) -> u8 {
     0
 }
 
-#[no_mangle]
+#[unsafe(no_mangle)]
 pub extern "C" fn lent(entered: &[u8; 1024], k: usize) -> u8 {
     if k < 1024 {
         return entered[k];
@@ -63,11 +65,12 @@ int main(void) {
 def main():
     with tempfile.TemporaryDirectory() as folder:
         os.makedirs(os.path.join(folder, 'crates', 'layout', 'src'))
-        for path, text in (('crates/layout/src/lib.rt', '// Two ways to hand over the rows of a plant.' + EXPORTS), ('crates.txt', 'layout:\n'), ('driver.c', DRIVER)):
+        for path, text in (('crates/layout/src/lib.rt', '// Two ways to hand over the rows of a plant.\n#![tactic(auto)]\n' + EXPORTS), ('crates.txt', 'layout staticlib:\n'), ('driver.c', DRIVER)):
             with open(os.path.join(folder, path), 'w', encoding='utf-8') as out:
                 out.write(text)
-        for command in (['rt', 'staticlib', 'layout'], ['gcc', '-O2', 'driver.c', '-Ltarget/staticlib', '-llayout', '-o', 'driver']):
-            done = subprocess.run(command, cwd=folder, capture_output=True, text=True)
+        crate = os.path.join(folder, 'crates', 'layout')
+        for place, command in ((crate, ['rt', 'lib']), (folder, ['gcc', '-O2', 'driver.c', '-Lcrates/layout/out', '-llayout', '-o', 'driver'])):
+            done = subprocess.run(command, cwd=place, capture_output=True, text=True)
             if done.returncode != 0:
                 sys.exit('layout.py: %s failed:\n%s' % (' '.join(command), (done.stdout + done.stderr)[-2000:]))
         ratios = []
