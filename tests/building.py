@@ -10,17 +10,18 @@ import sys
 ROOT = os.path.dirname(os.path.dirname(os.path.abspath(__file__)))
 
 
-def run(*command):
-    done = subprocess.run(command, cwd=ROOT, capture_output=True, text=True)
+def run(*command, folder=ROOT):
+    done = subprocess.run(command, cwd=folder, stdin=subprocess.DEVNULL, capture_output=True, text=True)
     if done.returncode != 0:
         sys.exit('building.py: %s failed:\n%s' % (' '.join(command), (done.stdout + done.stderr)[-3000:]))
 
 
 @functools.lru_cache(None)
 def ceiling():
-    """The path of the program `ceiling`."""
-    run('rt', 'check', 'ceiling')
-    return os.path.join(ROOT, 'target', 'bin', 'ceiling')
+    """The path of the program `ceiling`. `rt run` runs it once, in the folder of the crate."""
+    crate = os.path.join(ROOT, 'crates', 'ceiling')
+    run('rt', 'run', folder=crate)
+    return os.path.join(crate, 'out', 'ceiling')
 
 
 @functools.lru_cache(None)

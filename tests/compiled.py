@@ -2,7 +2,7 @@
 cycle_sets.py, writing.py and watching.py.
 
 The calls are those of the C interface. The library is built in a folder of its own, from a copy of the crates in which the
-interface has one export more, of what `decode` holds, and so uses `decoding`. What the repository's folder `target` has of proofs is used.
+interface has one export more, of what `decode` holds, and so uses `decoding`. What rt keeps of the same crates' proofs is used.
 
     python3 tests/compiled.py [SEED]
 """
@@ -33,19 +33,20 @@ def run(folder, command):
 
 
 def build(folder):
-    for part in ('crates', 'include', 'target'):
-        if os.path.exists(os.path.join(ROOT, part)):
-            shutil.copytree(os.path.join(ROOT, part), os.path.join(folder, part), ignore=shutil.ignore_patterns('log'))    # others write there
+    for part in ('crates', 'include'):
+        shutil.copytree(os.path.join(ROOT, part), os.path.join(folder, part), ignore=shutil.ignore_patterns('out'))    # others write there
     with open(os.path.join(ROOT, 'crates.txt'), encoding='utf-8') as source, open(os.path.join(folder, 'crates.txt'), 'w', encoding='utf-8') as out:
-        out.write(source.read().replace('\ncabinet: ', '\ncabinet: decoding '))
-    with open(os.path.join(folder, 'crates', 'cabinet', 'src', 'lib.rt'), 'a', encoding='utf-8') as source:
+        out.write(source.read().replace('\ncabinet_c staticlib: ', '\ncabinet_c staticlib: decoding '))
+    with open(os.path.join(folder, 'crates', 'cabinet_c', 'src', 'lib.rt'), 'a', encoding='utf-8') as source:
         source.write(reading.PROBE)
-    run(folder, ['rt', 'staticlib', 'cabinet'])
-    run(folder, ['rt', 'staticlib', 'panel'])
+    crates = ('cabinet_c', 'panel_c')
+    for crate in crates:
+        run(os.path.join(folder, 'crates', crate), ['rt', 'lib'])
+    libraries = [word for crate in crates for word in ('-Lcrates/%s/out' % crate, '-l' + crate)]
     for name, part in PARTS.items():
         with open(os.path.join(folder, name + '.c'), 'w', encoding='utf-8') as out:
             out.write(part.DRIVER)
-        run(folder, ['gcc', '-O2', '-Wall', '-Wextra', '-Werror', '-Iinclude', name + '.c', '-Ltarget/staticlib', '-lcabinet', '-lpanel', '-o', name])
+        run(folder, ['gcc', '-O2', '-Wall', '-Wextra', '-Werror', '-Iinclude', name + '.c', *libraries, '-o', name])
 
 
 def main():

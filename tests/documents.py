@@ -17,6 +17,8 @@
   arguments and structs, and the numbers of a row of the writer's list, are those that tests/data/revisions.txt has for the revision, so that a change
   needs the next one, and the structs are the same in the crate, in the header and in the wrappers. So are the lists of a watcher, and the header's
   inline functions lend to each export those that it takes.
+- The static libraries `cabinet_c` and `panel_c` have the exports of crates `cabinet` and `panel`, each with the same arguments, answer and clauses,
+  and each is the call of that function.
 
     python3 tests/documents.py
 """
@@ -44,6 +46,11 @@ def read_all(paths):
 
 def files(pattern):
     return sorted(os.path.relpath(p, ROOT) for p in glob.glob(os.path.join(ROOT, pattern), recursive=True))
+
+
+def crates_listed():
+    """The crates in the order of crates.txt; a static library's line has that word behind its name."""
+    return re.findall(r'(?m)^(\w+)(?: staticlib)?:', read('crates.txt'))
 
 
 def fault(path, number, text):
@@ -136,14 +143,14 @@ def words(lines):
 
 def kit_words(path):
     """The words that a file takes from the kit's library; of an operator the sign alone."""
-    lists = re.findall(r'(?m)^use (?!Rattle·)\S+\.\{([^}]*)\}', read(path))
-    return {word.strip().strip('_') for names in lists for word in names.split(',')}
+    lists = re.findall(r'(?m)^use (?!Rattle\.livelock\.)\S+\.\{([^}]*)\}', read(path))
+    return {word.strip().strip('◌') for names in lists for word in names.split(',')}
 
 
 def specs_used(source, lines):
     """The files of the crate's specs that a definition can speak of: its own, and those from which its file takes one of its words."""
-    for module, names in re.findall(r'(?m)^use Rattle·livelock·specs\.specs\.(\w+)\.\{([^}]*)\}', read(source)):
-        if {name.strip().strip('_') for name in names.split(',')} & words(lines):
+    for module, names in re.findall(r'(?m)^use Rattle\.livelock\.specs\.(\w+)\.\{([^}]*)\}', read(source)):
+        if {name.strip().strip('◌') for name in names.split(',')} & words(lines):
             yield 'crates/livelock/specs/%s.antt' % module
     if '/specs/' in source:
         yield source
@@ -266,8 +273,8 @@ def proved_bytes(path, name, argument=None):
 
 def hold_examples():
     run, proved = 'crates/worked_examples_run/src/plants.rt', 'crates/worked_examples/specs/Files.antt'
-    for folder, const, name in (('plant_a', 'PLANT_A', 'fileA'), ('plant_b', 'PLANT_B', 'fileB'), ('two_clients', 'TWO_CLIENTS', 'twoClients'),
-                                ('two_clients_in_turn', 'TWO_CLIENTS_IN_TURN', 'twoClientsInTurn'), ('detour', 'DETOUR', 'detour')):
+    for folder, const, name in (('plant_a', 'PLANT_A', 'file_a'), ('plant_b', 'PLANT_B', 'file_b'), ('two_clients', 'TWO_CLIENTS', 'two_clients_file'),
+                                ('two_clients_in_turn', 'TWO_CLIENTS_IN_TURN', 'two_clients_in_turn_file'), ('detour', 'DETOUR', 'detour')):
         with open(os.path.join(ROOT, 'examples', folder, 'plant.bin'), 'rb') as source:
             held = source.read()
         literal = re.search(const + r': \[u8; \d+\] =\s+\*b"([^"]*)"', read(run)).group(1)
@@ -304,9 +311,9 @@ def product_sum(text):
 def hold_lengths(header, wrappers):
     """The longest file and the longest list of the header and of the wrappers are those of the definitions."""
     limits, lists = read('crates/plant/specs/Limits.antt'), read('crates/plant_lists/specs/Lists.antt')
-    most = re.search(r'(?m)^mostRowBytes = (\d+)$', limits).group(1)
-    for name, text, rule in (('LONGEST_FILE', limits, 'longestFile'), ('LONGEST_LIST', lists, 'longestList')):
-        owed = product_sum(re.search(r'(?m)^%s = (.*)$' % rule, text).group(1).replace('mostRowBytes', most))
+    most = re.search(r'(?m)^most_row_bytes = (\d+)$', limits).group(1)
+    for name, text, rule in (('LONGEST_FILE', limits, 'longest_file'), ('LONGEST_LIST', lists, 'longest_list')):
+        owed = product_sum(re.search(r'(?m)^%s = (.*)$' % rule, text).group(1).replace('most_row_bytes', most))
         found = re.findall(r'(?m)^#define HEMTALUQ_%s (\d+)' % name, read(header)) + re.findall(r'(?m)^pub const %s: usize = ([\d_]+);$' % name, read(wrappers))
         if [int(x.replace('_', '')) for x in found] != [owed, owed]:
             faults.append('%s and %s: %s is %s, where %s is %d' % (header, wrappers, name, found, rule, owed))
@@ -314,7 +321,7 @@ def hold_lengths(header, wrappers):
 
 def hold_versions(header, definition, wrappers):
     found = [re.findall(pattern, read(path)) for path, pattern in (
-        (header, r'(?m)^#define HEMTALUQ_VERSION (\d+)$'), (definition, r'(?m)^interfaceVersion = (\d+)$'), (wrappers, r'(?m)^pub const VERSION: u32 = (\d+);$'))]
+        (header, r'(?m)^#define HEMTALUQ_VERSION (\d+)$'), (definition, r'(?m)^interface_version = (\d+)$'), (wrappers, r'(?m)^pub const VERSION: u32 = (\d+);$'))]
     if len(found[0]) != 1 or found != 3 * found[:1]:
         faults.append('%s, %s and %s: the versions are %s' % (header, definition, wrappers, found))
 
@@ -360,6 +367,22 @@ def hold_structs(header, source, wrappers):
     return ours
 
 
+# An export: its name, all that stands before its body, and its body.
+EXPORT = r'(?ms)^#\[unsafe\(no_mangle\)\]\npub extern "C" fn (\w+)(\(.*?)\n\{\n(.*?)\n\}$'
+
+
+def hold_exports(crates):
+    """Each export of a static library has the arguments, the answer and the clauses of the function of its name, and is the call of that function."""
+    for crate in crates:
+        ours, theirs = [re.findall(EXPORT, read('crates/%s/src/lib.rt' % name)) for name in (crate + '_c', crate)]
+        if not ours or [one[:2] for one in ours] != [one[:2] for one in theirs]:
+            faults.append('crates %s_c and %s: the exports differ' % (crate, crate))
+        for name, head, body in ours:
+            owed = '%s::%s(%s)' % (crate, name, ', '.join(re.findall(r'(\w+): ', head.split(' -> ')[0])))
+            if re.sub(r'(?<=\() | (?=\))|,(?= ?\))', '', ' '.join(body.split())) != owed:
+                faults.append('crate %s_c: %s is not %s' % (crate, name, owed))
+
+
 # A list of fixed length, as C and as Rust have it: its name, the type of its numbers, and how many there are.
 C_LIST = r'(?P<type>\w+) (?P<name>\w+)\[(?P<length>\d+)\]'
 RUST_LIST = r'(?P<name>\w+): (?:&(?:mut )?)?\[(?P<type>\w+); (?P<length>\d+)\]'
@@ -392,9 +415,9 @@ def hold_watcher(header, source, wrappers):
 
 def row_form(lists):
     """The numbers of a row of the writer's list in the order in which the definition judges them, with the end of their values where it is a number."""
-    judged = re.search(r'(?m)^listedRow .*=\n((?:    .*\n)+)', read(lists)).group(1)
-    found = re.findall(r'andThen \((.*) s \w+\) \(λ (\w+) \w+\.', judged)
-    return ', '.join(name + ''.join(' < ' + end for end in re.findall(r'^numberIn 0 (\d+)$', values)) for values, name in found)
+    judged = re.search(r'(?m)^listed_row .*=\n((?:    .*\n)+)', read(lists)).group(1)
+    found = re.findall(r'and_then \((.*) s \w+\) \(λ (\w+) \w+\.', judged)
+    return ', '.join(name + ''.join(' < ' + end for end in re.findall(r'^number_in 0 (\d+)$', values)) for values, name in found)
 
 
 def hold_stored_revisions(source, structs, lists, stored):
@@ -443,7 +466,7 @@ def hold_promises(path):
 
 
 def hold_crates(readme, gate):
-    crates = re.findall(r'(?m)^(\w+):', read('crates.txt'))
+    crates = crates_listed()
     named = re.findall(r'`(\w+)(…?)`', read(readme).split('\n## Architecture\n')[1].split('\n## ')[0])
     faults.extend('%s: the architecture does not name %s' % (readme, crate) for crate in crates
                   if not any(crate == name or (rest and crate.startswith(name)) for name, rest in named))
@@ -455,13 +478,15 @@ def hold_crates(readme, gate):
         faults.append('%s: there are %d must-fail edits together' % (gate, sum(edits.values())))
 
 
-# The crates with a call, an export or the program's line.
-# The crates with the exports of the C interface, and those with their structs.
-EXPORTS = ['crates/%s/src/lib.rt' % crate for crate in ('cabinet', 'panel')]
+# The crates of which a static library, NAME_c, has the exports of the C interface; the static libraries; and the crates with the structs.
+EXPORTED = ('cabinet', 'panel')
+EXPORTS = ['crates/%s_c/src/lib.rt' % crate for crate in EXPORTED]
 STRUCTS = ['crates/%s/src/lib.rt' % crate for crate in ('answer_structs', 'panel')]
-DOORS = ('reading', 'weighing', 'quoting', 'listing', 'cycle_sets', 'exclusion', 'watchers', 'watching', 'answer_line', 'cabinet', 'panel')
+# The crates with a call, an export or the program's line.
+DOORS = ('reading', 'weighing', 'quoting', 'listing', 'cycle_sets', 'exclusion', 'watchers', 'watching', 'answer_line', *EXPORTED,
+         *('%s_c' % crate for crate in EXPORTED))
 # An import of specs: the crate, the module and the names; no names where the module is taken under another name.
-SPECS_IMPORT = r'(?m)^(?:ghost )?use Rattle·(\w+)(?:·specs)?\.specs(?:\.specs)?\.([\w.]+?)(?:\.\{([^}]*)\}| as \w+);?$'
+SPECS_IMPORT = r'(?m)^(?:ghost )?use Rattle\.(\w+)\.specs\.([\w.]+?)(?:\.\{([^}]*)\}| as \w+);?$'
 # The clauses of a public function.
 CONTRACT = r'(?m)^pub (?:extern "C" )?fn [^{]*?\n((?:    (?:requires|ensures) .*\n)+)'
 
@@ -473,7 +498,7 @@ def specs_imported(path):
     for crate, module, names in re.findall(SPECS_IMPORT, read(path)):
         source = 'crates/%s/specs/%s.antt' % (crate, module.replace('.', '/'))
         if os.path.exists(os.path.join(ROOT, source)):
-            found.update({name.strip().strip('_'): source for name in (names.split(',') if names else declared(source))})
+            found.update({name.strip().strip('◌'): source for name in (names.split(',') if names else declared(source))})
     return found
 
 
@@ -494,7 +519,7 @@ def hold_reading_order(readme, doors):
         if (source, name) not in known:
             known.add((source, name))
             waiting += [cited for part in definitions(source) if name in names_declared(part) for cited in rests_on(source, part)]
-    crates = re.findall(r'(?m)^(\w+):', read('crates.txt'))
+    crates = crates_listed()
     order = re.sub(r'\([^)]*\)', '', read(readme).split('in this\norder: ')[1].split('. [')[0])
     needed, named = {source.split('/')[1] for source, _ in known}, set(re.findall(r'\w+', order))
     faults.extend('%s: the order of reading names %s, which no contract rests on' % (readme, crate) for crate in sorted(named - needed))
@@ -519,6 +544,7 @@ def main():
     hold_header('include/hemtaluq.h')
     hold_kinds('include/hemtaluq.h', ['crates/%s/proofs/StructsDiffer.antt' % crate for crate in ('answer_structs', 'panel')])
     hold_lengths('include/hemtaluq.h', 'examples/cabinet/hemtaluq.rs')
+    hold_exports(EXPORTED)
     hold_versions('include/hemtaluq.h', 'crates/cabinet/specs/Versions.antt', 'examples/cabinet/hemtaluq.rs')
     hold_revisions('include/hemtaluq.h', EXPORTS, 'examples/cabinet/hemtaluq.rs')
     structs = hold_structs('include/hemtaluq.h', STRUCTS, 'examples/cabinet/hemtaluq.rs')

@@ -257,7 +257,7 @@ pub struct Held {
     pub table: [u8; 8192],
 }
 
-#[no_mangle]
+#[unsafe(no_mangle)]
 pub extern "C" fn probe_table(file: &[u8]) -> Held {
     let mut table = [0; 8192];
     let decoded = decoding::decode(file, &mut table);
