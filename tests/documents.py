@@ -7,7 +7,7 @@
 - The plant files in examples/ have the bytes that the worked examples are proved of and run with.
 - Each row of a table in README.md and docs/ has as many cells as the table's head.
 - The names in README's table of promises are declared in the files that it names.
-- README's section Architecture names every crate, and docs/gate.md has a row for each with the number of its must-fail edits.
+- README's section Architecture names every crate, and docs/gate.md has a row for each, with a time or a dash, and the number of its must-fail edits.
 - The crates whose specs README leads a reader through are those that the contracts of the calls, of the exports and of the program's line rest on.
 - The numbers of README's section Tests are figures that a test holds (figures.py).
 - The header of the C interface names every fault number of the table, and each once; its kinds are those of the computed examples of crate answer_structs.
@@ -471,7 +471,7 @@ def hold_crates(readme, gate):
     faults.extend('%s: the architecture does not name %s' % (readme, crate) for crate in crates
                   if not any(crate == name or (rest and crate.startswith(name)) for name, rest in named))
     edits = {crate: len(files('crates/%s/must-fail/*.edit' % crate)) for crate in crates}
-    rows = re.findall(r'(?m)^\| `(\w+)` \| [\d.]+ \| (\d+) \|', read(gate))
+    rows = re.findall(r'(?m)^\| `(\w+)` \| (?:[\d.]+|–) \| (\d+) \|', read(gate))
     if rows != [(crate, str(edits[crate])) for crate in crates]:
         faults.append('%s: the rows are not the crates with their must-fail edits, in the order of crates.txt' % gate)
     if not re.search(r'(?m)^\| together \| \d+ \| %d \|' % sum(edits.values()), read(gate)):
