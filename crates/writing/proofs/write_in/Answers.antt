@@ -6,7 +6,7 @@ use lib.Seq.{length-take-le}
 use Rattle.plant.specs.Limits.{longest_file}
 use Rattle.written_rows.specs.declared.Step.{Step}
 use Rattle.written_rows.specs.Steps.{Near}
-use Rattle.writing.proofs.PlantLaws.{owes_fault, owes_room, owes_file, copied}
+use Rattle.writing.proofs.PlantLaws.{owes_fault, owes_room, owes_file}
 use Rattle.writing.proofs.write_in.Goals as goal
 
 pub returns-then-out-length : goal.returns-then-out-length

@@ -1,0 +1,5 @@
+use Rattle.std.proofs.Common.{rules}
+use Rattle.watching.proofs.doubling.Goals as goal
+
+pub returns : goal.returns
+returns c = let w = c.args.watcher in c.take_doubling-answer.ensures w.table w.states w.copy

@@ -1,0 +1,5 @@
+use Rattle.std.proofs.Common.{rules}
+use Rattle.watching.proofs.row.Goals as goal
+
+pub returns : goal.returns
+returns c = c.take_row-answer.ensures c.args.watcher.copy
