@@ -1,0 +1,7 @@
+use Rattle.std.proofs.Common.{rules}
+use mathlib.Core.Path.{◌∙◌, ap}
+use Rattle.answer_structs.specs.Structs.{read_struct}
+use Rattle.cabinet.proofs.hemtaluq_read_v1.Goals as goal
+
+pub returns : goal.returns
+returns c = c.read_answer.ensures ∙ ap read_struct c.read-answer.ensures
