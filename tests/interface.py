@@ -470,15 +470,26 @@ def hold_other_version(folder):
                 sys.exit('interface.py: %s with a library of version 1: exit code %d, %s' % (source, done.returncode, done.stdout + done.stderr))
 
 
+# An operand of vector instructions, which the compiler makes where it turns a loop into them: it has 16 bytes and a section of its own sort.
+VECTOR, MOST_VECTORS = '.rodata.cst16', 4
+
+
+def sections(path):
+    return [(name, int(size)) for name, size in re.findall(r'(?m)^(\.\S+) +([1-9]\d*)', run(['size', '-A', path]))]
+
+
 def data_sections(path):
-    """The sections of an object or a library that are not empty, but for its code and what is not loaded with it."""
-    return [name for name in re.findall(r'(?m)^(\.\S+) +[1-9]', run(['size', '-A', path])) if not name.startswith(('.text', '.comment', '.note'))]
+    """The sections of an object or a library that are not empty, but for its code, what is not loaded with it, and operands of vector instructions."""
+    return [name for name, _ in sections(path) if not name.startswith(('.text', '.comment', '.note')) and name != VECTOR]
 
 
 def hold_no_tables(folder):
-    """The library is code alone: no constant table takes read-only memory. In an object with the 43 edges as a table, one is found."""
+    """The library is code, but for a few operands of vector instructions: no constant table takes read-only memory. In an object with the 43 edges as
+    a table, one is found."""
     if data_sections('dist/libhemtaluq.a'):
         sys.exit('interface.py: the library has data: %s' % ', '.join(data_sections('dist/libhemtaluq.a')))
+    if sum(size for name, size in sections('dist/libhemtaluq.a') if name == VECTOR) > 16 * MOST_VECTORS:
+        sys.exit('interface.py: the library has more than %d operands of vector instructions' % MOST_VECTORS)
     table = os.path.join(folder, 'table.o')
     run(['gcc', '-x', 'c', '-', '-c', '-o', table], input='const unsigned long long edges[43] = {%s};\n' % ', '.join(str(2 ** k) for k in range(43)))
     if data_sections(table) != ['.rodata']:
