@@ -12,7 +12,6 @@ use Rattle.plant.specs.Reading.{byte_in, with_machine, read_rows, rows_byte, rea
 use Rattle.plant.specs.Limits.{Placed, at_the_end, within, at_twin}
 use Rattle.plant.specs.Steps.{end_found}
 use Rattle.plant.specs.Steps.{offset_of}
-use Rattle.plant.specs.declared.Fault.{Fault}
 use Rattle.plant.specs.declared.End.{End}
 use Rattle.plant.specs.declared.End.TheVariants as Ends
 use Rattle.plant.proofs.Bounds.{Each, got, stopped, read_rows_each}

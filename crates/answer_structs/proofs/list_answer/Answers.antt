@@ -1,4 +1,3 @@
-use Rattle.std.proofs.Common.{rules}
 use Rattle.answer_structs.proofs.list_answer.Goals as goal
 
 pub returns-in-Entries : goal.returns-in-Entries

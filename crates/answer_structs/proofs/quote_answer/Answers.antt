@@ -1,4 +1,3 @@
-use Rattle.std.proofs.Common.{rules}
 use Rattle.answer_structs.proofs.quote_answer.Goals as goal
 
 pub returns-in-Ceiling : goal.returns-in-Ceiling

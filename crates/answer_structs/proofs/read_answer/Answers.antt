@@ -1,4 +1,3 @@
-use Rattle.std.proofs.Common.{rules}
 use Rattle.answer_structs.proofs.read_answer.Goals as goal
 
 pub returns-in-Counts : goal.returns-in-Counts

@@ -1,4 +1,3 @@
-use Rattle.std.proofs.Common.{rules}
 use Rattle.answer_structs.proofs.weigh_answer.Goals as goal
 
 pub returns-in-Passed : goal.returns-in-Passed

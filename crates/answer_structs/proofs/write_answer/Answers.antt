@@ -1,4 +1,3 @@
-use Rattle.std.proofs.Common.{rules}
 use Rattle.answer_structs.proofs.write_answer.Goals as goal
 
 pub returns-in-Wrote : goal.returns-in-Wrote

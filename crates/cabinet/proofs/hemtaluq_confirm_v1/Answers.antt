@@ -1,4 +1,3 @@
-use Rattle.std.proofs.Common.{rules}
 use Rattle.cabinet.proofs.StructLaws.{confirm_told, negative_told, confirms_told, negative_means, refused_means}
 use Rattle.cabinet.proofs.hemtaluq_confirm_v1.Goals as goal
 

@@ -1,4 +1,3 @@
-use Rattle.std.proofs.Common.{rules}
 use mathlib.Core.Path.{◌∙◌, ap}
 use Rattle.answer_structs.specs.Structs.{list_struct}
 use Rattle.cabinet.proofs.StructLaws.{lists_told}

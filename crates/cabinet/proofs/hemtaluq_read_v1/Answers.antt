@@ -1,4 +1,3 @@
-use Rattle.std.proofs.Common.{rules}
 use mathlib.Core.Path.{◌∙◌, ap}
 use Rattle.answer_structs.specs.Structs.{read_struct}
 use Rattle.cabinet.proofs.hemtaluq_read_v1.Goals as goal

@@ -1,4 +1,3 @@
-use Rattle.std.proofs.Common.{rules}
 use mathlib.Core.Path.{◌∙◌, ap}
 use Rattle.writing.specs.Answers as WritingAnswers
 use Rattle.answer_structs.specs.Structs.{write_struct}

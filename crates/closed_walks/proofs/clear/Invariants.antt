@@ -1,9 +1,5 @@
-use Rattle.std.proofs.Common.{rules}
-use mathlib.Core.Path.{◌≡◌, subst}
-use Prim.Native.Nat.{ℕ, ◌-◌, ◌≤◌}
-use native.Mathlib.Omega.{arith}
+use Prim.Native.Nat.{◌-◌, ◌≤◌}
 use Rattle.closed_walks.specs.Inner.Rounds.{Cleared}
-use Rattle.closed_walks.proofs.RoundLaws.{cleared_none, cleared_next}
 use Rattle.closed_walks.proofs.clear.Given as goal
 
 -- `clear` meets its contract: after s turns the first s numbers of the table are 0.

@@ -1,25 +1,10 @@
 use Rattle.std.proofs.Common.{rules}
-use mathlib.Core.Path.{◌≡◌, refl, sym, ◌∙◌}
-use Prim.Native.Nat.{◌+◌, ◌-◌, ◌≤◌, ◌<◌}
+use mathlib.Core.Path.{refl, sym, ◌∙◌}
+use Prim.Native.Nat.{◌+◌, ◌-◌, ◌<◌}
 use native.Mathlib.Omega.{arith}
-use lib.ListN.{length}
-use Rattle.deciding.specs.Rounds.{edge_graph}
 use Rattle.closed_walks.proofs.RoundLaws.{halves_in}
 use Rattle.closed_walks.proofs.WalkLaws.{edges_searchable}
-use Rattle.closed_walks.proofs.StartLaws.{
-  Searched,
-  searched_first,
-  searched_low,
-  searched_next,
-  searched_worth,
-  closed_zero_or_more,
-  closed_below_zero,
-  NoneUpTo,
-  none_at_first,
-  closes_now,
-  not_yet,
-  never,
-}
+use Rattle.closed_walks.proofs.StartLaws.{searched_first, searched_low, searched_next, searched_worth, closed_zero_or_more, closed_below_zero, none_at_first, closes_now, not_yet, never}
 use Rattle.closed_walks.proofs.least_from.Goals as goal
 use Rattle.closed_walks.proofs.least_from.Goals.{After-slice_known-in-loop-k-1}
 

@@ -1,15 +1,6 @@
-use Rattle.std.proofs.Common.{rules}
-use mathlib.Core.Path.{◌≡◌, sym, ◌∙◌, subst}
-use mathlib.Core.Logic.{⊎_elim}
-use Prim.Native.Nat.{ℕ, ◌+◌, ◌-◌, ◌*◌, ◌≤◌, ◌<◌}
-use native.Mathlib.Omega.{arith}
-use lib.ListN.{length}
-use mir.Syntax.{w64}
-use mir.Facts.{to_z-of_z}
-use Rattle.edge_lists.specs.EdgeLists.{edge_in}
+use Prim.Native.Nat.{◌-◌, ◌≤◌}
 use Rattle.deciding.specs.Rounds.{edge_graph}
 use Rattle.closed_walks.specs.Inner.Rounds.{Round}
-use Rattle.closed_walks.proofs.RoundLaws.{halves_in, round_starts, round_low, edge_keeps, edge_raises}
 use Rattle.closed_walks.proofs.round.Given as goal
 
 -- `round` meets its contract: after i turns the first i edges were gone along.

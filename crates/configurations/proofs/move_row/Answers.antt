@@ -1,4 +1,3 @@
-use Rattle.std.proofs.Common.{rules}
 use native.Mathlib.Omega.{arith}
 use Rattle.configurations.proofs.RowLaws.{row_moves}
 use Rattle.configurations.proofs.move_row.Goals as goal

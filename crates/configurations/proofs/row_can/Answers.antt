@@ -1,4 +1,3 @@
-use Rattle.std.proofs.Common.{rules}
 use mathlib.Core.Bool.{true}
 use native.Mathlib.Omega.{arith}
 use Rattle.configurations.proofs.RowLaws.{no_machine, other_state, right_state, none_taken, one_taken}

@@ -1,14 +1,9 @@
-use Rattle.std.proofs.Common.{rules}
-use mathlib.Core.Path.{◌≡◌, sym, ap, ◌∙◌}
-use Prim.Native.Nat.{ℕ, ◌*◌, ◌-◌, ◌≤◌}
-use native.Mathlib.Nat.{mul-le-mul}
-use native.Mathlib.Omega.{arith}
+use mathlib.Core.Path.{◌≡◌}
+use Prim.Native.Nat.{◌*◌, ◌-◌, ◌≤◌}
 use lib.ListN.{length}
 use Rattle.livelock.specs.Lists.{below, sum}
 use Rattle.livelock.specs.Weights.{weight}
-use Rattle.livelock.proofs.SumLaws.{sum_none, sum_turn}
 use Rattle.contents.specs.Contents.{content}
-use Rattle.contents.proofs.AmountLaws.{contents_limit}
 use Rattle.contents.proofs.contents_weight.Given as goal
 
 -- `contents_weight` meets its contract: after t turns it has the sum over the first t types, which is small.

@@ -1,11 +1,7 @@
 use Rattle.std.proofs.Common.{rules}
-use mathlib.Core.Path.{◌≡◌}
 use mathlib.Core.List.{[], ◌∷◌}
-use Prim.Native.Nat.{◌+◌, ◌-◌, ◌≤◌}
+use Prim.Native.Nat.{◌-◌}
 use native.Mathlib.Omega.{arith}
-use lib.ListN.{length, drop}
-use Rattle.weight_checks.specs.Checks.{first_above}
-use Rattle.contents.specs.Contents.{amounts}
 use Rattle.contents.proofs.AmountLaws.{content_stops, content_goes_on, g_stops, d_stops, none_stops}
 use Rattle.contents.proofs.first_above.Goals as goal
 

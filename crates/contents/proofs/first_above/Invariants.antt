@@ -1,12 +1,9 @@
-use Rattle.std.proofs.Common.{rules}
 use mathlib.Core.Path.{◌≡◌}
 use mathlib.Core.List.{[], ◌∷◌}
 use Prim.Native.Nat.{◌+◌, ◌-◌, ◌≤◌}
-use native.Mathlib.Omega.{arith}
 use lib.ListN.{length, drop}
 use Rattle.weight_checks.specs.Checks.{first_above}
 use Rattle.contents.specs.Contents.{amounts}
-use Rattle.contents.proofs.AmountLaws.{content_stops, content_goes_on, g_stops, d_stops, none_stops}
 use Rattle.contents.proofs.first_above.Given as goal
 
 -- `first_above` meets its contract: the contents so far are not above 1,000,000, so the first one above is the first of those left, behind which g and d stand.

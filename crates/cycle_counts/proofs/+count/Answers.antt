@@ -1,16 +1,14 @@
-use Rattle.std.proofs.Common.{rules}
 use mathlib.Core.Path.{◌≡◌, ap}
-use mathlib.Core.Logic.{⊎_elim}
 use Prim.Native.Nat.{ℕ, suc, ◌-◌, ◌<◌, ◌≤◌}
 use native.Mathlib.Omega.{arith}
 use lib.ListN.{get_or, set}
-use Rattle.graphs.specs.Graphs.{entered_of, next_of, head_of, into_of, between_of, last_of}
+use Rattle.graphs.specs.Graphs.{entered_of, last_of}
 use Rattle.cycle_paths.specs.Cycles.{unleft}
 use Rattle.state_marks.specs.Marks.{column, marks_of}
 use Rattle.state_marks.proofs.MarkLaws.{marks_length}
 use Rattle.cycle_paths.proofs.MarkLaws.{unleft_falls}
 use Rattle.cycle_paths.proofs.ExtensionLaws.{enter_unleft, closed_unleft}
-use Rattle.cycle_counts.proofs.CountingLaws.{Counting, counting_begins, counting_named, counting_stops, counting_ends, counting_skip, counting_close, counting_enter, onward_counted, onward_closing}
+use Rattle.cycle_counts.proofs.CountingLaws.{counting_begins, counting_named, counting_stops, counting_ends, counting_skip, counting_close, counting_enter, onward_counted, onward_closing}
 use Rattle.cycle_counts.proofs.BetweenLaws.{between_few, all_marked}
 use Rattle.cycle_paths.specs.declared.Step.TheVariants as Steps
 use Rattle.cycle_counts.proofs.+count.Goals as goal

@@ -1,5 +1,4 @@
-use Rattle.std.proofs.Common.{rules}
-use Prim.Native.Nat.{ℕ, ◌+◌, ◌-◌, ◌≤◌, ◌<◌}
+use Prim.Native.Nat.{ℕ, ◌+◌, ◌-◌, ◌<◌}
 use native.Mathlib.Omega.{arith}
 use mathlib.Core.List.{List, []}
 use mathlib.Core.Path.{◌≡◌, refl, sym, subst}
@@ -11,10 +10,10 @@ use Rattle.cycle_paths.specs.Rows.{Searchable}
 use Rattle.state_marks.specs.Marks.{column, marks_of}
 use Rattle.cycle_paths.specs.Extensions.{extensions}
 use Rattle.state_marks.proofs.MarkLaws.{marks_length}
-use Rattle.cycle_paths.proofs.ExtensionLaws.{searchable_last, closed_first, unleft_few, entries_from, entries_closed, entries_end}
+use Rattle.cycle_paths.proofs.ExtensionLaws.{searchable_last, closed_first, unleft_few, entries_closed, entries_end}
 use Rattle.cycle_counts.specs.Pairs.{Between}
 use Rattle.cycle_counts.specs.Inner.Counting.{Tables}
-use Rattle.cycle_counts.proofs.CountingLaws.{Taking, taking_begins, taking_part, taking_ends}
+use Rattle.cycle_counts.proofs.CountingLaws.{taking_begins, taking_part, taking_ends}
 use Rattle.cycle_counts.proofs.count_rows.Goals as goal
 use Rattle.cycle_counts.proofs.count_rows.Goals.{After-left_of-start, After-loop-row, In-loop-row}
 

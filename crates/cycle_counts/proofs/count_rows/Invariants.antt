@@ -1,20 +1,7 @@
-use Rattle.std.proofs.Common.{rules}
-use Prim.Native.Nat.{ℕ, ◌+◌, ◌-◌, ◌≤◌, ◌<◌}
-use native.Mathlib.Omega.{arith}
-use mathlib.Core.List.{List, []}
-use mathlib.Core.Path.{◌≡◌, refl, sym, subst}
-use lib.ListN.{length}
-use Rattle.graphs.specs.Graphs.{left_of, entered_of, next_of, head_of, into_of, between_of, last_of}
-use Rattle.cycle_paths.specs.Cycles.{cycles_through}
-use Rattle.cycle_paths.specs.Entries.{all_entries}
-use Rattle.cycle_paths.specs.Rows.{Searchable}
-use Rattle.state_marks.specs.Marks.{column, marks_of}
-use Rattle.cycle_paths.specs.Extensions.{extensions}
-use Rattle.state_marks.proofs.MarkLaws.{marks_length}
-use Rattle.cycle_paths.proofs.ExtensionLaws.{searchable_last, closed_first, unleft_few, entries_from, entries_closed, entries_end}
-use Rattle.cycle_counts.specs.Pairs.{Between}
-use Rattle.cycle_counts.specs.Inner.Counting.{Tables}
-use Rattle.cycle_counts.proofs.CountingLaws.{Taking, taking_begins, taking_part, taking_ends}
+use Prim.Native.Nat.{◌-◌, ◌≤◌}
+use Rattle.graphs.specs.Graphs.{left_of, entered_of, last_of}
+use Rattle.cycle_paths.proofs.ExtensionLaws.{entries_from}
+use Rattle.cycle_counts.proofs.CountingLaws.{Taking}
 use Rattle.cycle_counts.proofs.count_rows.Given as goal
 
 -- `count_rows` meets its contract: the entries of the cycles that begin with one of the rows from `row` on are left to be taken from the room.

@@ -1,9 +1,7 @@
 use Rattle.std.proofs.Common.{rules}
 use mathlib.Core.Path.{◌≡◌, refl}
-use Prim.Native.Nat.{◌+◌, ◌-◌, ◌≤◌}
 use native.Mathlib.Omega.{arith}
-use lib.ListN.{length, take, length-set}
-use lib.Seq.{sets}
+use lib.ListN.{length, length-set}
 use Rattle.livelock.proofs.StoreLaws.{sets_next}
 use Rattle.cycle_entries.proofs.EntryLaws.{sets_entry}
 use Rattle.cycle_entries.proofs.write_cycle.Goals as goal

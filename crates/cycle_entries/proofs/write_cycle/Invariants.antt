@@ -1,11 +1,7 @@
-use Rattle.std.proofs.Common.{rules}
-use mathlib.Core.Path.{◌≡◌, refl}
+use mathlib.Core.Path.{◌≡◌}
 use Prim.Native.Nat.{◌+◌, ◌-◌, ◌≤◌}
-use native.Mathlib.Omega.{arith}
-use lib.ListN.{length, take, length-set}
+use lib.ListN.{length, take}
 use lib.Seq.{sets}
-use Rattle.livelock.proofs.StoreLaws.{sets_next}
-use Rattle.cycle_entries.proofs.EntryLaws.{sets_entry}
 use Rattle.cycle_entries.proofs.write_cycle.Given as goal
 
 -- `write_cycle` meets its contract: the row count, so many rows of the path as the loop has passed, and at the end the last row are stored.

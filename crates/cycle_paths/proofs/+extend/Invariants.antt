@@ -1,17 +1,10 @@
-use Rattle.std.proofs.Common.{rules}
-use mathlib.Core.Path.{◌≡◌, refl, sym, ap, subst}
-use mathlib.Core.Logic.{⊎_elim}
-use Prim.Native.Nat.{ℕ, suc, ◌-◌, ◌<◌, ◌≤◌}
-use native.Mathlib.Omega.{arith}
-use lib.ListN.{length, get_or, set, take, length-set}
+use Prim.Native.Nat.{◌-◌, ◌≤◌}
+use lib.ListN.{length, take}
 use Rattle.graphs.specs.Graphs.{entered_of, next_of, head_of, into_of, last_of}
 use Rattle.cycle_paths.specs.Cycles.{unleft}
-use Rattle.state_marks.specs.Marks.{column, marks_of}
+use Rattle.state_marks.specs.Marks.{marks_of}
 use Rattle.cycle_paths.specs.Inner.Extending.{PathKept}
-use Rattle.state_marks.proofs.MarkLaws.{marks_length}
-use Rattle.cycle_paths.proofs.MarkLaws.{unleft_falls}
-use Rattle.cycle_paths.proofs.FillingLaws.{added_in}
-use Rattle.cycle_paths.proofs.ExtensionLaws.{enter_unleft, Extending, extending_begins, extending_named, extending_stops, extending_ends, extending_skip, extending_close, extending_enter, closed_unleft, path_kept}
+use Rattle.cycle_paths.proofs.ExtensionLaws.{Extending}
 use Rattle.cycle_paths.proofs.+extend.Given as goal
 
 -- `extend` meets its contract: the entries from row k on are left to be added, and each turn adds those of one row. The measure of the

@@ -1,6 +1,5 @@
-use Rattle.std.proofs.Common.{rules}
-use mathlib.Core.Path.{◌≡◌, refl, subst}
-use Prim.Native.Nat.{ℕ, ◌-◌, ◌≤◌, ◌<◌}
+use mathlib.Core.Path.{refl, subst}
+use Prim.Native.Nat.{ℕ, ◌-◌, ◌<◌}
 use native.Mathlib.Omega.{arith}
 use lib.ListN.{length}
 use Rattle.graphs.specs.Graphs.{left_of, entered_of, into_of, last_of}
@@ -9,8 +8,8 @@ use Rattle.cycle_entries.specs.Entries.{Added}
 use Rattle.cycle_paths.specs.Entries.{all_entries}
 use Rattle.state_marks.specs.Marks.{column, marks_of}
 use Rattle.state_marks.proofs.MarkLaws.{marks_length}
-use Rattle.cycle_paths.proofs.FillingLaws.{Adding, adding_begins, added_in, adding_part, adding_ends}
-use Rattle.cycle_paths.proofs.ExtensionLaws.{closed_first, searchable_last, unleft_few, entries_from, entries_closed, entries_end}
+use Rattle.cycle_paths.proofs.FillingLaws.{adding_begins, added_in, adding_part, adding_ends}
+use Rattle.cycle_paths.proofs.ExtensionLaws.{closed_first, searchable_last, unleft_few, entries_closed, entries_end}
 use Rattle.cycle_paths.proofs.list_rows.Goals as goal
 use Rattle.cycle_paths.proofs.list_rows.Goals.{After-left_of-start, In-loop-row}
 

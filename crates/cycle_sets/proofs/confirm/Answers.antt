@@ -1,4 +1,3 @@
-use Rattle.std.proofs.Common.{rules}
 use Rattle.cycle_sets.proofs.ConfirmingLaws.{answered}
 use Rattle.cycle_sets.proofs.confirm.Goals as goal
 

@@ -5,7 +5,6 @@ use Rattle.plant.specs.Steps.{end_found}
 use Rattle.plant.proofs.Told.{told}
 use Rattle.plant.proofs.FileBounds.{within_limits}
 use Rattle.cycle_sets.proofs.ConfirmingLaws.{file_refused, set_refused, sums_answer}
-use Rattle.std.proofs.Common.{rules}
 use Rattle.cycle_sets.proofs.confirm_in.Goals as goal
 
 pub overflow_cast-types : goal.overflow_cast-types

@@ -8,8 +8,7 @@ use Rattle.set_numbers.specs.Numbers.{entry_begins, value_found}
 use Rattle.set_entries.specs.Sets.{entry_at}
 use Rattle.set_entries.specs.Entries.{entry_in}
 use Rattle.cycle_sets.proofs.TableLaws.{table_of, machines_are}
-use Rattle.cycle_sets.proofs.SetLaws.{Going, begun, no_entry, more, entry_stops, read, rows_there, turn, finished}
-use Rattle.std.proofs.Common.{rules}
+use Rattle.cycle_sets.proofs.SetLaws.{begun, no_entry, more, entry_stops, read, rows_there, turn, finished}
 use Rattle.cycle_sets.proofs.judge_set.Goals as goal
 use Rattle.cycle_sets.proofs.judge_set.Goals.{After-judge_entry-entry, In-At, In-At-entry}
 

@@ -1,15 +1,5 @@
-use mathlib.Core.Path.{◌≡◌, sym}
 use Prim.Native.Nat.{◌-◌}
-use native.Mathlib.Omega.{arith}
-use Rattle.plant.specs.Found.{found}
-use Rattle.decoding.specs.Tables.{plant_of}
-use Rattle.plant.proofs.Told.{told}
-use Rattle.set_numbers.specs.Numbers.{entry_begins, value_found}
-use Rattle.set_entries.specs.Sets.{entry_at}
-use Rattle.set_entries.specs.Entries.{entry_in}
-use Rattle.cycle_sets.proofs.TableLaws.{table_of, machines_are}
-use Rattle.cycle_sets.proofs.SetLaws.{Going, begun, no_entry, more, entry_stops, read, rows_there, turn, finished}
-use Rattle.std.proofs.Common.{rules}
+use Rattle.cycle_sets.proofs.SetLaws.{Going}
 use Rattle.cycle_sets.proofs.judge_set.Given as goal
 
 -- `judge_set` meets its contract: what is left of the entries gives what the whole gives, and the sums are those of the entries so far.

@@ -1,14 +1,8 @@
 use mathlib.Core.Path.{◌≡◌}
 use Prim.Native.Nat.{◌-◌, ◌≤◌}
-use native.Mathlib.Nat.{sub-zero}
-use native.Mathlib.Omega.{arith}
 use lib.ListN.{get_or}
 use lib.IntN.{pos}
-use mir.Syntax.{w64}
-use mir.Facts.{to_z-of_z}
 use Rattle.cycle_sets.specs.Confirming.{lowest_negative}
-use Rattle.cycle_sets.proofs.LowestLaws.{type_stops, type_goes_on, types_end}
-use Rattle.std.proofs.Common.{rules}
 use Rattle.cycle_sets.proofs.lowest_negative.Given as goal
 
 -- `lowest_negative` meets its contract: what is left to look at gives what the whole gives.

@@ -1,4 +1,3 @@
-use Rattle.std.proofs.Common.{rules}
 use native.Mathlib.Omega.{arith}
 use Rattle.deciding.proofs.DecisionLaws.{zeros}
 use Rattle.deciding.proofs.decide.Goals as goal

@@ -1,11 +1,10 @@
-use mathlib.Core.Path.{◌≡◌, refl, ◌∙◌}
-use Prim.Native.Nat.{◌-◌, ◌≤◌}
+use mathlib.Core.Path.{refl, ◌∙◌}
 use native.Mathlib.Omega.{arith}
-use lib.ListN.{length, get_or}
+use lib.ListN.{get_or}
 use Rattle.livelock.specs.Graphs.{lengthened}
 use Rattle.deciding.specs.Rounds.{edge_graph}
 use Rattle.deciding.proofs.DecisionLaws.{edges_within}
-use Rattle.deciding.proofs.DecisionLaws.{Heights, heights_first, heights_low, heights_next, heights_settled, heights_positive, all_below, some_cycle}
+use Rattle.deciding.proofs.DecisionLaws.{heights_first, heights_low, heights_next, heights_settled, heights_positive, all_below, some_cycle}
 use Rattle.std.proofs.Common.{rules}
 use Rattle.deciding.proofs.decide_from.Goals as goal
 

@@ -1,12 +1,9 @@
-use mathlib.Core.Path.{◌≡◌, refl, ◌∙◌}
+use mathlib.Core.Path.{◌≡◌}
 use Prim.Native.Nat.{◌-◌, ◌≤◌}
-use native.Mathlib.Omega.{arith}
-use lib.ListN.{length, get_or}
+use lib.ListN.{length}
 use Rattle.livelock.specs.Graphs.{lengthened}
 use Rattle.deciding.specs.Rounds.{edge_graph}
-use Rattle.deciding.proofs.DecisionLaws.{edges_within}
-use Rattle.deciding.proofs.DecisionLaws.{Heights, heights_first, heights_low, heights_next, heights_settled, heights_positive, all_below, some_cycle}
-use Rattle.std.proofs.Common.{rules}
+use Rattle.deciding.proofs.DecisionLaws.{Heights}
 use Rattle.deciding.proofs.decide_from.Given as goal
 
 -- `decide_from` meets its contract: after k passes the heights are lengths of walks, and at least the greatest lengths with at most k edges.

@@ -9,7 +9,6 @@ use mir.Facts.{to_z_pos, to_z-of_z}
 use Rattle.livelock.proofs.Differences.{difference_times}
 use Rattle.deciding.specs.Signs.{rise, fall}
 use Rattle.deciding.proofs.SignLaws.{rise_fall, difference_fits, difference_length}
-use Rattle.std.proofs.Common.{rules}
 use Rattle.deciding.proofs.row_length.Goals as goal
 
 -- `row_length` meets its contract: no product or sum overflows.

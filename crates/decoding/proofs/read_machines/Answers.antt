@@ -1,14 +1,11 @@
-use Rattle.std.proofs.Common.{rules}
-use Prim.Native.Nat.{ℕ, ◌+◌, ◌-◌, ◌≤◌, ◌<◌, zero-le}
+use Prim.Native.Nat.{ℕ, ◌+◌, ◌-◌, ◌<◌, zero-le}
 use mathlib.Core.Path.{◌≡◌, refl, sym, ap, ◌∙◌, subst}
-use mathlib.Core.List.{List}
 use native.Mathlib.Nat.{sub-zero}
 use native.Mathlib.Omega.{arith}
 use lib.ListN.{length, take, length-set}
 use lib.Seq.{length-take-le}
 use Rattle.livelock.specs.Lists.{below}
 use Rattle.plant.specs.Found.{found}
-use Rattle.plant.specs.Reading.{no_machines, read_machines}
 use Rattle.plant.proofs.MachineLaws.{machine_stops, machine_goes_on, machines_done}
 use Rattle.tables.specs.Tables.{plant_in}
 use Rattle.tables.proofs.RowLaws.{rows_in}

@@ -1,22 +1,10 @@
-use Rattle.std.proofs.Common.{rules}
-use Prim.Native.Nat.{ℕ, ◌+◌, ◌-◌, ◌≤◌, ◌<◌, zero-le}
-use mathlib.Core.Path.{◌≡◌, refl, sym, ap, ◌∙◌, subst}
+use Prim.Native.Nat.{ℕ, ◌+◌, ◌-◌, ◌≤◌}
+use mathlib.Core.Path.{◌≡◌}
 use mathlib.Core.List.{List}
-use native.Mathlib.Nat.{sub-zero}
-use native.Mathlib.Omega.{arith}
-use lib.ListN.{length, take, length-set}
-use lib.Seq.{length-take-le}
-use Rattle.livelock.specs.Lists.{below}
-use Rattle.plant.specs.Found.{found}
+use lib.ListN.{length, take}
 use Rattle.plant.specs.Reading.{no_machines, read_machines}
-use Rattle.plant.proofs.MachineLaws.{machine_stops, machine_goes_on, machines_done}
 use Rattle.tables.specs.Tables.{plant_in}
-use Rattle.tables.proofs.RowLaws.{rows_in}
 use Rattle.decoding.specs.Inner.Steps.{FirstRows}
-use Rattle.plant.proofs.Gives.{given_found}
-use Rattle.decoding.proofs.RoomLaws.{machine_takes}
-use Rattle.decoding.proofs.FirstRowLaws.{first_none, first_stored}
-use Rattle.decoding.proofs.ReadLaws.{machine_fault, machine_found}
 use Rattle.decoding.proofs.read_machines.Given as goal
 
 -- `read_machines` meets its contract: what is left to read after i machines gives what the whole gives, and their first rows are stored.

@@ -1,21 +1,16 @@
 use Rattle.std.proofs.Common.{rules}
-use Prim.Native.Nat.{ℕ, ◌+◌, ◌-◌, ◌≤◌}
+use Prim.Native.Nat.{ℕ, ◌+◌, ◌-◌}
 use mathlib.Core.Path.{◌≡◌, refl, sym, ap, ◌∙◌}
-use mathlib.Core.List.{List, map}
 use native.Mathlib.Nat.{sub-zero, add-zero}
 use native.Mathlib.Omega.{arith}
-use lib.ListN.{length}
-use Rattle.livelock.specs.Lists.{below}
 use Rattle.plant.specs.Found.{found}
-use Rattle.plant.specs.Reading.{read_rows}
 use Rattle.plant_rows.specs.Rows.{row_found}
 use Rattle.plant.proofs.Told.{told}
 use Rattle.plant.proofs.RowLaws.{row_stops, row_is_twin, row_goes_on, rows_done}
 use Rattle.plant.proofs.Gives.{given_found}
 use Rattle.plant.proofs.Takes.{row_takes}
-use Rattle.twins.specs.Keys.{RowsKept}
 use Rattle.twins.proofs.KeyLaws.{none_kept}
-use Rattle.tables.specs.Tables.{row_in, plant_in}
+use Rattle.tables.specs.Tables.{plant_in}
 use Rattle.tables.proofs.RowLaws.{with_row_lem}
 use Rattle.decoding.proofs.ReadLaws.{none_before, kept_stored}
 use Rattle.decoding.proofs.read_rows_in.Goals as goal

@@ -1,4 +1,3 @@
-use Rattle.std.proofs.Common.{rules}
 use mir.Syntax.{w16}
 use mir.Facts.{to_z-of_z}
 use Rattle.edge_lists.specs.EdgeLists.{edge_in}

@@ -1,12 +1,10 @@
-use mathlib.Core.Path.{◌≡◌, refl, ◌∙◌}
-use Prim.Native.Nat.{◌-◌, ◌≤◌}
+use mathlib.Core.Path.{refl, ◌∙◌}
+use Prim.Native.Nat.{◌-◌}
 use native.Mathlib.Nat.{le_refl}
 use native.Mathlib.Omega.{arith}
-use lib.ListN.{length}
 use mir.Syntax.{w64}
 use mir.Facts.{to_z-of_z}
 use Rattle.tables.specs.Tables.{row_of}
-use Rattle.edges.specs.Edges.{Listed}
 use Rattle.edges.proofs.ListedLaws.{none_listed, one_at_most, row_listed, all_listed, row_light}
 use Rattle.edges.proofs.edges_of.Goals as goal
 

@@ -1,13 +1,7 @@
-use mathlib.Core.Path.{◌≡◌, refl, ◌∙◌}
+use mathlib.Core.Path.{◌≡◌}
 use Prim.Native.Nat.{◌-◌, ◌≤◌}
-use native.Mathlib.Nat.{le_refl}
-use native.Mathlib.Omega.{arith}
 use lib.ListN.{length}
-use mir.Syntax.{w64}
-use mir.Facts.{to_z-of_z}
-use Rattle.tables.specs.Tables.{row_of}
 use Rattle.edges.specs.Edges.{Listed}
-use Rattle.edges.proofs.ListedLaws.{none_listed, one_at_most, row_listed, all_listed, row_light}
 use Rattle.edges.proofs.edges_of.Given as goal
 
 -- `edges_of` meets its contract: before the turn of row k the edges are the quiet rows from `low` up to, and not including, k.

@@ -1,6 +1,5 @@
 use lib.ListN.{get_or-eq_default}
 use borrow.Author.Tests.{lt-ltb, le-ltb}
-use Rattle.std.proofs.Common.{rules}
 use Rattle.edges.proofs.message_weight.Goals as goal
 
 -- `message_weight` meets its contract: 64 or more is no message, and a type past the weights weighs 0.

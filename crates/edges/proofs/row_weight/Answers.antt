@@ -2,7 +2,6 @@ use native.Mathlib.Omega.{arith}
 use mir.Syntax.{w64}
 use mir.Facts.{to_z_pos, to_z-of_z}
 use Rattle.deciding.proofs.SignLaws.{minus_fits}
-use Rattle.std.proofs.Common.{rules}
 use Rattle.edges.proofs.row_weight.Goals as goal
 
 pub overflow_sub-result : goal.overflow_sub-result

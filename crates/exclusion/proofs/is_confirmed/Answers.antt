@@ -1,4 +1,3 @@
-use Rattle.std.proofs.Common.{rules}
 use Rattle.exclusion.proofs.Theorem.{confirmed_told, negative_told, set_refused}
 use Rattle.exclusion.proofs.is_confirmed.Goals as goal
 

@@ -1,4 +1,3 @@
-use Rattle.std.proofs.Common.{rules}
 use Rattle.exclusion.proofs.Theorem.{figures_told, cycle_told, weighing_refused}
 use Rattle.exclusion.proofs.is_passed.Goals as goal
 

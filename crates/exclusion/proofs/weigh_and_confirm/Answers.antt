@@ -1,6 +1,5 @@
 use mathlib.Core.Path.{refl}
 use lib.ListN.{replicate}
-use Rattle.std.proofs.Common.{rules}
 use Rattle.exclusion.proofs.Theorem.{sees}
 use Rattle.exclusion.proofs.weigh_and_confirm.Goals as goal
 

@@ -1,10 +1,7 @@
-use Rattle.std.proofs.Common.{rules}
-use mathlib.Core.Path.{◌≡◌, sym, ap, ◌∙◌}
-use Prim.Native.Nat.{ℕ, ◌-◌, ◌≤◌, zero-le}
-use native.Mathlib.Omega.{arith}
+use mathlib.Core.Path.{◌≡◌}
+use Prim.Native.Nat.{◌-◌, ◌≤◌}
 use lib.ListN.{length, get_or}
 use Rattle.livelock.specs.Lists.{below, greatest}
-use Rattle.livelock.proofs.SumLaws.{greatest_none, greatest_turn}
 use Rattle.figures.proofs.most_states.Given as goal
 
 -- `most_states` meets its contract: after m turns it has the most states of the first m machines.

@@ -1,10 +1,7 @@
-use Rattle.std.proofs.Common.{rules}
-use mathlib.Core.Path.{◌≡◌, sym, ap, ◌∙◌}
-use Prim.Native.Nat.{ℕ, ◌-◌, ◌*◌, ◌≤◌, zero-le}
-use native.Mathlib.Omega.{arith}
+use mathlib.Core.Path.{◌≡◌}
+use Prim.Native.Nat.{◌-◌, ◌*◌, ◌≤◌}
 use lib.ListN.{length, get_or}
 use Rattle.livelock.specs.Lists.{below, sum}
-use Rattle.livelock.proofs.SumLaws.{sum_none, sum_turn}
 use Rattle.figures.proofs.states_less_one.Given as goal
 
 -- `states_less_one` meets its contract: after m turns the total is that of the first m machines.

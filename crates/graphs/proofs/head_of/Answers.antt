@@ -1,4 +1,3 @@
-use Rattle.std.proofs.Common.{rules}
 use mathlib.Core.Path.{sym, ◌∙◌}
 use Rattle.graphs.proofs.PartLaws.{head_stands}
 use Rattle.graphs.proofs.head_of.Goals as goal

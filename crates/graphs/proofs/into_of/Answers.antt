@@ -1,9 +1,5 @@
-use Rattle.std.proofs.Common.{rules}
 use mathlib.Core.Path.{sym, ◌∙◌}
 use Rattle.graphs.proofs.PartLaws.{into_stands}
-use Rattle.graphs.proofs.into_of.Reads as reads
-use Rattle.graphs.proofs.into_of.Lts as lts
-use Rattle.graphs.proofs.joined.Reads as joined-reads
 use Rattle.graphs.proofs.into_of.Goals as goal
 
 pub returns : goal.returns

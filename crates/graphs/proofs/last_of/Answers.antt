@@ -1,4 +1,3 @@
-use Rattle.std.proofs.Common.{rules}
 use Rattle.graphs.specs.Graphs.{last_of}
 use Rattle.graphs.proofs.last_of.Goals as goal
 

@@ -1,4 +1,3 @@
-use Rattle.std.proofs.Common.{rules}
 use mathlib.Core.Path.{sym, ◌∙◌}
 use Rattle.graphs.proofs.PartLaws.{next_stands}
 use Rattle.graphs.proofs.next_of.Goals as goal

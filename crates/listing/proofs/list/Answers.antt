@@ -1,4 +1,3 @@
-use Rattle.std.proofs.Common.{rules}
 use Rattle.listing.proofs.AnswerLaws.{owed}
 use Rattle.listing.proofs.list.Goals as goal
 

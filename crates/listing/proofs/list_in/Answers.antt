@@ -1,4 +1,3 @@
-use Rattle.std.proofs.Common.{rules}
 use mathlib.Core.Path.{refl}
 use Rattle.decoding.specs.Tables.{plant_of}
 use Rattle.plant.specs.Steps.{end_found}

@@ -1,4 +1,3 @@
-use Rattle.std.proofs.Common.{rules}
 use mathlib.Core.Path.{refl, ap, ◌∙◌}
 use Prim.Native.Nat.{ℕ, ◌+◌, ◌*◌}
 use native.Mathlib.Omega.{arith}
@@ -6,10 +5,6 @@ use lib.ListN.{set}
 use Rattle.graphs.proofs.PartLaws.{between_stands}
 use Rattle.state_marks.specs.Marks.{marks_of}
 use Rattle.machine_graphs.proofs.RowLaws.{row_added}
-use Rattle.machine_graphs.proofs.add_row.Reads as reads
-use Rattle.machine_graphs.proofs.add_row.Lts as lts
-use Rattle.graphs.proofs.into_of.Reads as into-of-reads
-use Rattle.state_marks.proofs.with_left.Reads as with-left-reads
 use Rattle.machine_graphs.proofs.add_row.Goals as goal
 
 pub overflow_add-graph-6 : goal.overflow_add-graph-6

@@ -1,6 +1,5 @@
-use Rattle.std.proofs.Common.{rules}
 use mathlib.Core.Path.{◌≡◌, subst}
-use Prim.Native.Nat.{ℕ, ◌+◌, ◌-◌, ◌<◌, ◌≤◌}
+use Prim.Native.Nat.{ℕ, ◌+◌, ◌-◌, ◌<◌}
 use native.Mathlib.Omega.{arith}
 use Rattle.machine_graphs.proofs.GraphLaws.{Begun, begun_none, begun_few, begun_row, begun_ends}
 use Rattle.machine_graphs.proofs.add_rows.Goals as goal

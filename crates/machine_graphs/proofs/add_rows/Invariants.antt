@@ -1,8 +1,5 @@
-use Rattle.std.proofs.Common.{rules}
-use mathlib.Core.Path.{◌≡◌, subst}
-use Prim.Native.Nat.{ℕ, ◌+◌, ◌-◌, ◌<◌, ◌≤◌}
-use native.Mathlib.Omega.{arith}
-use Rattle.machine_graphs.proofs.GraphLaws.{Begun, begun_none, begun_few, begun_row, begun_ends}
+use Prim.Native.Nat.{◌-◌, ◌≤◌}
+use Rattle.machine_graphs.proofs.GraphLaws.{Begun}
 use Rattle.machine_graphs.proofs.add_rows.Given as goal
 
 -- `add_rows` meets its contract: after each turn the graph has the rows from k on.

@@ -1,11 +1,6 @@
-use Rattle.std.proofs.Common.{rules}
-use mathlib.Core.Path.{◌≡◌, refl, ◌∙◌}
+use mathlib.Core.Path.{◌≡◌}
 use Prim.Native.Nat.{ℕ, ◌+◌, ◌-◌, ◌≤◌, ◌<◌}
-use native.Mathlib.Omega.{arith}
-use lib.ListN.{length, length-set, get_or}
-use lib.Seq.{get_or-set_other}
-use Rattle.livelock.proofs.ListLaws.{get_d_replicate_default}
-use Rattle.machine_graphs.proofs.RowLaws.{no_rows, ends_more}
+use lib.ListN.{length, get_or}
 use Rattle.machine_graphs.proofs.without_rows.Given as goal
 
 abbrev pub invariant-loop-state : goal.invariant-loop-state

@@ -1,11 +1,7 @@
 use Rattle.std.proofs.Common.{rules}
-use mathlib.Core.Path.{◌≡◌, refl, ◌∙◌}
-use Prim.Native.Nat.{ℕ, ◌-◌, ◌≤◌, ◌<◌}
+use mathlib.Core.Path.{refl, ◌∙◌}
+use Prim.Native.Nat.{◌-◌}
 use native.Mathlib.Omega.{arith}
-use lib.ListN.{length}
-use borrow.Author.Tests.{not-true, not-false}
-use Rattle.decoding.specs.Tables.{plant_of}
-use Rattle.machines.specs.Machines.{MachinePasses}
 use Rattle.machines.proofs.TurnLaws.{when_true, when_false, below_next, turn_rows, turn_edges, turn_states, turn_passes, turn_fails}
 use Rattle.machines.proofs.first_failing.Goals as goal
 

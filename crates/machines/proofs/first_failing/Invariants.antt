@@ -1,12 +1,8 @@
-use Rattle.std.proofs.Common.{rules}
-use mathlib.Core.Path.{◌≡◌, refl, ◌∙◌}
+use mathlib.Core.Path.{◌≡◌}
 use Prim.Native.Nat.{ℕ, ◌-◌, ◌≤◌, ◌<◌}
-use native.Mathlib.Omega.{arith}
 use lib.ListN.{length}
-use borrow.Author.Tests.{not-true, not-false}
 use Rattle.decoding.specs.Tables.{plant_of}
 use Rattle.machines.specs.Machines.{MachinePasses}
-use Rattle.machines.proofs.TurnLaws.{when_true, when_false, below_next, turn_rows, turn_edges, turn_states, turn_passes, turn_fails}
 use Rattle.machines.proofs.first_failing.Given as goal
 
 -- `first_failing` meets its contract: the machines so far pass; the first for which deciding says no ends the loop.

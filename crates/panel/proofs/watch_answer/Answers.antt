@@ -1,4 +1,3 @@
-use Rattle.std.proofs.Common.{rules}
 use Rattle.panel.proofs.watch_answer.Goals as goal
 
 pub returns-in-Remaining : goal.returns-in-Remaining

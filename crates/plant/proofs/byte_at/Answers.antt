@@ -1,6 +1,5 @@
 use native.Mathlib.Omega.{arith}
 use lib.ListN.{length}
-use Rattle.std.proofs.Common.{rules}
 use borrow.Author.Tests.{le-ltb, lt-ltb}
 use Rattle.plant.specs.Reading.{byte_at}
 use Rattle.plant.proofs.byte_at.Goals as goal

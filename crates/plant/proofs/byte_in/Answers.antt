@@ -1,4 +1,3 @@
-use Rattle.std.proofs.Common.{rules}
 use mathlib.Core.Path.{sym, ◌∙◌}
 use Rattle.plant.specs.Reading.{byte_in}
 use Rattle.plant.specs.Steps.{field_found}

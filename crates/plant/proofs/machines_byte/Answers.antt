@@ -1,4 +1,3 @@
-use Rattle.std.proofs.Common.{rules}
 use Rattle.plant.proofs.machines_byte.Goals as goal
 
 pub returns : goal.returns

@@ -1,4 +1,3 @@
-use Rattle.std.proofs.Common.{rules}
 use Rattle.plant.specs.Reading.{read_row}
 use Rattle.plant.specs.Steps.{field_found}
 use Rattle.plant.proofs.Told.{told}

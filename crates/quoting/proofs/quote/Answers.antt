@@ -1,4 +1,3 @@
-use Rattle.std.proofs.Common.{rules}
 use native.Mathlib.Omega.{arith}
 use Rattle.weighing.proofs.WeighingLaws.{verdict_told}
 use Rattle.quoting.proofs.OwedLaws.{quote_refused, failing_weights, quote_failing, passing_weights, figures_fit, quote_passing}

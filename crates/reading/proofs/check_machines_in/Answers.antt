@@ -1,10 +1,8 @@
 use Rattle.std.proofs.Common.{rules}
-use Prim.Native.Nat.{ℕ, ◌-◌, ◌≤◌}
-use mathlib.Core.Path.{◌≡◌, refl, ◌∙◌}
-use mathlib.Core.List.{List}
+use Prim.Native.Nat.{◌-◌}
+use mathlib.Core.Path.{refl, ◌∙◌}
 use native.Mathlib.Omega.{arith}
-use lib.ListN.{length}
-use Rattle.reading.proofs.CountLaws.{MachinesLeft, machines_begin, machines_stop, machines_go_on, machines_end}
+use Rattle.reading.proofs.CountLaws.{machines_begin, machines_stop, machines_go_on, machines_end}
 use Rattle.reading.proofs.check_machines_in.Goals as goal
 
 pub loop-i-init : goal.loop-i-init

@@ -1,10 +1,8 @@
-use Rattle.std.proofs.Common.{rules}
 use Prim.Native.Nat.{ℕ, ◌-◌, ◌≤◌}
-use mathlib.Core.Path.{◌≡◌, refl, ◌∙◌}
+use mathlib.Core.Path.{◌≡◌}
 use mathlib.Core.List.{List}
-use native.Mathlib.Omega.{arith}
 use lib.ListN.{length}
-use Rattle.reading.proofs.CountLaws.{MachinesLeft, machines_begin, machines_stop, machines_go_on, machines_end}
+use Rattle.reading.proofs.CountLaws.{MachinesLeft}
 use Rattle.reading.proofs.check_machines_in.Given as goal
 
 -- `check_machines_in` meets its contract: what is left to read after i machines, from a plant with these counts, gives what the whole gives.

@@ -1,16 +1,10 @@
-use Rattle.std.proofs.Common.{rules}
 use Prim.Native.Nat.{ℕ, ◌-◌, ◌≤◌}
-use mathlib.Core.Path.{◌≡◌, refl, ◌∙◌}
+use mathlib.Core.Path.{◌≡◌}
 use mathlib.Core.List.{List, []}
-use native.Mathlib.Omega.{arith}
 use lib.ListN.{length}
 use Rattle.livelock.specs.Plants.{Plant}
 use Rattle.plant.specs.Limits.{rows_in}
-use Rattle.plant_rows.specs.Rows.{row_found}
-use Rattle.plant.proofs.Told.{told}
-use Rattle.plant.proofs.Gives.{given_found}
-use Rattle.plant.proofs.Takes.{row_takes}
-use Rattle.reading.proofs.CountLaws.{RowsLeft, rows_begin, rows_stop, rows_twin, rows_go_on, rows_end}
+use Rattle.reading.proofs.CountLaws.{RowsLeft}
 use Rattle.reading.proofs.check_rows.Given as goal
 
 -- `check_rows` meets its contract: what is left to read after i rows, from a plant with i rows more, gives what the whole gives.

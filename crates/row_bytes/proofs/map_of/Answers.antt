@@ -1,4 +1,3 @@
-use Rattle.std.proofs.Common.{rules}
 use native.Mathlib.Omega.{arith}
 use Rattle.row_bytes.proofs.RowLaws.{kind_bits, progress_bit}
 use Rattle.row_bytes.proofs.map_of.Goals as goal

@@ -1,4 +1,3 @@
-use Rattle.std.proofs.Common.{rules}
 use native.Mathlib.Omega.{arith}
 use Rattle.row_bytes.proofs.StoreLaws.{stored_standing, stored_absent}
 use Rattle.row_bytes.proofs.put.Goals as goal

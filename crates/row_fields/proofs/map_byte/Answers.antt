@@ -1,4 +1,3 @@
-use Rattle.std.proofs.Common.{rules}
 use mathlib.Core.Path.{◌∙◌}
 use Rattle.plant.specs.Reading.{map_byte}
 use Rattle.plant.proofs.ByteLaws.{byte_below}

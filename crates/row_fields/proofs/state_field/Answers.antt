@@ -1,4 +1,3 @@
-use Rattle.std.proofs.Common.{rules}
 use Rattle.plant.specs.Reading.{state_field}
 use Rattle.row_fields.proofs.state_field.Goals as goal
 

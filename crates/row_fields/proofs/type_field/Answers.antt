@@ -1,4 +1,3 @@
-use Rattle.std.proofs.Common.{rules}
 use Rattle.plant.specs.Reading.{type_field}
 use Rattle.row_fields.proofs.TypeLaws.{type_of_byte}
 use Rattle.row_fields.proofs.type_field.Goals as goal

@@ -1,7 +1,5 @@
-use Rattle.std.proofs.Common.{rules}
 use mathlib.Core.Path.{sym, ◌∙◌}
 use Prim.Native.Nat.{◌+◌}
-use borrow.Author.Tests.{not-true, not-false}
 use Rattle.plant_lists.proofs.RowLaws.{passes_inside, wrong_first, wrong_second, wrong_third, wrong_fourth, wrong_fifth, wrong_sixth}
 use Rattle.row_numbers.proofs.first_wrong.Goals as goal
 

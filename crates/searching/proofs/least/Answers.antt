@@ -1,11 +1,7 @@
-use Rattle.std.proofs.Common.{rules}
-use mathlib.Core.Path.{◌≡◌, refl, ◌∙◌}
-use mathlib.Core.Logic.{⊎_elim}
+use mathlib.Core.Path.{refl, ◌∙◌}
 use Prim.Native.Nat.{◌-◌}
 use native.Mathlib.Omega.{arith}
-use lib.ListN as List
-use Rattle.deciding.specs.Rounds.{edge_graph}
-use Rattle.searching.proofs.SearchLaws.{Sought, sought_none, sought_fewer, sought_same, sought_all}
+use Rattle.searching.proofs.SearchLaws.{sought_none, sought_fewer, sought_same, sought_all}
 use Rattle.searching.proofs.least.Goals as goal
 use Rattle.searching.proofs.least.Goals.{then-k-length, else-k-length}
 

@@ -1,12 +1,11 @@
-use Rattle.std.proofs.Common.{rules}
 use mathlib.Core.Path.{◌≡◌, refl, ◌∙◌}
 use Prim.Native.Nat.{◌+◌, ◌-◌, ◌*◌, ◌≤◌, ◌<◌}
 use native.Mathlib.Omega.{arith}
-use Rattle.edge_lists.specs.EdgeLists.{edge_in, HasEdge}
+use Rattle.edge_lists.specs.EdgeLists.{HasEdge}
 use Rattle.deciding.specs.Rounds.{edge_graph}
 use Rattle.closed_walks.specs.ClosedWalks.{FirstEdge}
 use Rattle.closed_walks.proofs.WalkLaws.{edges_searchable}
-use Rattle.searching.proofs.SearchLaws.{none_below, Least, least_found, least_again, Walking, walk_begins, walk_in, walk_leads, walk_goes_on, walk_ends}
+use Rattle.searching.proofs.SearchLaws.{none_below, Least, least_found, least_again, walk_begins, walk_in, walk_leads, walk_goes_on, walk_ends}
 use Rattle.searching.proofs.show_noted.Goals as goal
 use Rattle.searching.proofs.show_noted.Goals.{After-index_u8-e, After-row_of, After-slice_known-4-1, In-loop-i}
 

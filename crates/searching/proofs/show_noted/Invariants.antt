@@ -1,12 +1,7 @@
-use Rattle.std.proofs.Common.{rules}
-use mathlib.Core.Path.{◌≡◌, refl, ◌∙◌}
-use Prim.Native.Nat.{◌+◌, ◌-◌, ◌*◌, ◌≤◌, ◌<◌}
-use native.Mathlib.Omega.{arith}
-use Rattle.edge_lists.specs.EdgeLists.{edge_in, HasEdge}
+use Prim.Native.Nat.{◌-◌}
+use Rattle.edge_lists.specs.EdgeLists.{edge_in}
 use Rattle.deciding.specs.Rounds.{edge_graph}
-use Rattle.closed_walks.specs.ClosedWalks.{FirstEdge}
-use Rattle.closed_walks.proofs.WalkLaws.{edges_searchable}
-use Rattle.searching.proofs.SearchLaws.{none_below, Least, least_found, least_again, Walking, walk_begins, walk_in, walk_leads, walk_goes_on, walk_ends}
+use Rattle.searching.proofs.SearchLaws.{Walking}
 use Rattle.searching.proofs.show_noted.Given as goal
 
 -- `show_noted` meets its contract: without a cycle of so few edges nothing is written; else, after i turns, the rows of a walk of i edges from the start

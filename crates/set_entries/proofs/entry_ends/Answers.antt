@@ -1,5 +1,4 @@
 use Rattle.set_entries.proofs.EntryLaws.{cycle_stops, cycle_good}
-use Rattle.std.proofs.Common.{rules}
 use Rattle.set_entries.proofs.entry_ends.Goals as goal
 
 pub returns-then-is_quiet_cycle : goal.returns-then-is_quiet_cycle

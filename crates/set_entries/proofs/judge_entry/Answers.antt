@@ -7,7 +7,6 @@ use Rattle.plant.proofs.Told.{told}
 use Rattle.set_numbers.specs.Numbers.{rows_at, value_found, part}
 use Rattle.set_numbers.proofs.NumberLaws.{number_read}
 use Rattle.set_entries.proofs.EntryLaws.{ThreeRead, three_read, numbers_stop, rows_stop, some_row, rows_below, entry_ended}
-use Rattle.std.proofs.Common.{rules}
 use Rattle.set_entries.proofs.judge_entry.Goals as goal
 use Rattle.set_entries.proofs.judge_entry.Goals.{In-At, In-At-rows_read}
 

@@ -6,7 +6,6 @@ use Rattle.plant.specs.Found.{found}
 use Rattle.plant.proofs.Told.{told}
 use Rattle.set_numbers.specs.Numbers.{number_in, value_found}
 use Rattle.set_numbers.proofs.NumberLaws.{settled, no_machine, no_repeats, count_next}
-use Rattle.std.proofs.Common.{rules}
 use Rattle.set_numbers.proofs.first_numbers.Goals as goal
 use Rattle.set_numbers.proofs.first_numbers.Goals.{In-At, In-At-repeats_read}
 

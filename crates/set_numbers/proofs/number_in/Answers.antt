@@ -1,5 +1,4 @@
 use Rattle.set_numbers.proofs.NumberLaws.{number_missing, number_below, number_above, number_good}
-use Rattle.std.proofs.Common.{rules}
 use Rattle.set_numbers.proofs.number_in.Goals as goal
 
 -- `number_in` meets its contract: each return is one case of the definition.

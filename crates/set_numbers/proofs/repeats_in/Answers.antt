@@ -1,4 +1,3 @@
-use Rattle.std.proofs.Common.{rules}
 use Rattle.set_numbers.proofs.repeats_in.Goals as goal
 
 pub returns : goal.returns

@@ -1,12 +1,11 @@
 use mathlib.Core.Path.{sym}
-use Prim.Native.Nat.{◌-◌, ◌≤◌, ◌<◌}
+use Prim.Native.Nat.{◌-◌, ◌<◌}
 use native.Mathlib.Nat.{le_refl}
 use native.Mathlib.Omega.{arith}
 use lib.ListN.{get_or}
 use Rattle.plant.proofs.Told.{told}
 use Rattle.set_numbers.specs.Numbers.{value_found}
-use Rattle.set_numbers.proofs.NumberLaws.{number_missing, NumberRead, number_read, RowsSoFar, rows_begin, row_stops, row_goes_on, rows_end}
-use Rattle.std.proofs.Common.{rules}
+use Rattle.set_numbers.proofs.NumberLaws.{number_missing, NumberRead, number_read, rows_begin, row_stops, row_goes_on, rows_end}
 use Rattle.set_numbers.proofs.rows_in.Goals as goal
 use Rattle.set_numbers.proofs.rows_in.Goals.{Else-i-stop, In-At}
 

@@ -1,17 +1,15 @@
-use mathlib.Core.Path.{◌≡◌, refl, ap}
-use Prim.Native.Nat.{◌+◌, ◌-◌, ◌^◌, ◌≤◌, ◌<◌}
+use mathlib.Core.Path.{◌≡◌, ap}
+use Prim.Native.Nat.{◌+◌, ◌-◌, ◌^◌, ◌<◌}
 use native.Mathlib.Nat.{le_refl}
 use native.Mathlib.Omega.{arith}
 use lib.ListN.{length, get_or}
 use lib.IntN.{pos, nat_abs}
 use Rattle.tables.specs.Tables.{RoomFor}
 use Rattle.set_numbers.specs.Numbers.{part}
-use Rattle.set_sums.specs.Sums.{Added}
 use Rattle.set_numbers.proofs.NumberLaws.{part_next, part_empty}
 use Rattle.set_entries.proofs.PartLaws.{part_length}
 use Rattle.set_sums.proofs.SizeLaws.{size_fits, size_neg, times_is, less_fits, less_is}
 use Rattle.set_sums.proofs.AddingLaws.{none_added, sent_small, row_stored}
-use Rattle.std.proofs.Common.{rules}
 use Rattle.set_sums.proofs.add_rows.Goals as goal
 use Rattle.set_sums.proofs.add_rows.Goals.{After-shared_slice_known-in-loop-i-1, In-loop-i}
 

@@ -4,7 +4,6 @@ use lib.ListN.{get_or}
 use lib.IntN.{pos}
 use Rattle.set_sums.proofs.SizeLaws.{sum_fits}
 use Rattle.set_sums.proofs.AddingLaws.{raised_none, raised_stored}
-use Rattle.std.proofs.Common.{rules}
 use Rattle.set_sums.proofs.add_to.Goals as goal
 
 -- `add_to` meets its contract: the sum of the type is changed, or none is.

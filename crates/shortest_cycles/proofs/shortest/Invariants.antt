@@ -1,12 +1,8 @@
-use Rattle.std.proofs.Common.{rules}
-use mathlib.Core.Path.{◌≡◌, refl, ◌∙◌}
+use mathlib.Core.Path.{◌≡◌}
 use Prim.Native.Nat.{◌-◌}
-use native.Mathlib.Omega.{arith}
 use lib.ListN.{length}
 use Rattle.decoding.specs.Tables.{plant_of}
-use Rattle.machines.proofs.TurnLaws.{turn_edges}
 use Rattle.shortest_cycles.specs.Inner.Turns.{ShortestOf}
-use Rattle.shortest_cycles.proofs.ShortestLaws.{first_searched, turn_searched, all_searched}
 use Rattle.shortest_cycles.proofs.shortest.Given as goal
 
 -- `shortest` meets its contract: before each turn, the shortest cycle of the machines before machine m was written.

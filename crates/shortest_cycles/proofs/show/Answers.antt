@@ -1,4 +1,3 @@
-use Rattle.std.proofs.Common.{rules}
 use native.Mathlib.Omega.{arith}
 use Rattle.shortest_cycles.proofs.ShortestLaws.{shortest_shown}
 use Rattle.shortest_cycles.proofs.show.Goals as goal

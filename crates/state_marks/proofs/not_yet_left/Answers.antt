@@ -1,4 +1,3 @@
-use Rattle.std.proofs.Common.{rules}
 use Rattle.state_marks.proofs.MarkLaws.{mark_bit}
 use Rattle.state_marks.proofs.not_yet_left.Goals as goal
 

@@ -1,11 +1,11 @@
 use Rattle.std.proofs.Common.{rules}
 use mathlib.Core.Path.{refl}
-use Prim.Native.Nat.{◌-◌, ◌<◌, ◌≤◌, ◌^◌}
+use Prim.Native.Nat.{◌-◌, ◌<◌}
 use native.Mathlib.Omega.{arith}
 use lib.Bits.{bit_and, bit_xor, and_le_r, or_lt, xor_lt}
 use lib.Count.{count_trailing_zeros}
 use Rattle.graphs.specs.Graphs.{into_of}
-use Rattle.state_marks.proofs.BitLaws.{Growing, growing_begins, growing_step, growing_ends, closed_same, trailing_below}
+use Rattle.state_marks.proofs.BitLaws.{growing_begins, growing_step, growing_ends, closed_same, trailing_below}
 use Rattle.state_marks.proofs.without_dead_ends.Goals as goal
 use Rattle.state_marks.proofs.without_dead_ends.Goals.{After-into_of, After-into_of-in-loop-todo, Else-turns-ge24, Start}
 

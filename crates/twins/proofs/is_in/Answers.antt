@@ -1,6 +1,5 @@
-use Rattle.std.proofs.Common.{rules}
 use mathlib.Core.Path.{◌≡◌, refl, ap, ◌∙◌}
-use Prim.Native.Nat.{ℕ, ◌-◌, ◌≤◌, zero-le}
+use Prim.Native.Nat.{ℕ, ◌-◌, zero-le}
 use native.Mathlib.Omega.{arith}
 use lib.ListN.{take}
 use Rattle.twins.specs.Keys.{is_in}

@@ -1,10 +1,7 @@
-use Rattle.std.proofs.Common.{rules}
-use mathlib.Core.Path.{◌≡◌, refl, ap, ◌∙◌}
-use Prim.Native.Nat.{ℕ, ◌-◌, ◌≤◌, zero-le}
-use native.Mathlib.Omega.{arith}
+use mathlib.Core.Path.{◌≡◌}
+use Prim.Native.Nat.{◌-◌, ◌≤◌}
 use lib.ListN.{take}
 use Rattle.twins.specs.Keys.{is_in}
-use Rattle.twins.proofs.KeyLaws.{in_more}
 use Rattle.twins.proofs.is_in.Given as goal
 
 -- `is_in` meets its contract: after i keys it is told of the first i.

@@ -1,4 +1,3 @@
-use Rattle.std.proofs.Common.{rules}
 use Rattle.twins.specs.Keys.{key_of}
 use Rattle.twins.proofs.key_of.Goals as goal
 

@@ -1,4 +1,3 @@
-use Rattle.std.proofs.Common.{rules}
 use mathlib.Core.Path.{refl}
 use Rattle.watch_events.specs.Counting.{quiet_row, progress_row}
 use Rattle.watch_events.proofs.CountLaws.{quiet_stored}

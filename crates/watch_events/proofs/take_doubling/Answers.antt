@@ -1,10 +1,8 @@
-use Rattle.std.proofs.Common.{rules}
 use mathlib.Core.Path.{sym, ◌∙◌}
 use Rattle.watched_runs.proofs.EventSteps.{told, steps_none_doubled}
 use Rattle.watch_events.proofs.StepLaws.{held_type, counted_told, doubling_late, doubling_taken}
 use mathlib.Core.Bool.{true, false}
 use native.Mathlib.Omega.{arith}
-use borrow.Author.Tests.{not-true, not-false}
 use Rattle.watch_events.proofs.take_doubling.Goals as goal
 
 pub returns-then-not-has_message : goal.returns-then-not-has_message

@@ -1,9 +1,7 @@
-use Rattle.std.proofs.Common.{rules}
 use mathlib.Core.Path.{sym, ◌∙◌}
 use Rattle.watched_runs.proofs.EventSteps.{told, steps_none_lost, steps_lost}
 use Rattle.watch_events.proofs.StepLaws.{held_type}
 use native.Mathlib.Omega.{arith}
-use borrow.Author.Tests.{not-true, not-false}
 use Rattle.watch_events.proofs.take_loss.Goals as goal
 
 pub returns-then-not-has_message : goal.returns-then-not-has_message

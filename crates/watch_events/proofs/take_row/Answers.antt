@@ -5,7 +5,6 @@ use Rattle.watched_runs.proofs.EventSteps.{told, steps_no_row, steps_cannot}
 use Rattle.watch_events.proofs.StepLaws.{held_row, can_told, row_counted_told, row_late, row_taken}
 use mathlib.Core.Bool.{true, false}
 use native.Mathlib.Omega.{arith}
-use borrow.Author.Tests.{not-true, not-false}
 use Rattle.watch_events.proofs.take_row.Goals as goal
 
 pub returns-then-not-has_row : goal.returns-then-not-has_row

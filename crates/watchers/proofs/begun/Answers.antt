@@ -1,4 +1,3 @@
-use Rattle.std.proofs.Common.{rules}
 use mathlib.Core.Path.{refl}
 use Rattle.watchers.proofs.OpeningLaws.{tabled}
 use Rattle.watchers.proofs.begun.Goals as goal

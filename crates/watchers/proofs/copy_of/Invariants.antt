@@ -1,10 +1,6 @@
-use Rattle.std.proofs.Common.{rules}
-use mathlib.Core.Path.{◌≡◌, refl}
-use Prim.Native.Nat.{◌-◌, ◌≤◌, ◌<◌}
-use native.Mathlib.Omega.{arith}
-use lib.ListN.{length, take, length-set}
-use Rattle.livelock.proofs.StoreLaws.{stored_next}
-use Rattle.watchers.proofs.OpeningLaws.{copied}
+use mathlib.Core.Path.{◌≡◌}
+use Prim.Native.Nat.{◌-◌, ◌≤◌}
+use lib.ListN.{length, take}
 use Rattle.watchers.proofs.copy_of.Given as goal
 
 -- `copy_of` meets its contract: byte by byte, what is copied is the front of the file.

@@ -1,4 +1,3 @@
-use Rattle.std.proofs.Common.{rules}
 use mathlib.Core.Path.{ap}
 use Rattle.weighing.specs.Answers.{judgement_of}
 use Rattle.watchers.proofs.OpeningLaws.{figures_passing, figures_failing, figures_refused}

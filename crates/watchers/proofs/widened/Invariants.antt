@@ -1,11 +1,7 @@
-use Rattle.std.proofs.Common.{rules}
-use mathlib.Core.Path.{◌≡◌, refl, sym, subst}
-use Prim.Native.Nat.{ℕ, ◌+◌, ◌-◌, ◌≤◌, ◌<◌}
-use native.Mathlib.Omega.{arith}
-use lib.ListN.{length, set, length-set}
+use mathlib.Core.Path.{◌≡◌}
+use Prim.Native.Nat.{◌-◌, ◌≤◌}
+use lib.ListN.{length}
 use Rattle.watchers.specs.Inner.Openings.{Widened}
-use Rattle.livelock.proofs.ListLaws.{get_d_replicate_default}
-use Rattle.watchers.proofs.OpeningLaws.{widened_start, widened_step, widened_end}
 use Rattle.watchers.proofs.widened.Given as goal
 
 -- `widened` meets its contract: number by number.

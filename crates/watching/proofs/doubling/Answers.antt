@@ -1,4 +1,3 @@
-use Rattle.std.proofs.Common.{rules}
 use Rattle.watching.proofs.doubling.Goals as goal
 
 pub returns : goal.returns

@@ -1,4 +1,3 @@
-use Rattle.std.proofs.Common.{rules}
 use Rattle.watching.proofs.loss.Goals as goal
 
 pub returns : goal.returns

@@ -1,4 +1,3 @@
-use Rattle.std.proofs.Common.{rules}
 use Rattle.watching.proofs.row.Goals as goal
 
 pub returns : goal.returns

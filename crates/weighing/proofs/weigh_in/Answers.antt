@@ -1,4 +1,3 @@
-use Rattle.std.proofs.Common.{rules}
 use native.Mathlib.Omega.{arith}
 use lib.ListN.{length}
 use Rattle.weighing.proofs.WeighingLaws.{checks_judged, judged_weighable, refusal, owed_same}

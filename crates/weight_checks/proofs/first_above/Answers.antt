@@ -1,9 +1,5 @@
 use Rattle.std.proofs.Common.{rules}
-use mathlib.Core.Path.{◌≡◌}
-use Prim.Native.Nat.{◌+◌, ◌-◌, ◌≤◌}
 use native.Mathlib.Omega.{arith}
-use lib.ListN.{length, drop}
-use Rattle.weight_checks.specs.Checks.{first_above}
 use Rattle.weight_checks.proofs.CheckLaws.{above_stops, above_goes_on, above_ends}
 use Rattle.weight_checks.proofs.first_above.Goals as goal
 

@@ -1,10 +1,7 @@
-use Rattle.std.proofs.Common.{rules}
 use mathlib.Core.Path.{◌≡◌}
 use Prim.Native.Nat.{◌+◌, ◌-◌, ◌≤◌}
-use native.Mathlib.Omega.{arith}
 use lib.ListN.{length, drop}
 use Rattle.weight_checks.specs.Checks.{first_above}
-use Rattle.weight_checks.proofs.CheckLaws.{above_stops, above_goes_on, above_ends}
 use Rattle.weight_checks.proofs.first_above.Given as goal
 
 -- `first_above` meets its contract: the weights so far are not above 1,000, so the first one above is the first of those left.

@@ -1,4 +1,3 @@
-use Rattle.std.proofs.Common.{rules}
 use lib.ListN.{length}
 use native.Mathlib.Omega.{arith}
 use borrow.Author.Tests.{lt-ltb, le-ltb}

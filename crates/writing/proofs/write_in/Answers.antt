@@ -1,11 +1,5 @@
-use Rattle.std.proofs.Common.{rules}
 use Rattle.std.proofs.Common.{List, ℕ, ◌++◌, ap, drop}
 use native.Mathlib.Omega.{arith}
-use lib.ListN.{length-take}
-use lib.Seq.{length-take-le}
-use Rattle.plant.specs.Limits.{longest_file}
-use Rattle.written_rows.specs.declared.Step.{Step}
-use Rattle.written_rows.specs.Steps.{Near}
 use Rattle.writing.proofs.PlantLaws.{owes_fault, owes_room, owes_file}
 use Rattle.writing.proofs.write_in.Goals as goal
 

@@ -1,12 +1,9 @@
-use Rattle.std.proofs.Common.{rules}
-use mathlib.Core.Path.{◌≡◌, refl, ◌∙◌, subst}
-use Prim.Native.Nat.{◌+◌, ◌-◌, ◌*◌, ◌≤◌, zero-le}
+use mathlib.Core.Path.{refl, ◌∙◌, subst}
+use Prim.Native.Nat.{◌+◌, ◌-◌, ◌*◌, zero-le}
 use native.Mathlib.Omega.{arith}
-use lib.ListN.{length}
 use Rattle.plant.specs.Limits.{most_row_bytes}
 use Rattle.written_rows.specs.declared.Step.{Step}
 use Rattle.written_rows.specs.Steps.{Near}
-use Rattle.writing.specs.Inner.Steps.{MachinesGoing}
 use Rattle.writing.proofs.MachineLaws.{machines_begin, machines_next, machines_stop, machines_finish}
 use Rattle.writing.proofs.write_machines.Goals as goal
 

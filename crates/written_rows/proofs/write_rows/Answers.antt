@@ -1,14 +1,7 @@
-use Rattle.std.proofs.Common.{rules}
-use mathlib.Core.Path.{◌≡◌, refl, sym, ◌∙◌}
-use mathlib.Core.List.{List, []}
-use Prim.Native.Nat.{ℕ, ◌+◌, ◌-◌, ◌*◌, ◌≤◌, zero-le}
+use mathlib.Core.Path.{refl, sym, ◌∙◌}
+use Prim.Native.Nat.{◌+◌, ◌-◌, zero-le}
 use native.Mathlib.Omega.{arith}
-use lib.ListN.{length}
-use borrow.Author.Tests.{not-true, not-false}
-use Rattle.livelock.specs.Plants.{Plant}
-use Rattle.plant.specs.Limits.{most_row_bytes, rows_in}
 use Rattle.plant_lists.proofs.RowLaws.{row_right, row_there}
-use Rattle.written_rows.specs.Steps.{RowsGoing}
 use Rattle.written_rows.proofs.RowsLaws.{rows_begin, row_next, row_is_twin, rows_finish, rows_stop}
 use Rattle.written_rows.proofs.write_rows.Goals as goal
 

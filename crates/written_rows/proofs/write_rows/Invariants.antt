@@ -1,15 +1,10 @@
-use Rattle.std.proofs.Common.{rules}
-use mathlib.Core.Path.{◌≡◌, refl, sym, ◌∙◌}
+use mathlib.Core.Path.{◌≡◌}
 use mathlib.Core.List.{List, []}
-use Prim.Native.Nat.{ℕ, ◌+◌, ◌-◌, ◌*◌, ◌≤◌, zero-le}
-use native.Mathlib.Omega.{arith}
+use Prim.Native.Nat.{ℕ, ◌+◌, ◌-◌, ◌*◌, ◌≤◌}
 use lib.ListN.{length}
-use borrow.Author.Tests.{not-true, not-false}
 use Rattle.livelock.specs.Plants.{Plant}
 use Rattle.plant.specs.Limits.{most_row_bytes, rows_in}
-use Rattle.plant_lists.proofs.RowLaws.{row_right, row_there}
 use Rattle.written_rows.specs.Steps.{RowsGoing}
-use Rattle.written_rows.proofs.RowsLaws.{rows_begin, row_next, row_is_twin, rows_finish, rows_stop}
 use Rattle.written_rows.proofs.write_rows.Given as goal
 
 -- `write_rows` meets its contract: each row is judged, held against those before it and stored behind them, until one does not pass or none is left.

@@ -1,4 +1,3 @@
-use Rattle.std.proofs.Common.{rules}
 use Rattle.watchers.proofs.OpeningLaws.{quote_told, lengths, opens_refused, opens_quoted}
 use Rattle.watchers.proofs.Watcher.open.Goals as goal
 
