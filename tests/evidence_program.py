@@ -2,7 +2,7 @@
 
 Each case is a folder with plant.bin and weights.bin, whole, damaged, of odd length, empty or missing; in place of a file
 there may also be a link to nothing or a folder, which cannot be read and counts as empty. Where standard output is full or
-closed, a line on standard error says that nothing was written; the exit code is 0 then too, for the kit has no other.
+closed, a line on standard error says that nothing was written; the exit code is 0 then too, for the program has no other.
 The stored runs of the gate are held so too, and a stored cycle must be the only shortest one of its plant, of one row: a cycle may begin at
 any of its rows, so that no other line is right.
 """
