@@ -125,16 +125,16 @@ loop-k-preserved t c =
           let marked = w.with_left-marked in
           let closed = w.after_leaving-closed in
           let onward =
-              onward_closing (marks_of 24 a.marks) a.depth w.in-Enter.state g.0 (marks_of 24 marked.result) (marks_of 24 closed.result) marked.ensures (marks_length 24 marked.result) (marks_length 24 closed.result) closed.ensures
-              p.start_in (λ x b. all_marked closed.result x (omega (arith, w.if-closed-eq-ALL.true)) b) _ _ w.take_closing-rest.ensures in
+          onward_closing (marks_of 24 a.marks) a.depth w.in-Enter.state g.0 (marks_of 24 marked.result) (marks_of 24 closed.result) marked.ensures (marks_length 24 marked.result) (marks_length 24 closed.result) closed.ensures
+          p.start_in (λ x b. all_marked closed.result x (omega (arith, w.if-closed-eq-ALL.true)) b) _ _ w.take_closing-rest.ensures in
           (low, counting_named _ w.rest-is (counting_enter l.invariant.1 l.invariant.0 h p.high_in step next w.in-Enter.state w.in-Enter.is g.0 g.1 _ onward))
       | in-Enter+else-closed-eq-ALL w ↦
           let g = entering t (goal.at.loop-k-preserved t c).After-step_of-step _ w.in-Enter.is (state_in t (goal.at.loop-k-preserved t c).In-loop-k) in
           let marked = w.with_left-marked in
           let closed = w.after_leaving-closed in
           let onward =
-              onward_counted (marks_of 24 a.marks) a.depth w.in-Enter.state g.0 (marks_of 24 marked.result) (marks_of 24 closed.result) marked.ensures (marks_length 24 marked.result) (marks_length 24 closed.result) closed.ensures
-              w.head_of-begin.result w.last_of-last.result w.head_of-begin.ensures w.last_of-last.ensures _ _ w.count-rest.ensures in
+          onward_counted (marks_of 24 a.marks) a.depth w.in-Enter.state g.0 (marks_of 24 marked.result) (marks_of 24 closed.result) marked.ensures (marks_length 24 marked.result) (marks_length 24 closed.result) closed.ensures
+          w.head_of-begin.result w.last_of-last.result w.head_of-begin.ensures w.last_of-last.ensures _ _ w.count-rest.ensures in
           (low, counting_named _ w.rest-is (counting_enter l.invariant.1 l.invariant.0 h p.high_in step next w.in-Enter.state w.in-Enter.is g.0 g.1 _ onward))
     ]
 

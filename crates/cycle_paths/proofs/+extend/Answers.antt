@@ -144,15 +144,15 @@ loop-k-preserved t c =
     let low : a.low ≤ c.next_of-k.result = omega (arith, l.invariant.0, next, p.links.next_later l.k r.0 r.1) in
     elim c.match-step.branch [
       | in-Skip w ↦ (
-          low,
-          subst (PathKept a.depth a.path.now) (sym w.path-is) kept,
-          extending_named _ _ w.used-is w.out-is (extending_skip l.invariant.2 l.invariant.0 h p.high_in step next w.in-Skip.is),
-        )
+        low,
+        subst (PathKept a.depth a.path.now) (sym w.path-is) kept,
+        extending_named _ _ w.used-is w.out-is (extending_skip l.invariant.2 l.invariant.0 h p.high_in step next w.in-Skip.is),
+      )
       | in-Close w ↦ (
-          low,
-          subst (PathKept a.depth a.path.now) (sym w.path-is) kept,
-          extending_named _ _ w.used-is w.out-is (extending_close l.invariant.2 l.invariant.0 h p.high_in step next w.out-1.given w.in-Close.is l.path a.depth kept.same_rows (added_in g w.add_cycle-used.ensures)),
-        )
+        low,
+        subst (PathKept a.depth a.path.now) (sym w.path-is) kept,
+        extending_named _ _ w.used-is w.out-is (extending_close l.invariant.2 l.invariant.0 h p.high_in step next w.out-1.given w.in-Close.is l.path a.depth kept.same_rows (added_in g w.add_cycle-used.ensures)),
+      )
       | in-Enter w ↦
           let s = entering t (goal.at.loop-k-preserved t c).After-step_of-step _ w.in-Enter.is (state_in t (goal.at.loop-k-preserved t c).In-loop-k) in
           let deep : a.depth < 24 = omega (arith, p.fits, s.1) in

@@ -13,8 +13,11 @@ pub returns-in-Fault : goal.returns-in-Fault
 returns-in-Fault c = record { table_after = c.refused.ensures.0 _ ∙ no_machine_count _ _ _ (told field_found c.machines_byte-machines_step.ensures c.in-Fault.is); ready = c.refused.ensures.1 _ }
 
 pub returns-in-Fault-types_step : goal.returns-in-Fault-types_step
-returns-in-Fault-types_step c = record { table_after = c.refused-in-Fault-types_step.ensures.0 _
-      ∙ no_type_count _ _ _ (told field_found c.machines_byte-machines_step.ensures c.in-Value.is) _ _ (told field_found c.types_byte-types_step.ensures c.in-Fault-types_step.is); ready = c.refused-in-Fault-types_step.ensures.1 _ }
+returns-in-Fault-types_step c = record {
+  table_after = c.refused-in-Fault-types_step.ensures.0 _
+      ∙ no_type_count _ _ _ (told field_found c.machines_byte-machines_step.ensures c.in-Value.is) _ _ (told field_found c.types_byte-types_step.ensures c.in-Fault-types_step.is);
+  ready = c.refused-in-Fault-types_step.ensures.1 _;
+}
 
 pub read_machines-read-requires : goal.read_machines-read-requires
 read_machines-read-requires c =
@@ -24,6 +27,9 @@ read_machines-read-requires c =
 
 pub returns : goal.returns
 returns c =
-    let r = c.read_machines-read.ensures in record { table_after = c.at_file_end.ensures _
+    let r = c.read_machines-read.ensures in record {
+      table_after = c.at_file_end.ensures _
           ∙ ap (λ (x : Found Plant). and_then x (file_end c.args.file.now)) r.holds
-          ∙ file_read _ _ _ (told field_found c.machines_byte-machines_step.ensures c.in-Value.is) _ _ (told field_found c.types_byte-types_step.ensures c.in-Value-types_step.is); ready = r.ready }
+          ∙ file_read _ _ _ (told field_found c.machines_byte-machines_step.ensures c.in-Value.is) _ _ (told field_found c.types_byte-types_step.ensures c.in-Value-types_step.is);
+      ready = r.ready;
+    }

@@ -18,8 +18,11 @@ rows_number-rows_step-requires c = c.requires.1
 
 pub returns-in-Fault-rows_step : goal.returns-in-Fault-rows_step
 returns-in-Fault-rows_step c =
-    let a = c.args in record { machine_stored = λ p t u numbered. no_rows a.numbers.now a.from p _ _ a.start _ a.used u _ _ (told field_found c.number_in-states_step.ensures c.in-Value.is) _
-          (told field_found c.rows_number-rows_step.ensures c.in-Fault-rows_step.is); used_le_rows = (omega arith, c.requires.1, tt) }
+    let a = c.args in record {
+      machine_stored = λ p t u numbered. no_rows a.numbers.now a.from p _ _ a.start _ a.used u _ _ (told field_found c.number_in-states_step.ensures c.in-Value.is) _
+          (told field_found c.rows_number-rows_step.ensures c.in-Fault-rows_step.is);
+      used_le_rows = (omega arith, c.requires.1, tt);
+    }
 
 pub put-after_states-requires : goal.put-after_states-requires
 put-after_states-requires c =
@@ -62,10 +65,13 @@ pub returns : goal.returns
 returns c =
     let a = c.args in
     let n = c.in-Value-rows_step.field.value in
-    let few = few_rows a.used a.numbers.now _ _ _ (told field_found c.rows_number-rows_step.ensures c.in-Value-rows_step.is) in record { machine_stored = λ p t u numbered. machine_is a.numbers.now a.from p _ _ a.start _ a.used u _ _ (told field_found c.number_in-states_step.ensures c.in-Value.is) _ _
-          (told field_found c.rows_number-rows_step.ensures c.in-Value-rows_step.is) _ _ _ _ _ refl c.put-after_states.ensures.stored c.put-after_count.ensures.stored (c.write_rows-step.ensures.by_index _ _ t (rows_in_next p numbered)); used_le_rows = (
+    let few = few_rows a.used a.numbers.now _ _ _ (told field_found c.rows_number-rows_step.ensures c.in-Value-rows_step.is) in record {
+      machine_stored = λ p t u numbered. machine_is a.numbers.now a.from p _ _ a.start _ a.used u _ _ (told field_found c.number_in-states_step.ensures c.in-Value.is) _ _
+          (told field_found c.rows_number-rows_step.ensures c.in-Value-rows_step.is) _ _ _ _ _ refl c.put-after_states.ensures.stored c.put-after_count.ensures.stored (c.write_rows-step.ensures.by_index _ _ t (rows_in_next p numbered));
+      used_le_rows = (
         omega arith,
         few.1,
         near_more a.numbers.now (c.put-after_count.result + most_row_bytes * n) (a.start + 2 + most_row_bytes * (a.used + n - a.used)) c.write_rows-step.result
             (omega (arith, c.put-after_states.ensures.upper_bound, c.put-after_count.ensures.upper_bound)) c.write_rows-step.ensures.near,
-      ) }
+      );
+    }

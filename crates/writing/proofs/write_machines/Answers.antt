@@ -34,8 +34,11 @@ pub returns-in-Fault : goal.returns-in-Fault
 returns-in-Fault c =
     let a = c.args in
     let l = c.loop-i in
-    let g = l.invariant.0 in record { machines_stored = machines_stop a.n a.from a.numbers.now a.types a.file.now a.start l.i l.at l.file l.pos l.rows g
-          (omega (arith, c.loop-i-test.true)) _ _ _ _ c.in-Fault.is (c.write_machine-walked.ensures.machine_stored g.q g.few g.total g.numbered); near = tt }
+    let g = l.invariant.0 in record {
+      machines_stored = machines_stop a.n a.from a.numbers.now a.types a.file.now a.start l.i l.at l.file l.pos l.rows g
+          (omega (arith, c.loop-i-test.true)) _ _ _ _ c.in-Fault.is (c.write_machine-walked.ensures.machine_stored g.q g.few g.total g.numbered);
+      near = tt;
+    }
 
 pub loop-i-smaller : goal.loop-i-smaller
 loop-i-smaller c = omega (arith, c.loop-i-test.true)
@@ -66,5 +69,8 @@ shape_of-keys c = c.loop-i.invariant.7
 pub returns : goal.returns
 returns c =
     let a = c.args in
-    let l = c.loop-i in record { machines_stored = machines_finish a.n a.from a.numbers.now a.types a.file.now a.start l.i l.at l.file l.pos l.rows l.invariant.0 l.invariant.1
-          (omega (arith, c.loop-i-test.false)); near = (l.invariant.3, l.invariant.4, omega (arith, l.invariant.1, l.invariant.5)) }
+    let l = c.loop-i in record {
+      machines_stored = machines_finish a.n a.from a.numbers.now a.types a.file.now a.start l.i l.at l.file l.pos l.rows l.invariant.0 l.invariant.1
+          (omega (arith, c.loop-i-test.false));
+      near = (l.invariant.3, l.invariant.4, omega (arith, l.invariant.1, l.invariant.5));
+    }

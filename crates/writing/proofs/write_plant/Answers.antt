@@ -12,8 +12,11 @@ pub returns-in-Fault : goal.returns-in-Fault
 returns-in-Fault c = record { plant_stored = no_machine_count c.args.numbers.now _ _ _ (told field_found c.number_in-machines_step.ensures c.in-Fault.is); near = tt }
 
 pub returns-in-Fault-types_step : goal.returns-in-Fault-types_step
-returns-in-Fault-types_step c = record { plant_stored = no_type_count c.args.numbers.now _ _ _ _ (told field_found c.number_in-machines_step.ensures c.in-Value.is) _
-      (told field_found c.number_in-types_step.ensures c.in-Fault-types_step.is); near = tt }
+returns-in-Fault-types_step c = record {
+  plant_stored = no_type_count c.args.numbers.now _ _ _ _ (told field_found c.number_in-machines_step.ensures c.in-Value.is) _
+      (told field_found c.number_in-types_step.ensures c.in-Fault-types_step.is);
+  near = tt;
+}
 
 pub put-after_machines-requires : goal.put-after_machines-requires
 put-after_machines-requires c =

@@ -58,8 +58,11 @@ shape_of-keys-then-kept c = c.keep_row-kept.ensures.long ∙ c.loop-i.invariant.
 pub returns-then-kept : goal.returns-then-kept
 returns-then-kept c =
     let a = c.args in
-    let l = c.loop-i in record { by_index = λ m p t none. row_is_twin a.n m a.states a.start.at a.numbers.now p a.file.now a.start.pos l.i l.at l.file l.pos l.implied l.keys l.left (l.invariant.going m p t none) (omega (arith, c.loop-i-test.true)) _ _ (l.at + 6) _ _ (c.listed_row.ensures.0 m)
-          (rw t (row_right a.states a.types a.numbers.now l.at (sym c.row_passes.ensures ∙ c.if-not-row_passes.false) m)) c.keep_row-kept.ensures c.if-kept.true; near = tt }
+    let l = c.loop-i in record {
+      by_index = λ m p t none. row_is_twin a.n m a.states a.start.at a.numbers.now p a.file.now a.start.pos l.i l.at l.file l.pos l.implied l.keys l.left (l.invariant.going m p t none) (omega (arith, c.loop-i-test.true)) _ _ (l.at + 6) _ _ (c.listed_row.ensures.0 m)
+          (rw t (row_right a.states a.types a.numbers.now l.at (sym c.row_passes.ensures ∙ c.if-not-row_passes.false) m)) c.keep_row-kept.ensures c.if-kept.true;
+      near = tt;
+    }
 
 pub put_row-pos-requires : goal.put_row-pos-requires
 put_row-pos-requires c =
