@@ -17,6 +17,7 @@ import sys
 LIBRARY = set("length append take drop map set replicate filter reverse sum get_or cond count add mul max min eqb leb ltb snoc".split())
 # Names that would fall together with another: a lemma that would have its function's name ends in _lem, and the bytes of a file in _file.
 CHOSEN = {
+    "all-map-of": "all_map_of",
     "judged-weights": "judged_weights_lem",
     "longest-file": "longest_file_lem",
     "longest-list": "longest_list_lem",
