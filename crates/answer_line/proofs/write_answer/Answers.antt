@@ -1,3 +1,4 @@
+-- `write_answer` meets its contract: each sort of answer by its own line.
 use Rattle.std.proofs.Common.{rules}
 use native.Mathlib.Omega.{arith}
 use mathlib.Core.Path.{◌≡◌, sym, ap, ◌∙◌}

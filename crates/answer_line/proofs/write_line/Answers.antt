@@ -1,3 +1,4 @@
+-- `write_line` meets its contract: what `weigh` owes for the weights handed over is owed for the files, and the line is its answer's.
 use native.Mathlib.Omega.{arith}
 use Rattle.answer_line.proofs.LineLaws.{read_back}
 use Rattle.answer_line.proofs.OwedLaws.{few_rows, printed}

@@ -1,3 +1,4 @@
+-- `write_figure` meets its contract: a space and the fewest digits are the figure.
 use lib.ListN.{length}
 use mathlib.Core.Path.{ap}
 use native.Mathlib.Omega.{arith}
@@ -7,9 +8,6 @@ use Rattle.figure_lines.proofs.write_figure.Goals as goal
 
 pub copy-next-requires : goal.copy-next-requires
 copy-next-requires c = let d = c.decimal-k in omega (arith, c.requires, ap length (figure_is c.args.n d.result _ d.ensures.digits d.ensures.len))
-
--- NO NEED slice-aggregate-copy-2 : tie.Need-slice-aggregate-copy-2
--- slice-aggregate-copy-2 c = search rules
 
 pub copy-requires : goal.copy-requires
 copy-requires c =

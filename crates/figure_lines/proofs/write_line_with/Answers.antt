@@ -1,9 +1,9 @@
+-- `write_line_with` meets its contract: the word, the figures and the line end are the line.
 use native.Mathlib.Omega.{arith}
 use Rattle.figure_lines.proofs.WritingLaws.{wrote-length, wrote_then}
 use Rattle.figure_lines.proofs.DecimalLaws.{line_length}
 use Rattle.figure_lines.proofs.write_line_with.Goals as goal
 
--- `write_line_with` meets its contract: the word, the figures and the line end are the line.
 pub copy-first-requires : goal.copy-first-requires
 copy-first-requires c = omega (arith, c.requires.0.few, c.requires.1, line_length c.args.word.now c.args.numbers.now)
 
@@ -11,9 +11,6 @@ pub write_figures-end-requires : goal.write_figures-end-requires
 write_figures-end-requires c =
     let w = c.copy-first.ensures in
     omega (arith, c.requires.0.few, c.requires.1, line_length c.args.word.now c.args.numbers.now, w.next_is, wrote-length w)
-
--- NO NEED slice-aggregate-copy : tie.Need-slice-aggregate-copy
--- slice-aggregate-copy c = search rules
 
 pub copy-requires : goal.copy-requires
 copy-requires c =

@@ -1,10 +1,10 @@
+-- `weights_from` meets its contract: 65 weights for an odd length, else those of `even_weights`.
 use native.Mathlib.Omega.{arith}
 use mathlib.Core.Path.{refl, sym, ◌∙◌}
 use borrow.Author.Tests.{eq-eqb, ne_eqb}
 use Rattle.weight_files.proofs.WeightLaws.{odd_handed, even_handed}
 use Rattle.weight_files.proofs.weights_from.Goals as goal
 
--- `weights_from` meets its contract: 65 weights for an odd length, else those of `even_weights`.
 pub returns-then-bytes-eq1 : goal.returns-then-bytes-eq1
 returns-then-bytes-eq1 c = (sym (odd_handed c.args.bytes.now (eq-eqb _ _ c.if-bytes-eq1.true)), (omega arith, refl))
 
