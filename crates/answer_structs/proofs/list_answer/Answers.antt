@@ -1,3 +1,4 @@
+-- `list_answer` meets its contract: by cases of the answer.
 use Rattle.answer_structs.proofs.list_answer.Goals as goal
 
 pub returns-in-Entries : goal.returns-in-Entries

@@ -1,3 +1,4 @@
+-- `quote_answer` meets its contract: by cases of the answer.
 use Rattle.answer_structs.proofs.quote_answer.Goals as goal
 
 pub returns-in-Ceiling : goal.returns-in-Ceiling

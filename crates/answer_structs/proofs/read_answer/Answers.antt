@@ -1,3 +1,4 @@
+-- `read_answer` meets its contract: by cases of the answer.
 use Rattle.answer_structs.proofs.read_answer.Goals as goal
 
 pub returns-in-Counts : goal.returns-in-Counts

@@ -1,3 +1,4 @@
+-- `weigh_answer` meets its contract: by cases of the answer.
 use Rattle.answer_structs.proofs.weigh_answer.Goals as goal
 
 pub returns-in-Passed : goal.returns-in-Passed

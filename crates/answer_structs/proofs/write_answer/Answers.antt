@@ -1,3 +1,4 @@
+-- `write_answer` meets its contract: by cases of the answer.
 use Rattle.answer_structs.proofs.write_answer.Goals as goal
 
 pub returns-in-Wrote : goal.returns-in-Wrote

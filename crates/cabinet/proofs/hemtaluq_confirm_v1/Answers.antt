@@ -1,3 +1,4 @@
+-- `hemtaluq_confirm_v1` meets its contract: each answer of `confirm` becomes its struct.
 use Rattle.cabinet.proofs.StructLaws.{confirm_told, negative_told, confirms_told, negative_means, refused_means}
 use Rattle.cabinet.proofs.hemtaluq_confirm_v1.Goals as goal
 

@@ -1,3 +1,4 @@
+-- `hemtaluq_list_v1` meets its contract: the answer of `list` becomes its struct, and what was lent is as `list` left it.
 use mathlib.Core.Path.{◌∙◌, ap}
 use Rattle.answer_structs.specs.Structs.{list_struct}
 use Rattle.cabinet.proofs.StructLaws.{lists_told}

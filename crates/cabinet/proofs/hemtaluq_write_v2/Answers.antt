@@ -1,3 +1,4 @@
+-- `hemtaluq_write_v2` meets its contract: the answer of `write` becomes its struct, and what was lent is as `write` left it.
 use mathlib.Core.Path.{◌∙◌, ap}
 use Rattle.writing.specs.Answers as WritingAnswers
 use Rattle.answer_structs.specs.Structs.{write_struct}

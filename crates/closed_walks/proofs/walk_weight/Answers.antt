@@ -1,3 +1,4 @@
+-- `walk_weight` meets its contract: the difference fits 64 bits.
 use native.Mathlib.Omega.{arith}
 use mir.Syntax.{w64}
 use mir.Facts.{to_z_pos, to_z-of_z}

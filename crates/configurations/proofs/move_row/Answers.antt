@@ -1,3 +1,4 @@
+-- `move_row` meets its contract: the state is stored, and the messages go by the two functions.
 use native.Mathlib.Omega.{arith}
 use Rattle.configurations.proofs.RowLaws.{row_moves}
 use Rattle.configurations.proofs.move_row.Goals as goal

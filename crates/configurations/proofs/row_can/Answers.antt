@@ -1,3 +1,4 @@
+-- `row_can` meets its contract: by the tests, one after the other.
 use mathlib.Core.Bool.{true}
 use native.Mathlib.Omega.{arith}
 use Rattle.configurations.proofs.RowLaws.{no_machine, other_state, right_state, none_taken, one_taken}

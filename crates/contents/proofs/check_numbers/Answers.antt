@@ -1,3 +1,4 @@
+-- `check_numbers` meets its contract: each refusal is the first of the checks 20, 21 and 22 that fails.
 use mathlib.Core.Path.{sym, ◌∙◌}
 use mathlib.Core.List.{[], ◌∷◌}
 use Prim.Native.Nat.{◌≤◌, ◌<◌}

@@ -1,3 +1,4 @@
+-- `take_closing` meets its contract: as many rows as stand in the table, each with the rows of the path and the row count.
 use mathlib.Core.Path.{ap, ◌∙◌}
 use Prim.Native.Nat.{ℕ, ◌+◌, ◌-◌, ◌*◌, ◌≤◌}
 use native.Mathlib.Nat.{mul-le-mul_left}

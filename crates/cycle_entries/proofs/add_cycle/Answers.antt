@@ -1,3 +1,4 @@
+-- `add_cycle` meets its contract: a cycle for which there is room is stored, any other is counted as one above the list's length.
 use native.Mathlib.Omega.{arith}
 use lib.ListN.{length}
 use Rattle.cycle_entries.proofs.EntryLaws.{added_stored, added_counted}

@@ -1,3 +1,4 @@
+-- `confirm` meets its contract: the answer that is owed is "confirmed" for a balanced set, and for no other.
 use Rattle.cycle_sets.proofs.ConfirmingLaws.{answered}
 use Rattle.cycle_sets.proofs.confirm.Goals as goal
 

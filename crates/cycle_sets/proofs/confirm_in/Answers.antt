@@ -1,3 +1,4 @@
+-- `confirm_in` meets its contract: faults of the file and of the list are handed on, and otherwise the sums are looked through.
 use mathlib.Core.Path.{◌∙◌}
 use native.Mathlib.Omega.{arith}
 use Rattle.decoding.specs.Tables.{plant_of}

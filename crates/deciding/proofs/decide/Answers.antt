@@ -1,3 +1,4 @@
+-- `decide` meets its contract: the heights that it lends are as many as there are states, and each is 0.
 use native.Mathlib.Omega.{arith}
 use Rattle.deciding.proofs.DecisionLaws.{zeros}
 use Rattle.deciding.proofs.decide.Goals as goal

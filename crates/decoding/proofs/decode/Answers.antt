@@ -1,3 +1,4 @@
+-- `decode` meets its contract: what its parts found, put together by the laws of `read_plant`.
 use mathlib.Core.Path.{ap, ◌∙◌}
 use native.Mathlib.Omega.{arith}
 use Rattle.livelock.specs.Plants.{Plant}

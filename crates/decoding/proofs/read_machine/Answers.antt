@@ -1,3 +1,4 @@
+-- `read_machine` meets its contract: what its parts found, put together by the laws of `read_machine`.
 use mathlib.Core.Path.{refl, ap, ◌∙◌}
 use mathlib.Core.List.{[], ◌∷◌, ◌++◌}
 use native.Mathlib.Omega.{arith}

@@ -1,3 +1,4 @@
+-- `store_edge` meets its contract: a law of four stores.
 use native.Mathlib.Omega.{arith}
 use lib.ListN.{length-set}
 use mir.Syntax.{w16, w64}

@@ -1,3 +1,4 @@
+-- `to_of` meets its contract: the number is not negative, so it is its size.
 use Prim.Native.Nat.{◌+◌, ◌*◌}
 use lib.ListN.{get_or}
 use lib.IntN.{pos}

@@ -1,3 +1,4 @@
+-- `weight_of` meets its contract: a number in 16 bits fits 64.
 use mir.Syntax.{w16}
 use mir.Facts.{to_z-of_z}
 use Rattle.edge_lists.specs.EdgeLists.{edge_in}

@@ -1,3 +1,4 @@
+-- `row_weight` meets its contract: the difference of two 16-bit numbers fits 64 bits.
 use native.Mathlib.Omega.{arith}
 use mir.Syntax.{w64}
 use mir.Facts.{to_z_pos, to_z-of_z}

@@ -1,3 +1,4 @@
+-- `is_confirmed` meets its contract.
 use Rattle.exclusion.proofs.Theorem.{confirmed_told, negative_told, set_refused}
 use Rattle.exclusion.proofs.is_confirmed.Goals as goal
 

@@ -1,3 +1,4 @@
+-- `is_passed` meets its contract: an answer hands back figures exactly when it is the first of the three.
 use Rattle.exclusion.proofs.Theorem.{figures_told, cycle_told, weighing_refused}
 use Rattle.exclusion.proofs.is_passed.Goals as goal
 

@@ -1,3 +1,4 @@
+-- `weigh_and_confirm` meets its contract: by the contracts of the two calls it makes, and the theorem.
 use mathlib.Core.Path.{refl}
 use lib.ListN.{replicate}
 use Rattle.exclusion.proofs.Theorem.{sees}

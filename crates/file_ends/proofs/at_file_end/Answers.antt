@@ -1,3 +1,4 @@
+-- `at_file_end` meets its contract: by cases on the end, and on whether bytes remain.
 use native.Mathlib.Omega.{arith}
 use lib.ListN.{length}
 use borrow.Author.Tests.{lt-ltb, le-ltb}

@@ -1,3 +1,4 @@
+-- `moved` meets its contract: by cases on the end. The sum fits by what it requires.
 use mathlib.Core.Path.{ap}
 use native.Mathlib.Omega.{arith}
 use Rattle.plant.specs.Steps.{offset_of}

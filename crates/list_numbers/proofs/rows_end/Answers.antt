@@ -1,3 +1,4 @@
+-- `rows_end` meets its contract: by its test.
 use native.Mathlib.Omega.{arith}
 use Rattle.list_numbers.proofs.rows_end.Goals as goal
 

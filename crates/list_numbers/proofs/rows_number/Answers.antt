@@ -1,3 +1,4 @@
+-- `rows_number` meets its contract: a count of rows is a number of a range.
 use mathlib.Core.Path.{◌∙◌}
 use native.Mathlib.Omega.{arith}
 use Rattle.list_numbers.proofs.CountLaws.{rows_in_range}

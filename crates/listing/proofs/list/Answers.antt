@@ -1,3 +1,4 @@
+-- `list` meets its contract: what answers the file owes no more.
 use Rattle.listing.proofs.AnswerLaws.{owed}
 use Rattle.listing.proofs.list.Goals as goal
 

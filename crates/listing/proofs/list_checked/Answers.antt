@@ -1,3 +1,4 @@
+-- `list_checked` meets its contract: each refusal is the first of the checks 12 and 13 that fails, and otherwise the machine is listed.
 use mathlib.Core.Path.{ap, ◌∙◌}
 use mathlib.Core.List.{List}
 use Prim.Native.Nat.{ℕ, ◌≤◌, ◌<◌}

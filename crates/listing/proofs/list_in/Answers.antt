@@ -1,3 +1,4 @@
+-- `list_in` meets its contract: a fault of the file is handed on, and the table of a file that reads is checked and the machine listed.
 use mathlib.Core.Path.{refl}
 use Rattle.decoding.specs.Tables.{plant_of}
 use Rattle.plant.specs.Steps.{end_found}

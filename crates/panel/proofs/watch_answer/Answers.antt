@@ -1,3 +1,4 @@
+-- `watch_answer` meets its contract: by cases of the answer.
 use Rattle.panel.proofs.watch_answer.Goals as goal
 
 pub returns-in-Remaining : goal.returns-in-Remaining

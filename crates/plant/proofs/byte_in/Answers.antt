@@ -1,3 +1,4 @@
+-- `byte_in` meets its contract: what `byte_at` found, and what `in_range` says of it.
 use mathlib.Core.Path.{sym, ◌∙◌}
 use Rattle.plant.specs.Reading.{byte_in}
 use Rattle.plant.specs.Steps.{field_found}

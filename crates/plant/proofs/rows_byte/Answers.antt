@@ -1,3 +1,4 @@
+-- `rows_byte` meets its contract: what `byte_at` found, and its one test; a byte is at most 255.
 use Rattle.std.proofs.Common.{rules}
 use Prim.Native.Nat.{◌+◌}
 use native.Mathlib.Omega.{arith}

@@ -1,3 +1,4 @@
+-- `states_byte` meets its contract: a byte in its range.
 use Rattle.plant.proofs.states_byte.Goals as goal
 
 pub returns : goal.returns

@@ -1,3 +1,4 @@
+-- `types_byte` meets its contract: a byte in its range.
 use Rattle.plant.proofs.types_byte.Goals as goal
 
 pub returns : goal.returns

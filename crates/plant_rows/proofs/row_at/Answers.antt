@@ -1,3 +1,4 @@
+-- `row_at` meets its contract: each return is `read_row`, rewritten by what the calls before it found.
 use Rattle.plant.specs.Reading.{read_row}
 use Rattle.plant.specs.Steps.{field_found}
 use Rattle.plant.proofs.Told.{told}

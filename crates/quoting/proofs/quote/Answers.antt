@@ -1,3 +1,4 @@
+-- `quote` meets its contract: a fault of the verdict is handed on, and after another verdict the contents, g and d are checked and the ceiling is quoted.
 use native.Mathlib.Omega.{arith}
 use Rattle.weighing.proofs.WeighingLaws.{verdict_told}
 use Rattle.quoting.proofs.OwedLaws.{quote_refused, failing_weights, quote_failing, passing_weights, figures_fit, quote_passing}

@@ -1,3 +1,4 @@
+-- `quote_weighed` meets its contract: a fault of the checks is handed on, and good numbers are priced.
 use mathlib.Core.Path.{subst}
 use mathlib.Core.List.{[], ◌∷◌}
 use native.Mathlib.Omega.{arith}

@@ -1,3 +1,4 @@
+-- `check_machine` meets its contract: what is kept of its rows, put together by the laws of `read_machine`.
 use Rattle.std.proofs.Common.{rules}
 use mathlib.Core.Path.{refl, ap}
 use native.Mathlib.Omega.{arith}

@@ -1,3 +1,4 @@
+-- `read` meets its contract: what is kept of the machines, put together by the laws of `read_plant`.
 use mathlib.Core.Path.{ap, subst}
 use native.Mathlib.Omega.{arith}
 use Rattle.reading.specs.Answers.{counts_of}

@@ -1,3 +1,4 @@
+-- `map_of` meets its contract: a kind times 4 is its bit, and progress times 16.
 use native.Mathlib.Omega.{arith}
 use Rattle.row_bytes.proofs.RowLaws.{kind_bits, progress_bit}
 use Rattle.row_bytes.proofs.map_of.Goals as goal

@@ -1,3 +1,4 @@
+-- `put` meets its contract: the byte is stored, and counts where it stands.
 use native.Mathlib.Omega.{arith}
 use Rattle.row_bytes.proofs.StoreLaws.{stored_standing, stored_absent}
 use Rattle.row_bytes.proofs.put.Goals as goal

@@ -1,3 +1,4 @@
+-- `put_row` meets its contract: the map byte and four fields, stored one behind the other.
 use Prim.Native.Nat.{◌+◌}
 use native.Mathlib.Omega.{arith}
 use lib.ListN.{get_or}

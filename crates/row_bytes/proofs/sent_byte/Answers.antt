@@ -1,3 +1,4 @@
+-- `sent_byte` meets its contract: by its test.
 use borrow.Author.Tests.{eq-eqb, ne_eqb}
 use Rattle.row_bytes.proofs.sent_byte.Goals as goal
 

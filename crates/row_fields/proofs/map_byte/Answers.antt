@@ -1,3 +1,4 @@
+-- `map_byte` meets its contract: a byte below 32.
 use mathlib.Core.Path.{◌∙◌}
 use Rattle.plant.specs.Reading.{map_byte}
 use Rattle.plant.proofs.ByteLaws.{byte_below}

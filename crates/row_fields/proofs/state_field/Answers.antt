@@ -1,3 +1,4 @@
+-- `state_field` meets its contract: by whether the bit stands.
 use Rattle.plant.specs.Reading.{state_field}
 use Rattle.row_fields.proofs.state_field.Goals as goal
 

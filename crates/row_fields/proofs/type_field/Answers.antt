@@ -1,3 +1,4 @@
+-- `type_field` meets its contract: by whether the bit stands; a type below 64 stands in a column as itself.
 use Rattle.plant.specs.Reading.{type_field}
 use Rattle.row_fields.proofs.TypeLaws.{type_of_byte}
 use Rattle.row_fields.proofs.type_field.Goals as goal

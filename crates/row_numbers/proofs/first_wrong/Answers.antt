@@ -1,3 +1,4 @@
+-- `first_wrong` meets its contract: the numbers before it pass, and it does not.
 use mathlib.Core.Path.{sym, ◌∙◌}
 use Prim.Native.Nat.{◌+◌}
 use Rattle.plant_lists.proofs.RowLaws.{passes_inside, wrong_first, wrong_second, wrong_third, wrong_fourth, wrong_fifth, wrong_sixth}

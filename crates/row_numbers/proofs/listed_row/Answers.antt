@@ -1,3 +1,4 @@
+-- `listed_row` meets its contract: each field is its number.
 use mathlib.Core.Path.{refl}
 use Rattle.row_numbers.proofs.listed_row.Goals as goal
 

@@ -1,3 +1,4 @@
+-- `row_fault` meets its contract: 24 where the number is there, and 23 where it is missing.
 use native.Mathlib.Omega.{arith}
 use lib.ListN.{length}
 use borrow.Author.Tests.{lt-ltb, le-ltb}

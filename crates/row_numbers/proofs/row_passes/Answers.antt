@@ -1,3 +1,4 @@
+-- `row_passes` meets its contract: the list ends within the row, or a number is not below its end, or all are.
 use mathlib.Core.Path.{sym}
 use Prim.Native.Nat.{◌+◌}
 use native.Mathlib.Omega.{arith}

@@ -1,3 +1,4 @@
+-- `type_taken` meets its contract: a type below 64 stands in a column as itself.
 use borrow.Author.Tests.{eq-eqb, ne_eqb, lt-ltb}
 use Rattle.row_numbers.proofs.type_taken.Goals as goal
 

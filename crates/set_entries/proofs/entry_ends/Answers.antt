@@ -1,3 +1,4 @@
+-- `entry_ends` meets its contract: each return is one case of the definition.
 use Rattle.set_entries.proofs.EntryLaws.{cycle_stops, cycle_good}
 use Rattle.set_entries.proofs.entry_ends.Goals as goal
 

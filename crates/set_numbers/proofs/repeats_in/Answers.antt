@@ -1,3 +1,4 @@
+-- `repeats_in` meets its contract: the limits are those of repeats.
 use Rattle.set_numbers.proofs.repeats_in.Goals as goal
 
 pub returns : goal.returns

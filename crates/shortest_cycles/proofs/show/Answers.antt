@@ -1,3 +1,4 @@
+-- `show` meets its contract: the rows of the shortest cycle are copied.
 use native.Mathlib.Omega.{arith}
 use Rattle.shortest_cycles.proofs.ShortestLaws.{shortest_shown}
 use Rattle.shortest_cycles.proofs.show.Goals as goal

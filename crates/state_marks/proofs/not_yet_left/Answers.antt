@@ -1,3 +1,4 @@
+-- `not_yet_left` meets its contract: the mark of a state is its bit.
 use Rattle.state_marks.proofs.MarkLaws.{mark_bit}
 use Rattle.state_marks.proofs.not_yet_left.Goals as goal
 

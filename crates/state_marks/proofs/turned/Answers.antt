@@ -1,3 +1,4 @@
+-- `turned` meets its contract: other bits stay.
 use native.Mathlib.Nat.{le_refl}
 use native.Mathlib.Omega.{arith}
 use lib.Pow.{shl_exact}

@@ -1,3 +1,4 @@
+-- `with_left` meets its contract: the union with bit `state` marks that state.
 use mathlib.Core.Path.{ap, ◌∙◌}
 use Prim.Native.Nat.{ℕ}
 use native.Mathlib.Nat.{le_refl}

@@ -1,3 +1,4 @@
+-- `store_row` meets its contract: a law of six stores.
 use native.Mathlib.Omega.{arith}
 use lib.ListN.{length-set}
 use Rattle.tables.proofs.StoreLaws.{six_stored}

@@ -1,3 +1,4 @@
+-- `is_kept` meets its contract: by whether the bit of the state stands.
 use borrow.Author.Tests.{ne_eqb}
 use Rattle.twins.proofs.is_kept.Goals as goal
 

@@ -1,3 +1,4 @@
+-- `key_of` meets its contract: the digits are within the number, and their values are those of the fields.
 use Rattle.twins.specs.Keys.{key_of}
 use Rattle.twins.proofs.key_of.Goals as goal
 

@@ -1,3 +1,4 @@
+-- `with_state` meets its contract: the bit of the state is put.
 use mathlib.Core.Path.{ap}
 use Prim.Native.Nat.{◌%◌}
 use native.Mathlib.Nat.{le_refl, mod-lt, zero-lt-suc}

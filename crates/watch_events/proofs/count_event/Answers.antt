@@ -1,3 +1,4 @@
+-- `count_event` meets its contract: nothing is stored, or the count and what is left.
 use mathlib.Core.Path.{refl}
 use native.Mathlib.Omega.{arith}
 use Rattle.watch_events.specs.Counting.{at_most}

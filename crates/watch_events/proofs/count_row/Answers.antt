@@ -1,3 +1,4 @@
+-- `count_row` meets its contract: by the mark.
 use mathlib.Core.Path.{refl}
 use Rattle.watch_events.specs.Counting.{quiet_row, progress_row}
 use Rattle.watch_events.proofs.CountLaws.{quiet_stored}

@@ -1,3 +1,4 @@
+-- `has_row` meets its contract: by its tests.
 use native.Mathlib.Omega.{arith}
 use borrow.Author.Tests.{lt-ltb, le-ltb}
 use Rattle.watched_runs.specs.Keeping.{rows_in}

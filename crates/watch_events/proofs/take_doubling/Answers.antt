@@ -1,3 +1,4 @@
+-- `take_doubling` meets its contract: each way out is one way to answer the event.
 use mathlib.Core.Path.{sym, ◌∙◌}
 use Rattle.watched_runs.proofs.EventSteps.{told, steps_none_doubled}
 use Rattle.watch_events.proofs.StepLaws.{held_type, counted_told, doubling_late, doubling_taken}

@@ -1,3 +1,4 @@
+-- `take_row` meets its contract: each way out is one way to answer the event.
 use Rattle.std.proofs.Common.{rules}
 use mathlib.Core.Path.{◌≡◌, sym, ◌∙◌}
 use lib.ListN.{length}

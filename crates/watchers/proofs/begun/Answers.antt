@@ -1,3 +1,4 @@
+-- `begun` meets its contract: what was copied, decoded and widened, and nothing counted.
 use mathlib.Core.Path.{refl}
 use Rattle.watchers.proofs.OpeningLaws.{tabled}
 use Rattle.watchers.proofs.begun.Goals as goal

@@ -1,3 +1,4 @@
+-- `figures_for` meets its contract: by the verdict of weighing.
 use mathlib.Core.Path.{ap}
 use Rattle.weighing.specs.Answers.{judgement_of}
 use Rattle.watchers.proofs.OpeningLaws.{figures_passing, figures_failing, figures_refused}

@@ -1,3 +1,4 @@
+-- `doubling` meets its contract: it is that of the lent lists, with the watcher's other lists.
 use Rattle.watching.proofs.doubling.Goals as goal
 
 pub returns : goal.returns

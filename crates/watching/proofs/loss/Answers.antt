@@ -1,3 +1,4 @@
+-- `loss` meets its contract: it is that of the lent lists, with the watcher's other lists.
 use Rattle.watching.proofs.loss.Goals as goal
 
 pub returns : goal.returns

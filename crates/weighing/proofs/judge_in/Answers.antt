@@ -1,3 +1,4 @@
+-- `judge_in` meets its contract: a fault of the file or of the weights is handed on, and the machines of a file without one are judged.
 use mathlib.Core.Path.{subst}
 use native.Mathlib.Omega.{arith}
 use Rattle.weighing.specs.Weighing.{OwedVerdict}

@@ -1,3 +1,4 @@
+-- `weigh_in` meets its contract: a fault of the file, of the weights or of the lent list is handed on, and the machines of a file without one are weighed.
 use native.Mathlib.Omega.{arith}
 use lib.ListN.{length}
 use Rattle.weighing.proofs.WeighingLaws.{checks_judged, judged_weighable, refusal, owed_same}

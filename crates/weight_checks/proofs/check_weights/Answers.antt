@@ -1,3 +1,4 @@
+-- `check_weights` meets its contract: a fault of the file is handed on, and else each refusal is the first of the checks 9 and 10 that fails.
 use mathlib.Core.Path.{refl}
 use native.Mathlib.Omega.{arith}
 use Rattle.weight_checks.specs.Checks.{checked_weights}

@@ -1,3 +1,4 @@
+-- `list_end` meets its contract: by its cases.
 use lib.ListN.{length}
 use native.Mathlib.Omega.{arith}
 use borrow.Author.Tests.{lt-ltb, le-ltb}

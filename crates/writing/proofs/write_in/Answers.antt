@@ -1,3 +1,4 @@
+-- `write_in` meets its contract: with a fault and with a short buffer nothing is written, and else the file is copied.
 use Rattle.std.proofs.Common.{List, ℕ, ◌++◌, ap, drop}
 use native.Mathlib.Omega.{arith}
 use Rattle.writing.proofs.PlantLaws.{owes_fault, owes_room, owes_file}

@@ -1,3 +1,4 @@
+-- `write_machine` meets its contract: two counts are judged and stored, and then the rows.
 use mathlib.Core.Path.{refl}
 use Prim.Native.Nat.{◌+◌, ◌-◌, ◌*◌}
 use native.Mathlib.Omega.{arith}

@@ -1,3 +1,4 @@
+-- `write_plant` meets its contract: two counts are judged and stored, then the machines, and then the list ends.
 use Prim.Native.Nat.{◌+◌, ◌*◌}
 use native.Mathlib.Omega.{arith}
 use Rattle.plant.specs.Limits.{most_row_bytes, longest_file}

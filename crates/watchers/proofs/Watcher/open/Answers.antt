@@ -1,3 +1,4 @@
+-- `Watcher::open` meets its contract: by the answer of quoting.
 use Rattle.watchers.proofs.OpeningLaws.{quote_told, lengths, opens_refused, opens_quoted}
 use Rattle.watchers.proofs.Watcher.open.Goals as goal
 
