@@ -25,7 +25,7 @@ RowOf P m k = (k < row_count P) × ((row_at P k).machine ≡ m)
 abbrev pub first_left : Plant → List ℕ → ℕ
 first_left P c = leaves P (get_or c 0 0)
 
--- "A simple cycle is a non_empty list of rows of one machine. Each row enters the state that the next one leaves,
+-- "A simple cycle is a non-empty list of rows of one machine. Each row enters the state that the next one leaves,
 -- the last enters the state that the first leaves, and no state is left twice."
 pub record SimpleCycle (P : Plant) (m : ℕ) (c : List ℕ) : Type 0 where
   pub non_empty : 0 < length c

@@ -82,10 +82,10 @@ loop-i-preserved c =
       long = c.store_row.ensures.long ∙ l.invariant.long;
       keys_long = k.long ∙ l.invariant.keys_long;
       behind = omega (arith, t.0, l.invariant.behind);
-      rows_kept = rw e (kept_stored c.store_row.ensures (k.kept _ _ l.invariant.rows_kept c.if-kept.false));
+      rows_kept = rw e (kept_stored c.store_row.ensures (k.kept _ _ l.invariant.rows_kept (search rules)));
       rest =
           λ all.
-          rw e (row_goes_on _ _ _ _ _ _ _ _ c.loop-i-test.true (plant_in a.types all (a.used + l.i) l.table) _ _ _ r (sym (k.told _ _ l.invariant.rows_kept) ∙ c.if-kept.false) (with_row_lem c.store_row.ensures a.types all) (l.invariant.rest all));
+          rw e (row_goes_on _ _ _ _ _ _ _ _ c.loop-i-test.true (plant_in a.types all (a.used + l.i) l.table) _ _ _ r (sym (k.told _ _ l.invariant.rows_kept) ∙ (search rules)) (with_row_lem c.store_row.ensures a.types all) (l.invariant.rest all));
     }
 
 pub shape_of-table : goal.shape_of-table

@@ -40,7 +40,7 @@ loop-i-preserved c =
       within = omega arith;
       long = c.keep_row-kept.ensures.long ∙ h.long;
       behind = omega (arith, t.0, h.behind);
-      rest = λ m p t none. rows_go_on _ m _ _ _ p _ _ _ _ _ (h.rest m p t none) _ _ (told (row_found m) (c.row_at-step.ensures m) c.in-Value.is) _ _ c.keep_row-kept.ensures c.loop-i-test.true c.if-kept.false;
+      rest = λ m p t none. rows_go_on _ m _ _ _ p _ _ _ _ _ (h.rest m p t none) _ _ (told (row_found m) (c.row_at-step.ensures m) c.in-Value.is) _ _ c.keep_row-kept.ensures c.loop-i-test.true (search rules);
     }
 
 pub shape_of-keys : goal.shape_of-keys

@@ -45,7 +45,7 @@ returns-then-type_end-numbers c =
       inside_passes a.states a.types a.numbers.now a.at (omega (arith, c.if-numbers-at-lt6.false, c.requires)),
       lt-ltb (get_or a.numbers.now a.at 0) a.states (omega (arith, c.if-states-numbers.false)),
       lt-ltb (get_or a.numbers.now (a.at + 1) 0) a.states (omega (arith, c.if-states-numbers-2.false)),
-      lt-ltb (get_or a.numbers.now (a.at + 2) 0) 4 (omega (arith, c.if-kind-ge4.false)),
+      lt-ltb (get_or a.numbers.now (a.at + 2) 0) 4 (omega arith),
       le-ltb (get_or a.numbers.now (a.at + 3) 0) (types_for (get_or a.numbers.now (a.at + 2) 0) a.types) (omega (arith, c.if-type_end-numbers.true, c.type_end.ensures)),
     )
 
@@ -56,7 +56,7 @@ returns-then-numbers-at-ge2 c =
       inside_passes a.states a.types a.numbers.now a.at (omega (arith, c.if-numbers-at-lt6.false, c.requires)),
       lt-ltb (get_or a.numbers.now a.at 0) a.states (omega (arith, c.if-states-numbers.false)),
       lt-ltb (get_or a.numbers.now (a.at + 1) 0) a.states (omega (arith, c.if-states-numbers-2.false)),
-      lt-ltb (get_or a.numbers.now (a.at + 2) 0) 4 (omega (arith, c.if-kind-ge4.false)),
+      lt-ltb (get_or a.numbers.now (a.at + 2) 0) 4 (omega arith),
       lt-ltb (get_or a.numbers.now (a.at + 3) 0) (types_for (get_or a.numbers.now (a.at + 2) 0) a.types) (omega (arith, c.if-type_end-numbers.false, c.type_end.ensures)),
       le-ltb (get_or a.numbers.now (a.at + 4) 0) 2 (omega (arith, c.if-numbers-at-ge2.true)),
     )
@@ -68,8 +68,8 @@ returns c =
       inside_passes a.states a.types a.numbers.now a.at (omega (arith, c.if-numbers-at-lt6.false, c.requires)),
       lt-ltb (get_or a.numbers.now a.at 0) a.states (omega (arith, c.if-states-numbers.false)),
       lt-ltb (get_or a.numbers.now (a.at + 1) 0) a.states (omega (arith, c.if-states-numbers-2.false)),
-      lt-ltb (get_or a.numbers.now (a.at + 2) 0) 4 (omega (arith, c.if-kind-ge4.false)),
+      lt-ltb (get_or a.numbers.now (a.at + 2) 0) 4 (omega arith),
       lt-ltb (get_or a.numbers.now (a.at + 3) 0) (types_for (get_or a.numbers.now (a.at + 2) 0) a.types) (omega (arith, c.if-type_end-numbers.false, c.type_end.ensures)),
-      lt-ltb (get_or a.numbers.now (a.at + 4) 0) 2 (omega (arith, c.if-numbers-at-ge2.false)),
+      lt-ltb (get_or a.numbers.now (a.at + 4) 0) 2 (omega arith),
       sym c.sent_end.ensures,
     )

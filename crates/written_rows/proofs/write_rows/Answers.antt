@@ -1,3 +1,4 @@
+use Rattle.std.proofs.Common.{rules}
 use mathlib.Core.Path.{refl, sym, ◌∙◌}
 use Prim.Native.Nat.{◌+◌, ◌-◌, zero-le}
 use native.Mathlib.Omega.{arith}
@@ -92,7 +93,7 @@ loop-i-preserved c =
       going =
           λ m p t none.
           row_next a.n m a.states a.start.at a.numbers.now p a.file.now a.start.pos l.i l.at l.file l.pos l.implied l.keys l.left (l.invariant.going m p t none) (omega (arith, c.loop-i-test.true)) _ _ _ _ _ _ _ refl (c.listed_row.ensures.0 m)
-          (rw t (row_right a.states a.types a.numbers.now l.at passed m)) c.keep_row-kept.ensures c.if-kept.false (c.put_row-pos.ensures.by_index m);
+          (rw t (row_right a.states a.types a.numbers.now l.at passed m)) c.keep_row-kept.ensures (search rules) (c.put_row-pos.ensures.by_index m);
       within = omega (arith, c.loop-i-test.true);
       reached = omega (arith, l.invariant.reached);
       inside = there.inside;
