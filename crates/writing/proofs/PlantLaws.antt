@@ -118,3 +118,8 @@ module _ (s before file room : List ℕ) (step : Step) (made : PlantStored befor
                 shortest = rw (size, whole, take-append_seam (file_of p) (drop (length (file_of p)) room)) (said_shortest s p next says);
               },
             )
+
+-- What is left where the front of a list was copied over the front of another.
+pub copied : (pos : ℕ) (file room after : List ℕ) → pos ≤ length file → after ≡ take (length (take pos file)) (take pos file) ++ drop (length (take pos file)) room
+    → after ≡ take pos file ++ drop pos room
+copied pos file room after l e = e ∙ (λ i. take-length (take pos file) i ++ drop (length-take-le pos file l i) room)

@@ -68,7 +68,7 @@ list_between-requires c =
     let t = c.args.table.now in
     let m = c.args.machine in
     let within : m < s.machines = omega (arith, c.if-m-shape.false) in
-    let few : state_count (plant_of s t) m ≤ 24 = omega (arith, c.if-shape-m-gt24.false, states_at s t m within) in
+    let few : state_count (plant_of s t) m ≤ 24 = omega (arith, states_at s t m within) in
     machine_listable s t c.requires.0 c.requires.1 m within few _ _ c.index_u16-first.ensures c.index_u16-last.ensures (omega (arith, c.if-last-first-gt48.false))
 
 pub returns : goal.returns
@@ -78,7 +78,7 @@ returns c =
     let m = c.args.machine in
     let before = c.args.out.now in
     let within : m < s.machines = omega (arith, c.if-m-shape.false) in
-    let few : state_count (plant_of s t) m ≤ 24 = omega (arith, c.if-shape-m-gt24.false, states_at s t m within) in
+    let few : state_count (plant_of s t) m ≤ 24 = omega (arith, states_at s t m within) in
     let range = machine_rows s t c.requires.0 m within in
     let needed = machine_entries s t c.requires.0 c.requires.1 m within few _ _ c.index_u16-first.ensures c.index_u16-last.ensures in
     λ end.

@@ -15,7 +15,7 @@ pub returns-then-states-numbers : goal.returns-then-states-numbers
 returns-then-states-numbers c =
     let a = c.args in
     rw (
-      inside_passes a.states a.types a.numbers.now a.at (omega (arith, c.if-numbers-at-lt6.false, c.requires)),
+      inside_passes a.states a.types a.numbers.now a.at (omega (arith, c.requires)),
       le-ltb (get_or a.numbers.now a.at 0) a.states (omega (arith, c.if-states-numbers.true)),
     )
 
@@ -23,7 +23,7 @@ pub returns-then-states-numbers-2 : goal.returns-then-states-numbers-2
 returns-then-states-numbers-2 c =
     let a = c.args in
     rw (
-      inside_passes a.states a.types a.numbers.now a.at (omega (arith, c.if-numbers-at-lt6.false, c.requires)),
+      inside_passes a.states a.types a.numbers.now a.at (omega (arith, c.requires)),
       lt-ltb (get_or a.numbers.now a.at 0) a.states (omega (arith, c.if-states-numbers.false)),
       le-ltb (get_or a.numbers.now (a.at + 1) 0) a.states (omega (arith, c.if-states-numbers-2.true)),
     )
@@ -32,7 +32,7 @@ pub returns-then-kind-ge4 : goal.returns-then-kind-ge4
 returns-then-kind-ge4 c =
     let a = c.args in
     rw (
-      inside_passes a.states a.types a.numbers.now a.at (omega (arith, c.if-numbers-at-lt6.false, c.requires)),
+      inside_passes a.states a.types a.numbers.now a.at (omega (arith, c.requires)),
       lt-ltb (get_or a.numbers.now a.at 0) a.states (omega (arith, c.if-states-numbers.false)),
       lt-ltb (get_or a.numbers.now (a.at + 1) 0) a.states (omega (arith, c.if-states-numbers-2.false)),
       le-ltb (get_or a.numbers.now (a.at + 2) 0) 4 (omega (arith, c.if-kind-ge4.true)),
@@ -42,7 +42,7 @@ pub returns-then-type_end-numbers : goal.returns-then-type_end-numbers
 returns-then-type_end-numbers c =
     let a = c.args in
     rw (
-      inside_passes a.states a.types a.numbers.now a.at (omega (arith, c.if-numbers-at-lt6.false, c.requires)),
+      inside_passes a.states a.types a.numbers.now a.at (omega (arith, c.requires)),
       lt-ltb (get_or a.numbers.now a.at 0) a.states (omega (arith, c.if-states-numbers.false)),
       lt-ltb (get_or a.numbers.now (a.at + 1) 0) a.states (omega (arith, c.if-states-numbers-2.false)),
       lt-ltb (get_or a.numbers.now (a.at + 2) 0) 4 (omega arith),
@@ -53,7 +53,7 @@ pub returns-then-numbers-at-ge2 : goal.returns-then-numbers-at-ge2
 returns-then-numbers-at-ge2 c =
     let a = c.args in
     rw (
-      inside_passes a.states a.types a.numbers.now a.at (omega (arith, c.if-numbers-at-lt6.false, c.requires)),
+      inside_passes a.states a.types a.numbers.now a.at (omega (arith, c.requires)),
       lt-ltb (get_or a.numbers.now a.at 0) a.states (omega (arith, c.if-states-numbers.false)),
       lt-ltb (get_or a.numbers.now (a.at + 1) 0) a.states (omega (arith, c.if-states-numbers-2.false)),
       lt-ltb (get_or a.numbers.now (a.at + 2) 0) 4 (omega arith),
@@ -65,7 +65,7 @@ pub returns : goal.returns
 returns c =
     let a = c.args in
     rw (
-      inside_passes a.states a.types a.numbers.now a.at (omega (arith, c.if-numbers-at-lt6.false, c.requires)),
+      inside_passes a.states a.types a.numbers.now a.at (omega (arith, c.requires)),
       lt-ltb (get_or a.numbers.now a.at 0) a.states (omega (arith, c.if-states-numbers.false)),
       lt-ltb (get_or a.numbers.now (a.at + 1) 0) a.states (omega (arith, c.if-states-numbers-2.false)),
       lt-ltb (get_or a.numbers.now (a.at + 2) 0) 4 (omega arith),
