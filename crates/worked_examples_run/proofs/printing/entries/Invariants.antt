@@ -1,5 +1,4 @@
 -- `entries` meets its contract: it reads within the list, and ends.
--- `entries` reads within the list, and ends.
 use Rattle.std.proofs.Common.{◌-◌, ◌≤◌}
 use Rattle.worked_examples_run.proofs.printing.entries.Given as goal
 
