@@ -260,10 +260,12 @@ pub struct Held {
 #[unsafe(no_mangle)]
 pub extern "C" fn probe_table(file: &[u8]) -> Held {
     let mut table = [0; 8192];
-    let decoded = decoding::decode(file, &mut table);
-    let shape = decoded.shape;
-    let states = shape.states;
-    let first = shape.first;
+    let mut states = [0; 16];
+    let mut first = [0; 17];
+    if let Ok(shape) = decoding::decode(file, &mut table) {
+        states = shape.states;
+        first = shape.first;
+    }
     Held { states, first, table }
 }
 '''

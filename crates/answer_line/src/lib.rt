@@ -4,51 +4,72 @@
 ghost use Rattle.std.specs.Prelude.{◌*◌, ◌≤◌, ◌≡◌, length, take};
 ghost use Rattle.figure_lines.specs.FigureLines.{figures};
 ghost use Rattle.figure_lines.specs.Writing.{WroteLine};
+ghost use Rattle.figures.specs.FigureSums.{figures_in};
+ghost use Rattle.plant.specs.Refusals.{number_of};
 ghost use Rattle.weighing.specs.Answers.{answer_of};
-ghost use Rattle.answer_line.specs.Lines.{line_of};
+ghost use Rattle.answer_line.specs.Lines.{passed_line, cycle_line, refused_line, line_of};
 ghost use Rattle.answer_line.specs.Files.{Printed};
 ghost use Rattle.answer_line.specs.Inner.Steps.{FewRows};
 
+use arrayvec::ArrayVec;
+use figures::Figures;
+use plant::Fault;
 use weighing::Weighed;
 
-// The first rows of a list, as figures of at most six bytes each.
-fn widened(cycle: &[u16], rows: usize) -> [u64; 64]
-    requires { (rows ≤ 64) × (64 ≤ length cycle.now) }
-    ensures { (take rows result ≡ take rows cycle.now) × (length (figures (take rows result)) ≤ 6 * rows) }
+// The rows of a cycle as numbers, whose figures have at most six bytes each.
+fn widened(rows: &[u16]) -> ArrayVec<u64, 64>
+    requires { length rows.now ≤ 64 }
+    ensures { (result.items ≡ rows.now) × (length (figures rows.now) ≤ 6 * length rows.now) }
 {
-    let mut numbers = [0u64; 64];
-    let mut i = 0;
-    while i < rows {
-        numbers[i] = casts::figure_u16(cycle[i]);
-        i += 1;
+    let mut numbers = ArrayVec::new();
+    for row in rows {
+        numbers.push(u64::from(*row));
     }
     numbers
 }
 
+// The line of figures.
+fn write_passed(figures: Figures, line: &mut [u8]) -> usize
+    requires { 512 ≤ length line.old }
+    ensures { WroteLine line.old line.new result (passed_line (figures_in figures)) }
+{
+    let numbers = [
+        figures.base,
+        figures.most_states,
+        figures.per_progress,
+        figures.per_doubling,
+    ];
+    figure_lines::write_line_with(b"passed", &numbers, line)
+}
+
+// The line of the rows of a cycle.
+fn write_cycle(rows: &[u16], line: &mut [u8]) -> usize
+    requires { (length rows.now ≤ 64) × (512 ≤ length line.old) }
+    ensures { WroteLine line.old line.new result (cycle_line rows.now) }
+{
+    let numbers = widened(rows);
+    figure_lines::write_line_with(b"cycle", numbers.as_slice(), line)
+}
+
+// The line of a refusal.
+fn write_refused(fault: Fault, line: &mut [u8]) -> usize
+    requires { 512 ≤ length line.old }
+    ensures { WroteLine line.old line.new result (refused_line (number_of fault.refusal) fault.place) }
+{
+    let number = u64::from(fault.number());
+    let place = fault.place as u64;
+    figure_lines::write_line_with(b"refused", &[number, place], line)
+}
+
 // The line of an answer and of the list after weighing.
-fn write_answer(answer: Weighed, cycle: &[u16], line: &mut [u8]) -> usize
+fn write_answer(answer: Result<Weighed, Fault>, cycle: &[u16], line: &mut [u8]) -> usize
     requires { FewRows (answer_of answer) × (64 ≤ length cycle.now) × (512 ≤ length line.old) }
     ensures { WroteLine line.old line.new result (line_of (answer_of answer) cycle.now) }
 {
     match answer {
-        Weighed::Passed(figures) => {
-            let numbers = [
-                figures.base,
-                figures.most_states,
-                figures.per_progress,
-                figures.per_doubling,
-            ];
-            figure_lines::write_line_with(b"passed", &numbers, line)
-        }
-        Weighed::Cycle { rows } => {
-            let numbers = widened(cycle, rows);
-            figure_lines::write_line_with(b"cycle", &numbers[..rows], line)
-        }
-        Weighed::Refused(fault) => {
-            let number = fault.number as u64;
-            let place = fault.place as u64;
-            figure_lines::write_line_with(b"refused", &[number, place], line)
-        }
+        Ok(Weighed::Passed(figures)) => write_passed(figures, line),
+        Ok(Weighed::Cycle { rows }) => write_cycle(&cycle[..rows], line),
+        Err(fault) => write_refused(fault, line),
     }
 }
 
@@ -58,9 +79,7 @@ pub fn write_line(plant: &[u8], weights: &[u8], line: &mut [u8]) -> usize
     ensures { Printed plant.now weights.now (take result line.new) × (result ≤ 512) }
 {
     let given = weight_files::weights_from(weights);
-    let list = given.list;
-    let count = given.count;
     let mut cycle = [0; 64];
-    let answer = weighing::weigh(plant, &list[..count], &mut cycle);
+    let answer = weighing::weigh(plant, given.as_slice(), &mut cycle);
     write_answer(answer, &cycle, line)
 }

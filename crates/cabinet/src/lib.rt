@@ -17,10 +17,8 @@ ghost use Rattle.answer_structs.specs.Structs.{read_struct, list_struct, confirm
 ghost use Rattle.cabinet.specs.Versions.{interface_version};
 
 use answer_structs::{
-    ConfirmAnswer, ListAnswer, QuoteAnswer, ReadAnswer, WeighAnswer, WriteAnswer, list_answer,
-    quote_answer, read_answer, weigh_answer, write_answer,
+    ConfirmAnswer, ListAnswer, QuoteAnswer, ReadAnswer, WeighAnswer, WriteAnswer,
 };
-use cycle_sets::Confirmation;
 
 const VERSION: u32 = 7;
 
@@ -37,7 +35,7 @@ pub extern "C" fn hemtaluq_read_v1(file: &[u8]) -> ReadAnswer
     ensures { result ≡ read_struct (ReadingAnswers.counts_of (read_plant file.now)) }
 {
     let answer = reading::read(file);
-    read_answer(answer)
+    ReadAnswer::from(answer)
 }
 
 #[unsafe(no_mangle)]
@@ -45,7 +43,7 @@ pub extern "C" fn hemtaluq_weigh_v2(file: &[u8], weights: &[u16], cycle: &mut [u
     ensures { WeighedAs weights.now cycle.old cycle.new result (WeightChecks.judged file.now weights.now (length cycle.old)) }
 {
     let answer = weighing::weigh(file, weights, cycle);
-    weigh_answer(answer)
+    WeighAnswer::from(answer)
 }
 
 #[unsafe(no_mangle)]
@@ -59,7 +57,7 @@ pub extern "C" fn hemtaluq_quote_v2(
     ensures { QuotedAs weights.now contents.now g d result (Quoting.judged file.now weights.now contents.now g d) }
 {
     let answer = quoting::quote(file, weights, contents, g, d);
-    quote_answer(answer)
+    QuoteAnswer::from(answer)
 }
 
 #[unsafe(no_mangle)]
@@ -69,7 +67,7 @@ pub extern "C" fn hemtaluq_list_v1(file: &[u8], machine: u32, out: &mut [u16]) -
     ensures lists { Lists file.now machine result out.new }
 {
     let answer = listing::list(file, machine, out);
-    list_answer(answer)
+    ListAnswer::from(answer)
 }
 
 #[unsafe(no_mangle)]
@@ -78,29 +76,7 @@ pub extern "C" fn hemtaluq_confirm_v1(file: &[u8], set: &[u32]) -> ConfirmAnswer
     ensures variant { (result.kind ≡ 6) ↔ ReadsBalanced file.now set.now }
 {
     let answer = cycle_sets::confirm(file, set);
-    match answer {
-        Confirmation::Confirmed => ConfirmAnswer {
-            kind: 6,
-            number: 0,
-            place: 0,
-            message_type: 0,
-            sum: 0,
-        },
-        Confirmation::Negative { message, sum } => ConfirmAnswer {
-            kind: 7,
-            number: 0,
-            place: 0,
-            message_type: message,
-            sum,
-        },
-        Confirmation::Refused(fault) => ConfirmAnswer {
-            kind: 0,
-            number: fault.number,
-            place: fault.place,
-            message_type: 0,
-            sum: 0,
-        },
-    }
+    ConfirmAnswer::from(answer)
 }
 
 #[unsafe(no_mangle)]
@@ -110,5 +86,5 @@ pub extern "C" fn hemtaluq_write_v2(numbers: &[u16], out: &mut [u8]) -> WriteAns
     ensures writes { Writes numbers.now result out.new }
 {
     let answer = writing::write(numbers, out);
-    write_answer(answer)
+    WriteAnswer::from(answer)
 }

@@ -1,7 +1,7 @@
 // The work of the program `ceiling`: reads its two files by name and prints one line. Each stored run is a program whose main calls it.
 #![tactic(auto)]
 
-ghost use Rattle.std.specs.Prelude.{◌≡◌, ◌≤◌, ◌<◌, length, IsErr};
+ghost use Rattle.std.specs.Prelude.{◌≡◌, ◌≤◌, ◌<◌, length, take, IsErr};
 ghost use Rattle.io.specs.Counts.{IsPrefixLen};
 ghost use Rattle.plant.specs.Limits.{longest_file};
 ghost use Rattle.answer_line.specs.Files.{PrintedOf};
@@ -43,32 +43,43 @@ fn read_named(rt: &impl Files, path: &str, buf: &mut [u8]) -> usize
     read_opened(opened, buf)
 }
 
+// A buffer with the bytes of a file at its start: all of them, or as many as the buffer holds.
+#[derive(Clone, Copy)]
+struct Held<'a> {
+    buffer: &'a [u8],
+    count: usize,
+}
+
+impl Held<'_> {
+    // The bytes of the file.
+    fn bytes(&self) -> &[u8]
+        requires { IsPrefixLen self.now.count self.now.buffer.now }
+        ensures { result.now ≡ take self.now.count self.now.buffer.now }
+    {
+        &self.buffer[..self.count]
+    }
+}
+
 // Writes a line to standard output, and says on standard error where that was not possible: the program has no exit status of its own.
-// Only the line that is owed for the two files may be handed over: for every two files of which the first n and m bytes of the buffers
-// are the whole, or as much as the buffers hold.
-fn write_owed<R: Print + Eprint>(
-    rt: &R,
-    plant: &[u8],
-    n: usize,
-    weights: &[u8],
-    m: usize,
-    line: &[u8],
-)
-    requires { PrintedOf plant.now n weights.now m line.now }
+// Only the line that is owed for the two files may be handed over: for every two files of which the bytes held are the whole, or as much as
+// the buffers hold.
+fn write_owed<R: Print + Eprint>(rt: &R, plant: Held, weights: Held, line: &[u8])
+    requires { PrintedOf plant.buffer.now plant.count weights.buffer.now weights.count line.now }
 {
     if rt.write_all(line).is_err() {
         let _ = rt.eprintln("ceiling: the line could not be written to standard output");
     }
 }
 
-// Prints the line for the two files, of which n and m bytes were read into the buffers. A plant has at most `longest_file` bytes and its weights at most 128:
+// Prints the line for the two files. A plant has at most `longest_file` bytes and its weights at most 128:
 // longer files are refused by what the buffers hold of them, if that is one byte more than a plant has, and two more than its weights.
-fn print_line<R: Print + Eprint>(rt: &R, plant: &[u8], n: usize, weights: &[u8], m: usize)
-    requires { IsPrefixLen n plant.now × IsPrefixLen m weights.now × (longest_file < length plant.now) × (130 ≤ length weights.now) }
+fn print_line<R: Print + Eprint>(rt: &R, plant: Held, weights: Held)
+    requires { IsPrefixLen plant.count plant.buffer.now × IsPrefixLen weights.count weights.buffer.now
+        × (longest_file < length plant.buffer.now) × (130 ≤ length weights.buffer.now) }
 {
     let mut line = [0u8; 512];
-    let end = answer_line::write_line(&plant[..n], &weights[..m], &mut line);
-    write_owed(rt, plant, n, weights, m, &line[..end]);
+    let end = answer_line::write_line(plant.bytes(), weights.bytes(), &mut line);
+    write_owed(rt, plant, weights, &line[..end]);
 }
 
 // Reads plant.bin and weights.bin, and prints the line.
@@ -77,5 +88,13 @@ pub fn run<R: Files + Print + Eprint>(rt: &R) {
     let n = read_named(rt, "plant.bin", &mut plant);
     let mut weights = io::buffer();
     let m = read_named(rt, "weights.bin", &mut weights);
-    print_line(rt, &plant, n, &weights, m);
+    let plant = Held {
+        buffer: &plant,
+        count: n,
+    };
+    let weights = Held {
+        buffer: &weights,
+        count: m,
+    };
+    print_line(rt, plant, weights);
 }

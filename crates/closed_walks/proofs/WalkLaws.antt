@@ -6,7 +6,7 @@ use mathlib.Core.List.{List, [], ◌∷◌}
 use Prim.Native.Nat.{ℕ, zero, suc, ◌+◌, ◌*◌, ◌≤◌, ◌<◌}
 use native.Mathlib.Omega.{arith}
 use lib.ListN.{length}
-use lib.IntN.{ℤ}
+use Rattle.edge_lists.specs.declared.Edge.{Edge}
 use lib.Dec.{eqb}
 use borrow.Author.Tests.{eq-eqb, eqb-true}
 use Rattle.livelock.specs.Lists.{below, sum, All}
@@ -26,10 +26,9 @@ pub record Searchable (g : Graph) (states : ℕ) : Type 0 where
   pub light : (e : ℕ) → IsEdge g e → g.plus e ≤ 65535
 
 -- An edge list makes such a graph.
-pub edges_searchable : {count states : ℕ} {edges : List ℤ} → EdgesIn states count edges
-    → Searchable (edge_graph count edges) states
-edges_searchable {count} {states} {edges} ok =
-    record { within = edges_within count states edges ok; states_in = ok.states_in; light = λ e u. ok.rise_in e u.0 }
+pub edges_searchable : {states : ℕ} {edges : List Edge} → EdgesIn states edges → Searchable (edge_graph edges) states
+edges_searchable {states} {edges} ok =
+    record { within = edges_within states edges ok; states_in = ok.states_in; light = λ e u. ok.rise_in e u.0 }
 
 -- A closed walk of edges, from the state a back to it, that weighs zero or more.
 pub record ClosedWalk (g : Graph) (a : ℕ) (es : List ℕ) : Type 0 where

@@ -1,5 +1,5 @@
 -- Closed walks from one start: the heaviest walks of exactly k edges, their first edges, and the least k with which one weighs zero or more.
-use Rattle.std.specs.Prelude.{◌≡◌, cond, List, ℕ, zero, suc, ◌+◌, ◌*◌, ◌≤◌, ◌<◌, length, get_or, eqb}
+use Rattle.std.specs.Prelude.{◌≡◌, cond, List, ℕ, zero, suc, ◌+◌, ◌*◌, ◌≤◌, ◌<◌, length, get_or, eqb, Option, IfSome, MatchOption}
 use Rattle.livelock.specs.Lists.{below, greatest}
 use Rattle.livelock.specs.Graphs.{Graph, IsEdge, via}
 
@@ -16,9 +16,9 @@ heaviest g start (suc k) s = greatest (via g (heaviest g start k) s) (below g.si
 abbrev pub Closes : Graph → ℕ → ℕ → Type 0
 Closes g start k = origin ≤ heaviest g start k start
 
--- The number for state s in the table that begins at `at`.
+-- The number for state s of those that begin at `at`.
 abbrev pub entry : List ℕ → ℕ → ℕ → ℕ
-entry walks at s = get_or walks (at + s) 0
+entry noted at s = get_or noted (at + s) 0
 
 -- The list of first edges has 64 for each state: there is a place for each walk of at most as many edges, and each state.
 abbrev pub NotedRoom : ℕ → List ℕ → Type 0
@@ -34,13 +34,13 @@ pub record FirstEdge (g : Graph) (start k s e : ℕ) : Type 0 where
 abbrev pub FirstEdges : Graph → ℕ → ℕ → ℕ → List ℕ → Type 0
 FirstEdges g states start k edges = (j s : ℕ) → j < k → s < states → 0 < heaviest g start (suc j) s → FirstEdge g start j s (entry edges (j * 64) s)
 
--- k is the least number of edges up to `limit` with which a closed walk from `start` weighs zero or more, or limit + 1 if none does.
-pub record LeastFrom (g : Graph) (start limit k : ℕ) : Type 0 where
-  pub some_edge : 1 ≤ k
-  pub few : k ≤ limit + 1
-  pub closes : k ≤ limit → Closes g start k
-  pub least : (j : ℕ) → 1 ≤ j → j < k → Closes g start j → ⊥
+-- `shortest` is the least number of edges up to `limit` with which a closed walk from `start` weighs zero or more, or `None` if none does.
+pub record LeastFrom (g : Graph) (start limit : ℕ) (shortest : Option ℕ) : Type 0 where
+  pub some_edge : IfSome shortest (λ k. 1 ≤ k)
+  pub few : IfSome shortest (λ k. k ≤ limit)
+  pub closes : IfSome shortest (λ k. Closes g start k)
+  pub least : (j : ℕ) → 1 ≤ j → MatchOption shortest (j ≤ limit) (λ k. j < k) → Closes g start j → ⊥
 
 -- Where it was found, the first edges of the heaviest walks of up to k edges are noted.
-pub record Noted (g : Graph) (states start limit k : ℕ) (edges : List ℕ) : Type 0 where
-  pub first_edges : k ≤ limit → FirstEdges g states start k edges
+abbrev pub Noted : Graph → ℕ → ℕ → Option ℕ → List ℕ → Type 0
+Noted g states start shortest edges = IfSome shortest (λ k. FirstEdges g states start k edges)

@@ -1,17 +1,17 @@
 // Closed walks of an edge list from one start: the least number of edges with which one weighs zero or more. It knows no plant. No entry point:
 // `searching` calls it.
 //
-// `walks` has two tables, from 0 and from 64 on: for each state, the greatest weight of a walk of exactly k edges to the start, and of k + 1 edges.
+// There are two tables of walks: for each state, the greatest weight of a walk of exactly k edges to the start (`shorter`), and of k + 1 edges (`longer`).
 // `noted` has, from 64 × k on, the first edge of a heaviest walk of k + 1 edges from each state, so that the walk found can be written without a search.
 #![tactic(auto)]
 
 ghost use Rattle.std.specs.Prelude.{◌≡◌, ◌≤◌, ◌<◌, length, pos, ◌-ℤ◌};
-ghost use Rattle.std.specs.Int.Signed.{le_z};
 ghost use Rattle.deciding.specs.Rounds.{edge_graph, EdgesIn};
 ghost use Rattle.closed_walks.specs.ClosedWalks.{origin, NotedRoom, LeastFrom, Noted};
-ghost use Rattle.closed_walks.specs.Inner.Rounds.{Cleared, RoundReady, Round};
+ghost use Rattle.closed_walks.specs.Inner.Rounds.{RoundReady, Round};
 
 use deciding::relaxing::{raised, rises};
+use edge_lists::Edge;
 
 // The number that stands for the weight 0 in a table of walks; 0 stands for no walk.
 const ORIGIN: u64 = 1099511627776;
@@ -24,96 +24,49 @@ fn walk_weight(value: u64) -> i64
     value as i64 - ORIGIN as i64
 }
 
-// Whether a weight is zero or more.
-fn zero_or_more(weight: i64) -> bool
-    ensures { result ≡ le_z (pos 0) weight }
+// One edge, and on as far as the table of shorter walks says, from each state, into that of the longer ones; the edge is noted in the first edges from
+// 64 × k on. The number of a is read first: read just before the test, the compiler would store it at every edge, raised or not.
+fn round(edges: &[Edge], shorter: &[u64], longer: &mut [u64], noted: &mut [u8], k: usize)
+    requires { EdgesIn (length shorter.now) edges.now × RoundReady k shorter.now longer.old noted.old }
+    ensures { Round (edge_graph edges.now) (length edges.now) k shorter.now longer.new noted.old noted.new }
 {
-    weight >= 0
-}
-
-// Stores 0 for each state in the table that begins at `at`.
-fn clear(walks: &mut [u64; 128], at: usize, states: usize)
-    requires { (length walks.old ≡ 128) × (at ≤ 64) × (states ≤ 64) }
-    ensures { Cleared states at walks.old walks.new }
-{
-    let mut s = 0;
-    while s < states {
-        walks[at + s] = 0;
-        s += 1;
-    }
-}
-
-// Where the table of the round before begins, and that of this round. Both are variables: from 64 - old the compiler would work out one place from the
-// other at each edge.
-#[derive(Drop)]
-struct Sides {
-    old: usize,
-    new: usize,
-}
-
-// One edge, and on as far as the old table says, from each state, into the new one; the edge is noted in the first edges from 64 × k on.
-// The number of a is read first: read just before the test, the compiler would store it at every edge, raised or not.
-fn round(
-    edges: &[i16],
-    count: usize,
-    states: usize,
-    walks: &mut [u64; 128],
-    sides: Sides,
-    noted: &mut [u8],
-    k: usize,
-)
-    requires { EdgesIn states count edges.now × RoundReady states sides.old sides.new k walks.old noted.old }
-    ensures { Round (edge_graph count edges.now) count states sides.old sides.new k walks.old walks.new noted.old noted.new }
-{
-    let old = sides.old;
-    let new = sides.new;
-    let mut i = 0;
-    while i < count {
-        let a = edge_lists::from_of(edges, i);
-        let at = new + a;
-        let here = walks[at];
-        let b = edge_lists::to_of(edges, i);
-        let next = walks[old + b];
-        let w = edge_lists::weight_of(edges, i);
+    for (i, edge) in edges.iter().enumerate() {
+        let a = usize::from(edge.from);
+        let here = longer[a];
+        let b = usize::from(edge.to);
+        let next = shorter[b];
+        let w = i64::from(edge.weight);
         if rises(here, next, w) {
-            walks[at] = raised(here, next, w);
+            longer[a] = raised(here, next, w);
             noted[k * 64 + a] = i as u8;
         }
-        i += 1;
     }
 }
 
-// The least number of edges up to `limit` with which a closed walk from the start weighs zero or more, or one more than the limit.
+// The least number of edges up to `limit` with which a closed walk from the start weighs zero or more, or none. The two tables have a number for each state.
 pub fn least_from(
-    edges: &[i16],
-    count: usize,
-    states: usize,
+    edges: &[Edge],
     start: usize,
     limit: usize,
-    walks: &mut [u64; 128],
+    shorter: &mut [u64],
+    longer: &mut [u64],
     noted: &mut [u8],
-) -> usize
-    requires { EdgesIn states count edges.now × (start < states) × (limit ≤ states) × (length walks.old ≡ 128) × NotedRoom states noted.old }
-    ensures least_from { LeastFrom (edge_graph count edges.now) start limit result }
-    ensures noted { Noted (edge_graph count edges.now) states start limit result noted.new }
-    ensures walks_len { length walks.new ≡ 128 }
+) -> Option<usize>
+    requires { EdgesIn (length shorter.old) edges.now × (start < length shorter.old) × (limit ≤ length shorter.old) × (length longer.old ≡ length shorter.old) × NotedRoom (length shorter.old) noted.old }
+    ensures least_from { LeastFrom (edge_graph edges.now) start limit result }
+    ensures noted { Noted (edge_graph edges.now) (length shorter.old) start result noted.new }
 {
-    clear(walks, 0, states);
-    walks[start] = ORIGIN;
-    let mut old = 0;
-    let mut new = 64;
-    let mut k = 0;
-    while k < limit {
-        clear(walks, new, states);
-        round(edges, count, states, walks, Sides { old, new }, noted, k);
-        let before = old;
-        old = new;
-        new = before;
-        k += 1;
-        let closed = walk_weight(walks[old + start]);
-        if zero_or_more(closed) {
-            return k;
+    let mut shorter = shorter;
+    let mut longer = longer;
+    shorter.fill(0);
+    shorter[start] = ORIGIN;
+    for k in 0..limit {
+        longer.fill(0);
+        round(edges, shorter, longer, noted, k);
+        std::mem::swap(&mut shorter, &mut longer);
+        if walk_weight(shorter[start]) >= 0 {
+            return Some(k + 1);
         }
     }
-    limit + 1
+    None
 }

@@ -1,13 +1,13 @@
 -- Laws of rows in lists: whether one can happen, and what it leaves.
 use mathlib.Core.Path.{◌≡◌, sym, ap, ◌∙◌, subst}
-use mathlib.Core.Bool.{Bool, true, false, ◌&&◌, false≢true}
+use mathlib.Core.Bool.{Bool, false, ◌&&◌, false≢true}
 use mathlib.Core.Option.{Option, none, some}
 use mathlib.Core.List.{List}
-use Prim.Native.Nat.{ℕ, ◌-◌, ◌≤◌, ◌<◌, ◌^◌}
+use Prim.Native.Nat.{ℕ, ◌-◌, ◌<◌, ◌^◌}
 use native.Mathlib.Decide.{ℕ_discrete}
 use native.Mathlib.Omega.{arith}
 use lib.ListN.{length, get_or, set, length-set}
-use lib.Dec.{ltb, eqb}
+use lib.Dec.{eqb}
 use borrow.Author.Tests.{lt-ltb, eq-eqb, ne_eqb}
 use Rattle.livelock.specs.Plants.{Row, Plant, row_at, row_count}
 use Rattle.livelock.specs.Runs.{row, update, present, removed, added, can_happen, changed}
@@ -15,8 +15,8 @@ use Rattle.livelock.proofs.SumLaws.{update_same, update_other}
 use Rattle.plant.specs.Steps.{type_of}
 use Rattle.tables.specs.Tables.{row_of}
 use Rattle.tables.specs.declared.TableRow.{TableRow}
-use Rattle.configurations.specs.Configurations.{content_in, configuration_in, Room, Removes, Adds, RowCan, RowMoves}
-use Rattle.configurations.proofs.StoreLaws.{stored, a_type, no_type}
+use Rattle.configurations.specs.Configurations.{state_in, content_in, configuration_in, Room, Removes, Adds, RowCan, RowMoves}
+use Rattle.configurations.proofs.StoreLaws.{stored}
 
 -- ---- whether a row can happen
 
@@ -24,44 +24,35 @@ module _ (x : TableRow) (states contents : List ℕ) where
   -- What a plant that has the row asks.
   can_is : (P : Plant) (k : ℕ) → k < row_count P → row_of x ≡ row_at P k
       → can_happen P (configuration_in states contents) (row k)
-      ≡ (eqb (get_or states x.machine 0) x.left && present (content_in contents) (type_of x.taken))
+      ≡ (eqb (get_or states x.machine 0) x.fields.left && present (content_in contents) (type_of x.fields.taken))
   unfolding can_happen
   can_is P k l same =
       ap (λ (b : Bool). b && (eqb (get_or states (row_at P k).machine 0) (row_at P k).left && present (content_in contents) (row_at P k).taken)) (lt-ltb k (row_count P) l)
       ∙ ap (λ (y : Row). eqb (get_or states y.machine 0) y.left && present (content_in contents) y.taken) (sym same)
 
-  -- No machine has that number,
-  pub no_machine : 16 ≤ x.machine → RowCan x states contents false
-  no_machine h = record { machine = λ e. absurd (false≢true e); same = λ l. absurd (omega arith) }
-
-  -- the machine is in another state,
-  pub other_state : (get_or states x.machine 0 ≡ x.left → ⊥) → RowCan x states contents false
+  -- The machine is not in the state left,
+  pub other_state : ((x.machine < 16) × (state_in states x.machine ≡ x.fields.left) → ⊥) → RowCan x states contents false
   other_state n =
       record {
         machine = λ e. absurd (false≢true e);
         same =
             λ h P k l same.
-            sym (can_is P k l same ∙ ap (λ (b : Bool). b && present (content_in contents) (type_of x.taken)) (ne_eqb (get_or states x.machine 0) x.left n));
-      }
-
-  -- or it is in the state left, and the message decides.
-  pub right_state : x.machine < 16 → get_or states x.machine 0 ≡ x.left → (b : Bool) → present (content_in contents) (type_of x.taken) ≡ b → RowCan x states contents b
-  right_state h e b p =
-      record {
-        machine = λ q. h;
-        same =
-            λ h' P k l same.
             sym (can_is P k l same
-            ∙ (ap (λ (c : Bool). c && present (content_in contents) (type_of x.taken)) (eq-eqb (get_or states x.machine 0) x.left e) ∙ p));
+            ∙ ap (λ (b : Bool). b && present (content_in contents) (type_of x.fields.taken)) (ne_eqb (get_or states x.machine 0) x.fields.left (λ e. n (h, e))));
       }
 
--- A row that takes nothing has what it takes,
-pub none_taken : (contents : List ℕ) (t : ℕ) → 64 ≤ t → present (content_in contents) (type_of t) ≡ true
-none_taken contents t h = ap (present (content_in contents)) (no_type t h)
-
--- and one that takes a type has it where a message of it is there.
-pub one_taken : (contents : List ℕ) (t : ℕ) → t < 64 → present (content_in contents) (type_of t) ≡ ltb 0 (get_or contents t 0)
-one_taken contents t h = ap (present (content_in contents)) (a_type t h)
+  -- or it is, and the message decides.
+  pub right_state : (x.machine < 16) × (state_in states x.machine ≡ x.fields.left)
+      → (b : Bool) → b ≡ present (content_in contents) (type_of x.fields.taken) → RowCan x states contents b
+  right_state h b p =
+      record {
+        machine = λ q. h.0;
+        same =
+            λ l' P k l same.
+            p
+            ∙ sym (can_is P k l same
+            ∙ ap (λ (c : Bool). c && present (content_in contents) (type_of x.fields.taken)) (eq-eqb (get_or states x.machine 0) x.fields.left h.1));
+      }
 
 -- ---- what a row leaves
 
@@ -80,23 +71,23 @@ removed_room message before after h room u =
 
 -- The state entered is stored, one message removed and then one added.
 pub row_moves : (x : TableRow) (states contents between after : List ℕ) → x.machine < length states
-    → Removes x.taken contents between → Adds x.sent between after
-    → RowMoves x states contents (set states x.machine x.entered) after
+    → Removes x.fields.taken contents between → Adds x.fields.sent between after
+    → RowMoves x states contents (set states x.machine x.fields.entered) after
 unfolding changed
 row_moves x states contents between after h first second =
     record {
       moves = moved;
-      long_states = length-set states x.machine x.entered;
+      long_states = length-set states x.machine x.fields.entered;
       long_contents = second.long ∙ first.long;
     }
   where
     moved : Room contents → (P : Plant) (k : ℕ) → row_of x ≡ row_at P k
-        → configuration_in (set states x.machine x.entered) after ≡ changed P (configuration_in states contents) (row k)
+        → configuration_in (set states x.machine x.fields.entered) after ≡ changed P (configuration_in states contents) (row k)
     moved room P k same =
         (λ i.
         record {
-          state = stored states x.machine x.entered h i;
-          content = (second.adds (removed_room x.taken contents between first room) ∙ ap (λ (f : ℕ → ℕ). added f (type_of x.sent)) first.removes) i;
+          state = stored states x.machine x.fields.entered h i;
+          content = (second.adds (removed_room x.fields.taken contents between first room) ∙ ap (λ (f : ℕ → ℕ). added f (type_of x.fields.sent)) first.removes) i;
         })
         ∙ ap
         (λ (y : Row).

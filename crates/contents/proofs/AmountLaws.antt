@@ -1,82 +1,76 @@
 -- Laws of the contents, g and d: the first number above a limit, the checks 20 to 22, and the limit of W.
-use mathlib.Core.Path.{◌≡◌, refl, sym, ◌∙◌}
+use mathlib.Core.Path.{◌≡◌, refl, sym, ap, ◌∙◌}
 use mathlib.Core.Logic.{◌≢◌}
 use mathlib.Core.Bool.{Bool, true, false, cond}
-use mathlib.Core.List.{List, [], ◌∷◌}
+use mathlib.Core.List.{List, [], ◌∷◌, ◌++◌}
 use Prim.Native.Nat.{ℕ, zero, suc, ◌+◌, ◌*◌, ◌≤◌, ◌<◌, zero-le}
-use native.Mathlib.Nat.{mul-le-mul}
+use native.Mathlib.Nat.{mul-le-mul, not-suc-le-zero, zero-add, add-zero}
 use native.Mathlib.Omega.{arith}
 use borrow.Author.Tests.{eq-eqb, ne_eqb, lt-ltb, le-ltb, eqb-true, ltb-false}
 use lib.Dec.{eqb, ltb}
-use lib.ListN.{length, get_or, drop, length-append, get_or-append}
-use lib.Seq.{get_or-append-add}
+use lib.ListN.{length, get_or, length-append}
 use Rattle.livelock.specs.Plants.{Plant}
 use Rattle.livelock.specs.Lists.{below, sum}
 use Rattle.livelock.specs.Weights.{weight}
 use Rattle.plant.specs.Found.{found, fault}
 use Rattle.plant.specs.Reading.{no_machines}
-use Rattle.weight_checks.specs.Checks.{first_above}
-use Rattle.livelock.proofs.SumLaws.{sum_limit}
-use Rattle.weight_checks.proofs.CheckLaws.{above_stops, above_goes_on, above_ends, none_above, no_plant, then_found}
-use Rattle.contents.specs.Contents.{content, amounts, checked_amounts, checked_contents, AllAtMost}
+use Rattle.weight_checks.specs.Checks.{first_above, FirstAbove}
+use Rattle.livelock.proofs.SumLaws.{sum_limit, sum_next, sum_none}
+use Rattle.weight_checks.proofs.CheckLaws.{none_above, no_plant, then_found}
+use Rattle.contents.specs.Contents.{content, amounts, checked_amounts, checked_contents, AllAtMost, weight_of_contents}
 use Rattle.contents.specs.Checks.{checked_passing, Checks}
-use Rattle.contents.specs.declared.Check.TheVariants as CheckVariants
+use Rattle.std.specs.Prelude.{Some, None, Ok, sum_by}
+use Rattle.std.specs.List.{zip}
+use Rattle.std.proofs.lemmas.List.Sums.{sum_by-cons}
 
 -- ---- the first number above a limit
 
-module _ (contents last : List ℕ) where
-  -- The last numbers stand behind the contents: there are so many more,
-  pub amounts-length : length (amounts contents last) ≡ length contents + length last
-  amounts-length = length-append contents last
+-- Where a number of a list is above the limit, the first that is stays the first with more numbers behind it,
+pub above_stays : (limit : ℕ) (xs ys : List ℕ) → first_above limit xs < length xs → first_above limit (xs ++ ys) ≡ first_above limit xs
+unfolding first_above
+above_stays limit [] ys l = absurd (not-suc-le-zero l)
+above_stays limit (x ∷ xs) ys l = go (ltb limit x) l (above_stays limit xs ys)
+  where
+    go : (b : Bool) → cond b 0 (suc (first_above limit xs)) < suc (length xs) → (first_above limit xs < length xs → first_above limit (xs ++ ys) ≡ first_above limit xs)
+        → cond b 0 (suc (first_above limit (xs ++ ys))) ≡ cond b 0 (suc (first_above limit xs))
+    go true l rest = refl
+    go false l rest = ap suc (rest (omega (arith, l)))
 
-  -- the numbers before them are the contents,
-  content_at : (i : ℕ) → i < length contents → get_or (amounts contents last) i 0 ≡ get_or contents i 0
-  content_at i l = get_or-append contents last 0 i l
+-- and where none is, it is the first of those behind.
+pub above_behind : (limit : ℕ) (xs ys : List ℕ) → length xs ≤ first_above limit xs → first_above limit (xs ++ ys) ≡ length xs + first_above limit ys
+unfolding first_above
+above_behind limit [] ys l = sym (zero-add _)
+above_behind limit (x ∷ xs) ys l = go (ltb limit x) l (above_behind limit xs ys)
+  where
+    go : (b : Bool) → suc (length xs) ≤ cond b 0 (suc (first_above limit xs)) → (length xs ≤ first_above limit xs → first_above limit (xs ++ ys) ≡ length xs + first_above limit ys)
+        → cond b 0 (suc (first_above limit (xs ++ ys))) ≡ suc (length xs) + first_above limit ys
+    go true l rest = absurd (not-suc-le-zero l)
+    go false l rest = omega (arith, rest (omega (arith, l)))
 
-  -- and behind the contents they follow one another.
-  last_at : (k i : ℕ) → i ≡ length contents + k → get_or (amounts contents last) i 0 ≡ get_or last k 0
-  last_at k i e = rw (e) (get_or-append-add contents last k 0)
+-- The last numbers stand behind the contents: there are so many more.
+pub amounts-length : (contents last : List ℕ) → length (amounts contents last) ≡ length contents + length last
+amounts-length contents last = length-append contents last
 
-  module _ (i x : ℕ) (rest : i + first_above 1000000 (drop i (amounts contents last)) ≡ x) where
-    -- A content above 1,000,000 is the first number above it,
-    pub content_stops : i < length contents → 1000000 < get_or contents i 0 → i ≡ x
-    content_stops l a = above_stops 1000000 (amounts contents last) i x rest (omega (arith, amounts-length)) (rw (content_at i l) a)
+-- A content above 1,000,000 is the first of all numbers,
+pub content_first : (contents last : List ℕ) (i : ℕ) → FirstAbove 1000000 contents (Some i) → FirstAbove 1000000 (amounts contents last) (Some i)
+content_first contents last i h = (h.0 ∙ sym (above_stays 1000000 contents last (omega (arith, h.0, h.1))), omega (arith, h.1, amounts-length contents last))
 
-    -- and one that is not is passed over.
-    pub content_goes_on : i < length contents → get_or contents i 0 ≤ 1000000 → i + 1 + first_above 1000000 (drop (i + 1) (amounts contents last)) ≡ x
-    content_goes_on l a = above_goes_on 1000000 (amounts contents last) i x rest (omega (arith, amounts-length)) (rw (content_at i l) a)
-
-module _ (contents : List ℕ) (g d : ℕ) (i x : ℕ) (rest : i + first_above 1000000 (drop i (amounts contents (g ∷ d ∷ []))) ≡ x) (passed : i ≡ length contents) where
-  abbrev given : List ℕ
-  given = amounts contents (g ∷ d ∷ [])
-
-  -- After the contents two numbers are left, g and then d.
-  inside : i + 1 < length given
-  inside = omega (arith, amounts-length contents (g ∷ d ∷ []))
-
-  g_here : get_or given i 0 ≡ g
-  g_here = last_at contents (g ∷ d ∷ []) 0 i (omega (arith, passed))
-
-  d_here : get_or given (i + 1) 0 ≡ d
-  d_here = last_at contents (g ∷ d ∷ []) 1 (i + 1) (omega (arith, passed))
-
-  -- Behind the contents g above 1,000,000 is the first,
-  pub g_stops : 1000000 < g → length contents ≡ x
-  g_stops a = sym passed ∙ above_stops 1000000 given i x rest (omega (arith, inside)) (rw (g_here) a)
+module _ (contents : List ℕ) (g d : ℕ) (none : FirstAbove 1000000 contents None) where
+  -- else it is g,
+  pub g_first : 1000000 < g → FirstAbove 1000000 (amounts contents (g ∷ d ∷ [])) (Some (length contents))
+  unfolding first_above
+  g_first a = (sym (rw (above_behind 1000000 contents (g ∷ d ∷ []) none, lt-ltb 1000000 g a) (add-zero _)), omega (arith, amounts-length contents (g ∷ d ∷ [])))
 
   module _ (small : g ≤ 1000000) where
-    after_g : i + 1 + first_above 1000000 (drop (i + 1) given) ≡ x
-    after_g = above_goes_on 1000000 given i x rest (omega (arith, inside)) (rw (g_here) small)
+    -- else d,
+    pub d_first : 1000000 < d → FirstAbove 1000000 (amounts contents (g ∷ d ∷ [])) (Some (length contents + 1))
+    unfolding first_above
+    d_first a = (sym (rw (above_behind 1000000 contents (g ∷ d ∷ []) none, le-ltb 1000000 g small, lt-ltb 1000000 d a)), omega (arith, amounts-length contents (g ∷ d ∷ [])))
 
-    -- behind g it is d,
-    pub d_stops : 1000000 < d → length contents + 1 ≡ x
-    d_stops a = omega (arith, passed, above_stops 1000000 given (i + 1) x after_g inside (rw (d_here) a))
-
-    -- and else there is none.
-    pub none_stops : d ≤ 1000000 → i + 2 ≡ x
-    none_stops a =
-        let after-d = above_goes_on 1000000 given (i + 1) x after_g inside (rw (d_here) a) in
-        omega (arith, above_ends 1000000 given (i + 1 + 1) x after-d (omega (arith, amounts-length contents (g ∷ d ∷ []), passed)))
+    -- and else none is.
+    pub none_first : d ≤ 1000000 → FirstAbove 1000000 (amounts contents (g ∷ d ∷ [])) None
+    unfolding first_above
+    none_first a = rw (above_behind 1000000 contents (g ∷ d ∷ []) none, le-ltb 1000000 g small, le-ltb 1000000 d a) (omega (arith, amounts-length contents (g ∷ d ∷ [])))
 
 -- ---- the checks
 
@@ -137,7 +131,7 @@ contents_good contents last Q P k end =
     go false b p q e = no_plant _ _ P end e
 
 -- A check without a fault: the numbers are good.
-pub check_good : (types : ℕ) (contents last : List ℕ) (passes : Bool) → Checks types contents last passes CheckVariants.Good
+pub check_good : (types : ℕ) (contents last : List ℕ) (passes : Bool) → Checks types contents last passes (Ok tt)
     → (length contents ≡ types) × AllAtMost 1000000 contents × AllAtMost 1000000 last
 check_good types contents last passes ok =
     let P : Plant = no_machines types in
@@ -146,6 +140,19 @@ check_good types contents last passes ok =
     (a.one_each, a.small, a.small_last)
 
 -- ---- the weight of the contents
+
+-- A sum over the numbers below n + 1 begins with the term of 0.
+sum_front : (f : ℕ → ℕ) (n : ℕ) → sum f (below (suc n)) ≡ f 0 + sum (λ k. f (suc k)) (below n)
+sum_front f zero = omega (arith, sum_next f 0, sum_none f, sum_none (λ k. f (suc k)))
+sum_front f (suc n) = omega (arith, sum_next f (suc n), sum_front f n, sum_next (λ k. f (suc k)) n)
+
+-- So the sum over the pairs of a weight and a content is the sum over the types.
+pub sum_of_pairs : (ws contents : List ℕ) → length contents ≡ length ws → sum_by (λ p. p.0 * p.1) (zip ws contents) ≡ weight_of_contents ws contents
+sum_of_pairs [] contents e = sym (sum_none _)
+sum_of_pairs (w ∷ ws) [] e = absurd (omega (arith, e))
+sum_of_pairs (w ∷ ws) (x ∷ contents) e =
+    sum_by-cons (λ p. p.0 * p.1) (w, x) (zip ws contents)
+    ∙ (ap (λ (k : ℕ). w * x + k) (sum_of_pairs ws contents (omega (arith, e))) ∙ sym (sum_front (λ t. weight (w ∷ ws) t * content (x ∷ contents) t) (length ws)))
 
 -- The sum of weight times content over at most 64 types is at most 64 × 1,000 × 1,000,000.
 pub contents_limit : (ws contents : List ℕ) (n : ℕ) → n ≤ 64 → AllAtMost 1000 ws → AllAtMost 1000000 contents → sum (λ t. weight ws t * content contents t) (below n) ≤ 64000000000

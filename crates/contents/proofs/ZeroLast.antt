@@ -1,9 +1,8 @@
 -- A last number that is 0 changes no check: number 21 speaks of the same numbers, at the same places.
-use mathlib.Core.Path.{◌≡◌, refl, sym, ap}
+use mathlib.Core.Path.{◌≡◌, refl, sym}
 use mathlib.Core.Bool.{Bool, true, false, cond}
 use mathlib.Core.List.{List, [], ◌∷◌, ◌++◌, append_assoc}
-use Prim.Native.Nat.{ℕ, suc, ◌≤◌, ◌<◌, zero-le}
-use native.Mathlib.Nat.{not-suc-le-zero}
+use Prim.Native.Nat.{ℕ, ◌≤◌, zero-le}
 use native.Mathlib.Omega.{arith}
 use borrow.Author.Tests.{lt-ltb, le-ltb, ltb-true, ltb-false}
 use lib.Dec.{ltb}
@@ -11,31 +10,13 @@ use lib.ListN.{length, length-append}
 use Rattle.livelock.specs.Plants.{Plant}
 use Rattle.plant.specs.Found.{found, fault}
 use Rattle.weight_checks.specs.Checks.{first_above}
+use Rattle.contents.proofs.AmountLaws.{above_stays, above_behind}
 use Rattle.contents.specs.Contents.{amounts, checked_amounts, checked_contents}
 
--- A 0 behind a list is above no limit. Where a number of the list is above it, the first that is stays the first,
-first_stays : (limit : ℕ) (xs : List ℕ) → first_above limit xs < length xs → first_above limit (xs ++ (0 ∷ [])) ≡ first_above limit xs
-unfolding first_above
-first_stays limit [] l = absurd (not-suc-le-zero l)
-first_stays limit (x ∷ xs) l = go (ltb limit x) l (first_stays limit xs)
-  where
-    go : (b : Bool) → cond b 0 (suc (first_above limit xs)) < suc (length xs)
-        → (first_above limit xs < length xs → first_above limit (xs ++ (0 ∷ [])) ≡ first_above limit xs)
-        → cond b 0 (suc (first_above limit (xs ++ (0 ∷ [])))) ≡ cond b 0 (suc (first_above limit xs))
-    go true l rest = refl
-    go false l rest = ap suc (rest (omega (arith, l)))
-
--- and where none is, there is none still.
+-- A 0 behind a list is above no limit, so where no number of the list is, none is still.
 none_still : (limit : ℕ) (xs : List ℕ) → length xs ≤ first_above limit xs → length (xs ++ (0 ∷ [])) ≤ first_above limit (xs ++ (0 ∷ []))
 unfolding first_above
-none_still limit [] l = rw (le-ltb limit 0 zero-le) (omega arith)
-none_still limit (x ∷ xs) l = go (ltb limit x) l (none_still limit xs)
-  where
-    go : (b : Bool) → suc (length xs) ≤ cond b 0 (suc (first_above limit xs))
-        → (length xs ≤ first_above limit xs → length (xs ++ (0 ∷ [])) ≤ first_above limit (xs ++ (0 ∷ [])))
-        → suc (length (xs ++ (0 ∷ []))) ≤ cond b 0 (suc (first_above limit (xs ++ (0 ∷ []))))
-    go true l rest = absurd (not-suc-le-zero l)
-    go false l rest = omega (arith, rest (omega (arith, l)))
+none_still limit xs l = rw (above_behind limit xs (0 ∷ []) l, le-ltb limit 0 zero-le) (omega (arith, length-append xs (0 ∷ [])))
 
 module _ (contents last : List ℕ) (P : Plant) (end : ℕ) where
   -- So number 21 is found for the same numbers, at the same place,
@@ -51,7 +32,7 @@ module _ (contents last : List ℕ) (P : Plant) (end : ℕ) where
           ≡ cond b (fault 21 (first_above 1000000 given)) (found P end)
       go true e =
           let l = ltb-true _ _ e in
-          rw (first_stays 1000000 given l, lt-ltb (first_above 1000000 given) (length (given ++ (0 ∷ []))) (omega (arith, l, length-append given (0 ∷ [])))) refl
+          rw (above_stays 1000000 given (0 ∷ []) l, lt-ltb (first_above 1000000 given) (length (given ++ (0 ∷ []))) (omega (arith, l, length-append given (0 ∷ [])))) refl
       go false e = rw (le-ltb (first_above 1000000 (given ++ (0 ∷ []))) (length (given ++ (0 ∷ []))) (none_still 1000000 given (ltb-false _ _ e))) refl
 
   -- and the checks of the contents say the same.

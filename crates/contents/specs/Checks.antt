@@ -1,25 +1,15 @@
 -- What the functions that check the contents, g and d give (document 01, "Where each fault is found", 20 to 22).
-use Rattle.std.specs.Prelude.{◌≡◌, Bool, cond, List, ℕ}
+use Rattle.std.specs.Prelude.{◌≡◌, Bool, cond, List, ℕ, Result}
 use Rattle.livelock.specs.Plants.{Plant}
 use Rattle.plant.specs.Found.{Found, found, fault, and_then}
-use Rattle.plant.specs.Steps.{fault_found}
+use Rattle.plant.specs.declared.Fault.{Fault}
+use Rattle.weight_checks.specs.Checks.{check_found}
 use Rattle.contents.specs.Contents.{checked_contents}
-use Rattle.contents.specs.declared.Check.{Check}
-use Rattle.contents.specs.declared.Check.TheVariants as Variants
 
 -- "22 | the weights do not pass | 0", after 20 and 21.
 abbrev pub checked_passing : (contents last : List ℕ) → Bool → Plant → ℕ → Found Plant
 checked_passing contents last passes P end = and_then (checked_contents contents last P end) (λ Q e. cond passes (found Q e) (fault 22 0))
 
--- What a check says of a plant.
-abbrev pub check_found : Check → Plant → ℕ → Found Plant
-check_found Variants.Good P end = found P end
-check_found (Variants.Fault f) P end = fault_found f
-
--- The check says this fault of every plant.
-abbrev pub Refuses : ℕ → ℕ → Check → Type 0
-Refuses number place r = (P : Plant) (end : ℕ) → check_found r P end ≡ fault number place
-
 -- The check is that of every plant with so many types.
-abbrev pub Checks : ℕ → (contents last : List ℕ) → Bool → Check → Type 0
+abbrev pub Checks : ℕ → (contents last : List ℕ) → Bool → Result (Unit {0}) Fault → Type 0
 Checks types contents last passes r = (P : Plant) (end : ℕ) → P.types ≡ types → check_found r P end ≡ checked_passing contents last passes P end

@@ -2,64 +2,59 @@
 #![tactic(auto)]
 
 ghost use Rattle.std.specs.Prelude.{◌≡◌, [], ◌∷◌, ◌≤◌, length};
-ghost use Rattle.weight_checks.specs.Checks.{first_above};
+ghost use Rattle.weight_checks.specs.Checks.{FirstAbove};
 ghost use Rattle.contents.specs.Contents.{amounts, AllAtMost, weight_of_contents};
-ghost use Rattle.contents.specs.Checks.{Refuses, Checks};
+ghost use Rattle.contents.specs.Checks.{Checks};
 
-use plant::Fault;
+use plant::{Fault, Refusal};
 
-// Whether the numbers given are good and the weights pass, or the fault.
-#[derive(Drop)]
-pub enum Check {
-    Good,
-    Fault(Fault),
-}
-
-// The index of the first number above 1,000,000 among the contents, g and d, which stand behind them; without one, the index after d.
-fn first_above(contents: &[u32], g: u32, d: u32) -> usize
+// The index of the first number above 1,000,000 among the contents, g and d, which stand behind them.
+fn first_above(contents: &[u32], g: u32, d: u32) -> Option<usize>
     requires { length contents.now ≤ 64 }
-    ensures { result ≡ first_above 1000000 (amounts contents.now (g ∷ d ∷ [])) }
+    ensures { FirstAbove 1000000 (amounts contents.now (g ∷ d ∷ [])) result }
 {
-    let mut i = 0;
-    while i < contents.len() {
-        if contents[i] > 1000000 {
-            return i;
-        }
-        i += 1;
+    if let Some(place) = contents.iter().position(|content| *content > 1000000) {
+        return Some(place);
     }
     if g > 1000000 {
-        return contents.len();
+        return Some(contents.len());
     }
     if d > 1000000 {
-        return contents.len() + 1;
+        return Some(contents.len() + 1);
     }
-    i + 2
-}
-
-// The refusal of this number and place.
-fn refused(number: u8, place: usize) -> Check
-    ensures { Refuses number place result }
-{
-    Check::Fault(Fault { number, place })
+    None
 }
 
 // The first of the faults 20, 21 and 22.
-pub fn check_numbers(types: usize, contents: &[u32], g: u32, d: u32, passes: bool) -> Check
+pub fn check_numbers(
+    types: usize,
+    contents: &[u32],
+    g: u32,
+    d: u32,
+    passes: bool,
+) -> Result<(), Fault>
     requires { types ≤ 64 }
     ensures { Checks types contents.now (g ∷ d ∷ []) passes result }
 {
     if contents.len() != types {
-        return refused(20, 0);
+        return Err(Fault {
+            refusal: Refusal::ContentCount,
+            place: 0,
+        });
     }
-    let above = first_above(contents, g, d);
-    let last = types + 1;
-    if above <= last {
-        return refused(21, above);
+    if let Some(place) = first_above(contents, g, d) {
+        return Err(Fault {
+            refusal: Refusal::AmountLimit,
+            place,
+        });
     }
     if !passes {
-        return refused(22, 0);
+        return Err(Fault {
+            refusal: Refusal::NotPassing,
+            place: 0,
+        });
     }
-    Check::Good
+    Ok(())
 }
 
 // W: the sum of weight times content.
@@ -67,11 +62,9 @@ pub fn contents_weight(weights: &[u16], contents: &[u32]) -> u64
     requires { (length weights.now ≤ 64) × (length contents.now ≡ length weights.now) × AllAtMost 1000 weights.now × AllAtMost 1000000 contents.now }
     ensures { result ≡ weight_of_contents weights.now contents.now }
 {
-    let mut sum = 0;
-    let mut t = 0;
-    while t < weights.len() {
-        sum += weights[t] as u64 * contents[t] as u64;
-        t += 1;
-    }
-    sum
+    weights
+        .iter()
+        .zip(contents)
+        .map(|(weight, content)| u64::from(*weight) * u64::from(*content))
+        .sum()
 }

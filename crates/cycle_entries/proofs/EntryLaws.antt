@@ -1,32 +1,27 @@
 -- Laws of storing and counting the entry of one cycle.
-use mathlib.Core.Path.{◌≡◌}
-use mathlib.Core.List.{List, [], ◌∷◌}
-use Prim.Native.Nat.{ℕ, suc, ◌+◌, ◌<◌, ◌≤◌, min}
+use mathlib.Core.Path.{◌≡◌, ap, sym, ◌∙◌}
+use mathlib.Core.List.{List, [], ◌∷◌, ◌++◌, append_assoc}
+use Prim.Native.Nat.{ℕ, suc, ◌+◌, ◌≤◌}
 use native.Mathlib.Numerals.{add-one}
 use native.Mathlib.Omega.{arith}
-use lib.ListN.{length, set, take, length-append}
-use lib.Seq.{sets, length-take-le}
+use borrow.Rule.Slice.PartMut.{put_mid}
+use lib.ListN.{length, set, take, drop, length-append}
+use lib.Seq.{sets, sets-eq, drop-drop}
 use Rattle.livelock.proofs.StoreLaws.{sets_append}
-use Rattle.cycle_entries.specs.Entries.{entry_of, Added}
+use Rattle.cycle_entries.specs.Entries.{entry_of}
+
+-- A part that is written over is stored one number after the other.
+pub put_stored : (list part : List ℕ) (pos n : ℕ) → length part ≡ n → pos + n ≤ length list → put_mid pos n list part ≡ sets list pos part
+put_stored list part pos n e h =
+    ap (λ (z : List ℕ). take pos list ++ (part ++ z)) (drop-drop n pos list)
+    ∙ ap (λ (m : ℕ). take pos list ++ (part ++ drop (pos + m) list)) (sym e)
+    ∙ sym (append_assoc (take pos list) part (drop (pos + length part) list))
+    ∙ sym (sets-eq part list pos (omega (arith, e)))
 
 -- The row count, the rows of a path and one row more are a cycle's entry.
-pub sets_entry : (path l out : List ℕ) (pos depth row i : ℕ) → depth ≤ length path → i ≡ depth → out ≡ sets (set l pos (depth + 1)) (pos + 1) (take i path)
-    → set out (pos + 1 + depth) row ≡ sets l pos (entry_of (take depth path) row)
-sets_entry path l out pos depth row i h g e =
-    rw (e, g, add-one pos, length-take-le depth path h, sets_append (take depth path) (row ∷ []) (set l pos (depth + 1)) (suc pos), length-take-le depth path h)
+pub sets_entry : (path list : List ℕ) (pos row : ℕ) → set (sets (set list pos (length path + 1)) (pos + 1) path) (pos + 1 + length path) row ≡ sets list pos (entry_of path row)
+sets_entry path list pos row = rw (add-one pos, sets_append path (row ∷ []) (set list pos (length path + 1)) (suc pos))
 
 -- The length of a cycle's entry.
-entry_length : (path : List ℕ) (depth k : ℕ) → depth ≤ length path → length (entry_of (take depth path) k) ≡ depth + 2
-entry_length path depth k h = rw (length-append (take depth path) (k ∷ []), length-take-le depth path h) (omega arith)
-
-module _ (out path : List ℕ) (pos depth row limit : ℕ) (d : depth ≤ length path) where
-  -- A cycle that was stored is added,
-  pub added_stored : pos + depth + 2 ≤ length out → length out ≤ limit → (used : ℕ) (after : List ℕ) → used ≡ pos + depth + 2
-      → after ≡ sets out pos (entry_of (take depth path) row) → Added limit out pos (entry_of (take depth path) row) used after
-  added_stored h l used after e o = record { counted = omega (arith, entry_length path depth row d); stored = λ i. o }
-
-  -- and so is one that was only counted for want of room.
-  pub added_counted : length out < pos + depth + 2 → (used : ℕ) → used ≡ min (suc limit) (pos + depth + 2)
-      → Added limit out pos (entry_of (take depth path) row) used out
-  added_counted h used e =
-      record { counted = omega (arith, entry_length path depth row d); stored = λ i. absurd (omega (arith, entry_length path depth row d)) }
+pub entry_length : (path : List ℕ) (row : ℕ) → length (entry_of path row) ≡ length path + 2
+entry_length path row = rw (length-append path (row ∷ [])) (omega arith)

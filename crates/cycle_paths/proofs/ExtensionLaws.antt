@@ -22,6 +22,7 @@ use Rattle.cycle_paths.specs.declared.Step.TheVariants as Steps
 use Rattle.cycle_paths.specs.Cycles.{unleft, joined, paths_by, paths, left_only, cycles_by}
 use Rattle.cycle_paths.specs.Listings.{In, flattened}
 use Rattle.cycle_paths.specs.Rows.{up_from, Linked, Searchable}
+use Rattle.graphs.specs.declared.Graph.{Graph}
 use Rattle.graphs.specs.Graphs.{last_of}
 use Rattle.state_marks.specs.Marks.{column, Sources, BelowOnly, Closed, marks_of}
 use Rattle.cycle_entries.specs.Entries.{entry_of, Added}
@@ -380,7 +381,7 @@ path_kept depth k path₀ path path' p q =
 -- ---- the first rows of the cycles, one after the other
 
 -- A graph that has its rows has them up to the number that it keeps.
-pub searchable_last : {graph : List ℕ} {first last : ℕ} → Searchable graph first last → Searchable graph first (last_of graph)
+pub searchable_last : {graph : Graph} {first last : ℕ} → Searchable graph first last → Searchable graph first (last_of graph)
 searchable_last {graph} {first} s = subst (Searchable graph first) (sym s.last_is) s
 
 -- No more states are not yet left than there are.

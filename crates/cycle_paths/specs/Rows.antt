@@ -1,5 +1,6 @@
 -- Rows from one number on, and rows linked by the state that they leave.
 use Rattle.std.specs.Prelude.{◌≡◌, List, [], ◌∷◌, ℕ, zero, suc, ◌≤◌, ◌<◌, length}
+use Rattle.graphs.specs.declared.Graph.{Graph}
 use Rattle.graphs.specs.Graphs.{left_of, entered_of, next_of, head_of, into_of, last_of}
 use Rattle.state_marks.specs.Marks.{column, RowsBelow, Sources}
 
@@ -20,7 +21,7 @@ pub record Linked (left next head : List ℕ) (first last : ℕ) : Type 0 where
   pub head_first : (s j : ℕ) → s < 24 → first ≤ j → j < column head s → column left j ≡ s → ⊥
 
 -- A graph has the rows from `first` up to, and not including, `last`, of states below 24, with their links and sources.
-pub record Searchable (graph : List ℕ) (first last : ℕ) : Type 0 where
+pub record Searchable (graph : Graph) (first last : ℕ) : Type 0 where
   pub left_in : RowsBelow (left_of graph) first last
   pub entered_in : RowsBelow (entered_of graph) first last
   pub links : Linked (left_of graph) (next_of graph) (head_of graph) first last

@@ -7,7 +7,8 @@ use Prim.Native.Nat.{ℕ, zero, suc, ◌+◌, ◌*◌, ◌≤◌, ◌<◌}
 use native.Mathlib.Nat.{mul-le-mul_left}
 use native.Mathlib.Omega.{arith}
 use lib.Dec.{ltb, le→leb}
-use lib.ListN.{length, get_or, length-append}
+use lib.ListN.{length, get_or, take, length-append}
+use lib.Seq.{length-take-le, get_or-take}
 use lib.IntN.{ℤ, pos, negsuc, nat_abs}
 use lib.Signed.{lt_z, ◌≤ℤ◌, le_z_yes}
 use borrow.Author.Tests.{le-ltb}
@@ -20,15 +21,15 @@ use Rattle.livelock.proofs.CycleSetLaws.{set_sent, set_taken, set_difference, so
 use Rattle.plant.specs.Found.{Found, found, fault, and_then}
 use Rattle.plant.specs.Reading.{read_plant}
 use Rattle.plant.specs.declared.Fault.{Fault}
-use Rattle.plant.specs.declared.End.{End}
-use Rattle.plant.specs.declared.End.TheVariants as Ends
+use Rattle.plant.specs.Refusals.{number_of}
+use Rattle.std.specs.Prelude.{Result, Ok, Err}
 use Rattle.plant.proofs.Bounds.{one_bit}
 use Rattle.plant.proofs.OneToOne.{same_fault}
-use Rattle.cycle_sets.specs.Answers.{Answer, confirmed, refused, answer_of}
+use Rattle.cycle_sets.specs.Answers.{Answer, confirmed, answer_of}
 use Rattle.set_numbers.specs.Numbers.{entry_begins}
 use Rattle.set_entries.specs.Sets.{entry_at, entries_at, read_set}
 use Rattle.cycle_sets.specs.Confirming.{lowest_negative, set_answer, owed, ReadsBalanced}
-use Rattle.cycle_sets.specs.Inner.Judging.{JudgedAs, entries_read, fault_met}
+use Rattle.cycle_sets.specs.Inner.Judging.{JudgedAs, entries_read}
 use Rattle.cycle_sets.specs.declared.Confirmation.{Confirmation}
 use Rattle.cycle_sets.specs.declared.Confirmation.TheVariants as Variants
 use Rattle.set_numbers.proofs.FoundLaws.{value_same}
@@ -154,34 +155,22 @@ confirmed_iff file set a e = (λ h. of_file (read_plant file) refl (sym e ∙ h)
         ap (λ (x : Found Plant). owed x set) r.file_reads
         ∙ (ap (set_answer r.plant) r.set_reads ∙ no_sum_below r.plant set r.entries r.set_end r.set_reads r.balanced)
 
--- Both promises of the answer follow from the first.
-pub answered : (file set : List ℕ) (a : Answer) → a ≡ owed (read_plant file) set → (a ≡ owed (read_plant file) set) × ((a ≡ confirmed) ↔ ReadsBalanced file set)
-answered file set a e = (e, confirmed_iff file set a e)
-
 -- ---- the answer, from what was judged
 
--- The fault of a file is handed on.
-pub file_refused : (file set : List ℕ) (number place : ℕ) → read_plant file ≡ fault number place → refused number place ≡ owed (read_plant file) set
-file_refused file set number place e = rw e
-
-module _ (file set : List ℕ) (P : Plant) (end : ℕ) (reads : read_plant file ≡ found P end) (sums : List ℤ) (r : End) (judged : JudgedAs P sums r (read_set P set)) where
+module _ (file set : List ℕ) (P : Plant) (end : ℕ) (reads : read_plant file ≡ found P end) where
   -- For a file that reads as a plant, what is owed is what is owed for the plant.
   of_plant : set_answer P (read_set P set) ≡ owed (read_plant file) set
   of_plant = ap (λ (x : Found Plant). owed x set) (sym reads)
 
-  -- The fault of a list is handed on,
-  pub set_refused : (f : Fault) → r ≡ Ends.Fault f → refused f.number f.place ≡ owed (read_plant file) set
-  set_refused f e = go (read_set P set) (subst (λ (x : End). JudgedAs P sums x (read_set P set)) e judged) ∙ of_plant
+  -- The sums of a set, one for each type, are looked through.
+  pub sums_answer : (sums : List ℤ) (n : ℕ) → n ≡ P.types → n ≤ length sums → JudgedAs P (Ok sums) (read_set P set)
+      → lowest_negative (λ t. get_or (take n sums) t (pos 0)) 0 (length (take n sums)) ≡ owed (read_plant file) set
+  sums_answer sums n is room judged = rw (length-take-le n sums room) (go (read_set P set) judged ∙ of_plant)
     where
-      go : (x : Found (List Entry)) → JudgedAs P sums (Ends.Fault f) x → refused f.number f.place ≡ set_answer P x
-      go x fault_met = refl
-
-  -- and the sums of a set are looked through.
-  pub sums_answer : (next : ℕ) → r ≡ Ends.At next → lowest_negative (λ t. get_or sums t (pos 0)) 0 P.types ≡ owed (read_plant file) set
-  sums_answer next e = go (read_set P set) (subst (λ (x : End). JudgedAs P sums x (read_set P set)) e judged) ∙ of_plant
-    where
-      go : (x : Found (List Entry)) → JudgedAs P sums (Ends.At next) x → lowest_negative (λ t. get_or sums t (pos 0)) 0 P.types ≡ set_answer P x
-      go x (entries_read {es = es} h) = lowest_same (λ t. get_or sums t (pos 0)) (set_effect P es) 0 P.types (λ t l. h t)
+      go : (x : Found (List Entry)) → JudgedAs P (Ok sums) x → lowest_negative (λ t. get_or (take n sums) t (pos 0)) 0 n ≡ set_answer P x
+      go x (entries_read {es = es} h) =
+          lowest_same (λ t. get_or (take n sums) t (pos 0)) (set_effect P es) 0 n (λ t l. get_or-take n sums t (pos 0) (omega arith) ∙ h t)
+          ∙ ap (lowest_negative (set_effect P es) 0) is
 
 -- ---- how large sums can be
 
@@ -220,16 +209,16 @@ sums_bounded P set es end t q =
 -- ---- different answers never mean the same
 
 -- The numbers and values of `answer_of` tell the answers apart.
-pub one_to_one : (a b : Confirmation) → answer_of a ≡ answer_of b → a ≡ b
-one_to_one Variants.Confirmed Variants.Confirmed e = refl
-one_to_one Variants.Confirmed (Variants.Negative m s) e = cc
-one_to_one Variants.Confirmed (Variants.Refused g) e = cc
-one_to_one (Variants.Negative m s) Variants.Confirmed e = cc
-one_to_one (Variants.Negative m s) (Variants.Negative m' s') e = cc
-one_to_one (Variants.Negative m s) (Variants.Refused g) e = cc
-one_to_one (Variants.Refused f) Variants.Confirmed e = cc
-one_to_one (Variants.Refused f) (Variants.Negative m s) e = cc
-one_to_one (Variants.Refused f) (Variants.Refused g) e =
-    let n : f.number ≡ g.number = cc in
+pub one_to_one : (a b : Result Confirmation Fault) → answer_of a ≡ answer_of b → a ≡ b
+one_to_one (Ok Variants.Confirmed) (Ok Variants.Confirmed) e = refl
+one_to_one (Ok Variants.Confirmed) (Ok (Variants.Negative m s)) e = cc
+one_to_one (Ok Variants.Confirmed) (Err g) e = cc
+one_to_one (Ok (Variants.Negative m s)) (Ok Variants.Confirmed) e = cc
+one_to_one (Ok (Variants.Negative m s)) (Ok (Variants.Negative m' s')) e = cc
+one_to_one (Ok (Variants.Negative m s)) (Err g) e = cc
+one_to_one (Err f) (Ok Variants.Confirmed) e = cc
+one_to_one (Err f) (Ok (Variants.Negative m s)) e = cc
+one_to_one (Err f) (Err g) e =
+    let n : number_of f.refusal ≡ number_of g.refusal = cc in
     let q : f.place ≡ g.place = cc in
-    ap Variants.Refused (same_fault f g n q)
+    ap Err (same_fault f g n q)

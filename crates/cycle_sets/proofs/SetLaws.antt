@@ -22,7 +22,8 @@ use Rattle.plant.specs.Found.{found, fault, and_then}
 use Rattle.decoding.specs.Tables.{plant_of, Ready}
 use Rattle.decoding.specs.declared.Shape.{Shape}
 use Rattle.plant.specs.declared.Fault.{Fault}
-use Rattle.plant.specs.declared.End.TheVariants as Ends
+use Rattle.plant.specs.Refusals.{number_of}
+use Rattle.std.specs.Prelude.{Ok, Err}
 use Rattle.decoding.proofs.TableLaws.{rows_counted}
 use Rattle.set_numbers.specs.Numbers.{entry_begins, part}
 use Rattle.set_entries.specs.Sets.{entry_at, entries_at, read_set}
@@ -105,12 +106,12 @@ module _ (s : Shape) (table set : List ℕ) where
 
   module _ (before at : ℕ) (sums : List ℤ) (g : Going before at sums) where
     -- A fault met is the set's.
-    stops : (number place : ℕ) → fault number place ≡ read_set P set → JudgedAs P sums (Ends.Fault (record { number = number; place = place })) (read_set P set)
-    stops number place e = subst (JudgedAs P sums (Ends.Fault (record { number = number; place = place }))) e (fault_met {number = number} {place = place})
+    stops : (f : Fault) → fault (number_of f.refusal) f.place ≡ read_set P set → JudgedAs P (Err f) (read_set P set)
+    stops f e = subst (JudgedAs P (Err f)) e fault_met
 
     -- Where no entry begins, that is the fault.
-    pub no_entry : (f : Fault) → entry_begins (256 - before) set at ≡ fault f.number f.place → JudgedAs P sums (Ends.Fault f) (read_set P set)
-    no_entry f h = stops f.number f.place (sym (begin_stops P set g.entries at (256 - before) f.number f.place h) ∙ g.rest)
+    pub no_entry : (f : Fault) → entry_begins (256 - before) set at ≡ fault (number_of f.refusal) f.place → JudgedAs P (Err f) (read_set P set)
+    no_entry f h = stops f (sym (begin_stops P set g.entries at (256 - before) (number_of f.refusal) f.place h) ∙ g.rest)
 
     module _ (a : ℕ) (begins : entry_begins (256 - before) set at ≡ found tt a) where
       -- Where one begins, fewer than 256 came before it.
@@ -124,8 +125,8 @@ module _ (s : Shape) (table set : List ℕ) where
           sym (begin_goes_on P set g.entries at (256 - (before + 1)) a (rw n at begins)) ∙ (rw n at g.rest)
 
       -- A fault of the entry is the set's.
-      pub entry_stops : (f : Fault) → fault f.number f.place ≡ entry_at P set at → JudgedAs P sums (Ends.Fault f) (read_set P set)
-      entry_stops f h = stops f.number f.place (rw (← h) at one_more)
+      pub entry_stops : (f : Fault) → fault (number_of f.refusal) f.place ≡ entry_at P set at → JudgedAs P (Err f) (read_set P set)
+      entry_stops f h = stops f (rw (← h) at one_more)
 
       module _ (ready : Ready s table) (next : ℕ) (h : found (entry_in set at) next ≡ entry_at P set at) where
         -- The entry that is read, what it is, and its rows.
@@ -184,5 +185,5 @@ module _ (s : Shape) (table set : List ℕ) where
               }
 
           -- where it ends, the set is read.
-          pub finished : length set ≤ next → JudgedAs P after (Ends.At next) (read_set P set)
-          finished l = subst (JudgedAs P after (Ends.At next)) (rw (le-ltb next (length set) l) at ends) (entries_read next_sums)
+          pub finished : length set ≤ next → JudgedAs P (Ok after) (read_set P set)
+          finished l = subst (JudgedAs P (Ok after)) (rw (le-ltb next (length set) l) at ends) (entries_read next_sums)

@@ -1,6 +1,10 @@
 -- Laws of deciding: relaxation in place with the lengths 1 + n × weight, and what it says of the weights.
 use mathlib.Core.Path.{◌≡◌, refl, sym, ap, ◌∙◌, subst}
-use mathlib.Core.Logic.{◌≢◌, ◌⊎◌, inl, inr}
+use Rattle.std.specs.Prelude.{Option, Some, None, IsSome, IsNone}
+use Rattle.std.specs.Option.{unwrap_or}
+use Rattle.std.proofs.lemmas.Option.{none-some, same_Some}
+use Rattle.edge_lists.specs.declared.Edge.{Edge}
+use mathlib.Core.Logic.{◌⊎◌, inl, inr}
 use mathlib.Core.Bool.{true, false}
 use mathlib.Core.List.{List}
 use Prim.Native.Nat.{ℕ, ◌+◌, ◌-◌, ◌*◌, ◌≤◌, ◌<◌, max}
@@ -10,7 +14,8 @@ use native.Mathlib.Numerals.{add-one}
 use native.Mathlib.Omega.{arith}
 use borrow.Author.Tests.{ltb-true, ltb-false}
 use lib.Dec.{ltb}
-use lib.ListN.{length, get_or, set, replicate, get_or-replicate, length-replicate, length-set, get_or-eq_default}
+use Rattle.std.proofs.lemmas.List.{take-replicate}
+use lib.ListN.{length, get_or, set, take, replicate, get_or-replicate, length-replicate, length-set, get_or-eq_default}
 use lib.Seq.{get_or-set_same, get_or-set_other}
 use lib.IntN.{ℤ, pos, ◌+ℤ◌, ◌*ℤ◌}
 use Rattle.livelock.specs.Lists.{sum}
@@ -25,8 +30,8 @@ use Rattle.deciding.specs.Rounds.{edge_graph, EdgesIn, AtMost, WalkLengths, Pass
 use Rattle.deciding.proofs.SignLaws.{rise_fall, rise_at_most, fall_at_most, difference_same, difference_length}
 
 -- Every edge of the list leads from one of the states to one of them.
-pub edges_within : (count states : ℕ) (edges : List ℤ) → EdgesIn states count edges → Within (edge_graph count edges) states
-edges_within count states edges ok e u = (ok.from_in e u.0, ok.to_in e u.0)
+pub edges_within : (states : ℕ) (edges : List Edge) → EdgesIn states edges → Within (edge_graph edges) states
+edges_within states edges ok e u = (ok.from_in e u.0, ok.to_in e u.0)
 
 -- ---- the length of an edge
 
@@ -48,7 +53,7 @@ module _ (n : ℕ) (z : ℤ) where
 -- ---- one pass
 
 -- With no edge relaxed yet.
-pub pass_starts : (g : Graph) (before : List ℕ) → Pass g 0 before before g.size
+pub pass_starts : (g : Graph) (before : List ℕ) → Pass g 0 before before None
 pass_starts g before =
     record {
       same_length = refl;
@@ -56,9 +61,9 @@ pass_starts g before =
       along = λ e l. absurd (not-suc-le-zero l);
       attained = λ w. w;
       rises = λ most h s. omega (arith, h s);
-      last_in = le_refl _;
+      last_in = λ e q. absurd (none-some e q);
       kept = λ e. refl;
-      raised = λ e. absurd (omega (arith, e));
+      raised = λ q. absurd (cc);
     }
 
 -- What holds of v at a, and of each entry, holds of each entry after v is stored at a.
@@ -71,7 +76,7 @@ after_store table a v room F here each s = go (ℕ_discrete s a)
 
 -- Edge i, after the edges before it. No height falls, so what held along the edges before still holds;
 -- and the height that edge i asks for is reached, since that of its end is no lower than before the pass.
-module _ (g : Graph) (i : ℕ) (before now : List ℕ) (last : ℕ) (so_far : Pass g i before now last) where
+module _ (g : Graph) (i : ℕ) (before now : List ℕ) (last : Option ℕ) (so_far : Pass g i before now last) where
   along_next : (after : List ℕ) → ((s : ℕ) → get_or now s 0 ≤ get_or after s 0) → g.plus i + get_or now (g.dst i) 0 ≤ get_or after (g.src i) 0 + g.minus i
       → (e : ℕ) → e < i + 1 → g.plus e + get_or before (g.dst e) 0 ≤ get_or after (g.src e) 0 + g.minus e
   along_next after grown here e l = go (ℕ_discrete e i)
@@ -89,7 +94,7 @@ module _ (g : Graph) (i : ℕ) (before now : List ℕ) (last : ℕ) (so_far : Pa
         along = along_next now (λ s. le_refl _) here;
         attained = so_far.attained;
         rises = λ most h s. omega (arith, so_far.rises most h s);
-        last_in = so_far.last_in;
+        last_in = λ e q. omega (arith, so_far.last_in e q);
         kept = so_far.kept;
         raised = so_far.raised;
       }
@@ -109,7 +114,7 @@ module _ (g : Graph) (i : ℕ) (before now : List ℕ) (last : ℕ) (so_far : Pa
     grown : (s : ℕ) → get_or now s 0 ≤ get_or after s 0
     grown = each_after (λ s x. get_or now s 0 ≤ x) (omega arith) (λ s. le_refl _)
 
-    pass_raises : Pass g (i + 1) before (set now (g.src i) v) i
+    pass_raises : Pass g (i + 1) before (set now (g.src i) v) (Some i)
     pass_raises =
         record {
           same_length = length-set now (g.src i) v ∙ so_far.same_length;
@@ -119,16 +124,16 @@ module _ (g : Graph) (i : ℕ) (before now : List ℕ) (last : ℕ) (so_far : Pa
           rises =
               λ most h.
               each_after (λ s x. x ≤ most + (i + 1) * 4194304) (omega (arith, so_far.rises most h (g.dst i))) (λ s. omega (arith, so_far.rises most h s));
-          last_in = omega (arith, there.0);
-          kept = λ e. absurd (omega (arith, there.0));
-          raised = λ e. (g.src i, omega (arith, so_far.never_lower (g.src i), here_is));
+          last_in = λ e q. omega (arith, same_Some i e q);
+          kept = λ q. absurd (cc);
+          raised = λ q. (g.src i, omega (arith, so_far.never_lower (g.src i), here_is));
         }
 
 -- The same for an edge list, with the length 1 + n × weight.
-module _ (n count states : ℕ) (edges : List ℤ) (ok : EdgesIn states count edges) (most : n ≤ 64) (i : ℕ) (there : i < count)
-    (before now : List ℕ) (last : ℕ) (so_far : Pass (lengthened n (edge_graph count edges)) i before now last) where
+module _ (n : ℕ) (edges : List Edge) (most : n ≤ 64) (i : ℕ) (there : i < length edges)
+    (before now : List ℕ) (ok : EdgesIn (length before) edges) (last : Option ℕ) (so_far : Pass (lengthened n (edge_graph edges)) i before now last) where
   abbrev g : Graph
-  g = lengthened n (edge_graph count edges)
+  g = lengthened n (edge_graph edges)
 
   abbrev z : ℤ
   z = (edge_in edges i).weight
@@ -142,19 +147,29 @@ module _ (n count states : ℕ) (edges : List ℤ) (ok : EdgesIn states count ed
   along = (rise (pos 1 +ℤ pos n *ℤ (edge_in edges i).weight) + get_or now (edge_in edges i).to 0) - fall (pos 1 +ℤ pos n *ℤ (edge_in edges i).weight)
 
   -- Where it is not above the height of the state that the edge leaves, nothing changes,
-  pub edge_keeps : ltb (get_or now (edge_in edges i).from 0) along ≡ false → Pass (lengthened n (edge_graph count edges)) (i + 1) before now last
+  pub edge_keeps : ltb (get_or now (edge_in edges i).from 0) along ≡ false → Pass (lengthened n (edge_graph edges)) (i + 1) before now last
   edge_keeps l = pass_keeps g i before now last so_far (omega (arith, ltb-false (get_or now (edge_in edges i).from 0) along l, length_same n z))
 
   -- and where it is, that height becomes the length.
-  pub edge_raises : states ≤ length before → ltb (get_or now (edge_in edges i).from 0) along ≡ true → (v : ℕ) → v ≡ max (get_or now (edge_in edges i).from 0) along
-      → Pass (lengthened n (edge_graph count edges)) (i + 1) before (set now (edge_in edges i).from v) i
-  edge_raises room more v is =
+  pub edge_raises : ltb (get_or now (edge_in edges i).from 0) along ≡ true → (v : ℕ) → v ≡ max (get_or now (edge_in edges i).from 0) along
+      → Pass (lengthened n (edge_graph edges)) (i + 1) before (set now (edge_in edges i).from v) (Some i)
+  edge_raises more v is =
       pass_raises g i before now last so_far (there, refl)
-      (omega (arith, room, so_far.same_length, ok.from_in i there, ok.states_in))
+      (omega (arith, so_far.same_length, ok.from_in i there))
       (omega (arith, mul-le-mul most (ok.rise_in i there)))
       v
       (omega (arith, is, ltb-true (get_or now (edge_in edges i).from 0) along more, length_same n z))
       (omega (arith, is, ltb-true (get_or now (edge_in edges i).from 0) along more))
+
+-- The last edge is kept as a number, which is the number of all edges where there is none.
+module _ (g : Graph) (count : ℕ) (before after : List ℕ) where
+  pub pass_some : (last : Option ℕ) (n : ℕ) → Pass g count before after last → n ≡ unwrap_or last count → n < count → Pass g count before after (Some n)
+  pass_some None n p e l = absurd (omega arith)
+  pass_some (Some x) n p e l = subst (λ (y : ℕ). Pass g count before after (Some y)) (sym e) p
+
+  pub pass_none : (last : Option ℕ) (n : ℕ) → Pass g count before after last → n ≡ unwrap_or last count → count ≤ n → Pass g count before after None
+  pass_none None n p e l = p
+  pass_none (Some x) n p e l = absurd (omega (arith, p.last_in x refl))
 
 -- ---- pass after pass
 
@@ -176,6 +191,10 @@ zeros n s = go (dec_lt s n)
         let past : length (replicate {A = ℕ} n 0) ≤ s = rw (length-replicate {A = ℕ} n 0) (omega arith) in
         omega (arith, get_or-eq_default {A = ℕ} (replicate n 0) 0 past)
 
+-- The front of such a table is as long as asked, and has 0 at every place.
+pub zeros_lent : (n k : ℕ) → k ≤ n → (length {A = ℕ} (take k (replicate n 0)) ≡ k) × AtMost 0 (take k (replicate n 0))
+zeros_lent n k l = rw (take-replicate {X = ℕ} k n 0 l) (length-replicate {A = ℕ} k 0, zeros k)
+
 -- Before the first pass,
 pub heights_first : (g : Graph) (heights : List ℕ) → AtMost 0 heights → Heights g 0 heights
 unfolding longest
@@ -189,10 +208,10 @@ heights_first g heights none =
 
 module _ (g : Graph) (k : ℕ) (heights : List ℕ) (here : Heights g k heights) where
   -- after one that raised a height,
-  pub heights_next : (after : List ℕ) (last : ℕ) → g.size ≤ 256 → last ≢ g.size → Pass g g.size heights after last → Heights g (k + 1) after
-  heights_next after last few other p =
+  pub heights_next : (after : List ℕ) (last : Option ℕ) → g.size ≤ 256 → IsSome last → Pass g g.size heights after last → Heights g (k + 1) after
+  heights_next after last few some p =
       let e : k + 1 - 1 ≡ k = omega arith in
-      let x = p.raised (omega (arith, p.last_in)) in
+      let x = p.raised some in
       record {
         low = λ s. omega (arith, p.rises (k * 1073741824) here.low s);
         attained = p.attained here.attained;
@@ -201,8 +220,8 @@ module _ (g : Graph) (k : ℕ) (heights : List ℕ) (here : Heights g k heights)
       }
 
   -- after one that raised none: the heights are a potential,
-  pub heights_settled : (after : List ℕ) (last : ℕ) → last ≡ g.size → Pass g g.size heights after last → Potential g (λ s. get_or heights s 0)
-  heights_settled after last none p e u = omega (arith, p.along e u.0, ap (λ (x : List ℕ). get_or x (g.src e) 0) (p.kept (omega arith)))
+  pub heights_settled : (after : List ℕ) (last : Option ℕ) → IsNone last → Pass g g.size heights after last → Potential g (λ s. get_or heights s 0)
+  heights_settled after last none p e u = omega (arith, p.along e u.0, ap (λ (x : List ℕ). get_or x (g.src e) 0) (p.kept none))
 
   -- and after as many as there are states: a simple cycle is positive.
   pub heights_positive : (N : ℕ) → Within g N → 1 ≤ N → k ≡ N → PositiveCycle g

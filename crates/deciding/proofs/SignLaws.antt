@@ -1,9 +1,11 @@
 -- Laws of signed numbers, for code that keeps them in 64 bits.
-use mathlib.Core.Path.{◌≡◌, sym, ap}
+use mathlib.Core.Path.{◌≡◌, sym, ap, refl}
 use mathlib.Core.Bool.{true, false, false≢true}
-use Prim.Native.Nat.{ℕ, ◌+◌, ◌-◌, ◌*◌, ◌^◌, ◌≤◌, ◌<◌}
+use Prim.Native.Nat.{ℕ, ◌+◌, ◌-◌, ◌*◌, ◌^◌, ◌≤◌, ◌<◌, max}
 use native.Mathlib.Omega.{arith}
 use lib.Dec.{T, ltb}
+use Rattle.std.specs.Int.{int_max}
+use mathlib.Core.Bool.{Bool}
 use lib.IntN.{ℤ, pos, negsuc, nat_abs, ◌+ℤ◌, ◌-ℤ◌, ◌*ℤ◌}
 use lib.Signed.{le_z, lt_z, non_neg}
 use mir.Syntax.{w64}
@@ -60,6 +62,14 @@ pub difference_test : (z : ℤ) (a b n : ℕ) → Difference z a b → lt_z (pos
 difference_test (pos d) a b n i = let e : d ≡ a - b = omega arith in ap (ltb n) e
 difference_test (negsuc d) a b n i = sym (le-ltb n (a - b) (omega arith))
 
+-- The greater of n and a − b, in the code and in natural numbers.
+pub difference_max : (z : ℤ) (a b n : ℕ) → Difference z a b → T (non_neg (int_max z (pos n))) × (nat_abs (int_max z (pos n)) ≡ max n (a - b))
+difference_max z a b n i = go (lt_z (pos n) z) refl
+  where
+    go : (x : Bool) → lt_z (pos n) z ≡ x → T (non_neg (int_max z (pos n))) × (nat_abs (int_max z (pos n)) ≡ max n (a - b))
+    go true q = grind arith
+    go false q = grind arith
+
 -- A difference that is not negative, as a natural number.
 pub difference_natural : (z : ℤ) (a b : ℕ) → Difference z a b → b ≤ a → T (non_neg z) × (nat_abs z ≡ a - b)
 difference_natural (pos d) a b i h = (tt, omega arith)
@@ -77,6 +87,13 @@ module _ (next : ℕ) (length : ℤ) (low : next ≤ 2199023255552) (up : rise l
 
   pub along_is : SFits w64 length → to_z w64 (of_z w64 (to_z w64 next +ℤ to_z w64 (of_z w64 length))) ≡ pos next +ℤ length
   along_is fits = rw (to_z_pos w64 {n = next} (omega arith), to_z-of_z fits) (to_z-of_z along_fits)
+
+  -- The greater of that sum and a height, in the code and in natural numbers.
+  pub greater : (at : ℕ) → at ≤ 4398046511104 → SFits w64 length → (m : ℤ) → SFits w64 m → m ≡ int_max (to_z w64 (of_z w64 (to_z w64 next +ℤ to_z w64 (of_z w64 length)))) (to_z w64 at)
+      → T (non_neg (to_z w64 (of_z w64 m))) × (nat_abs (to_z w64 (of_z w64 m)) ≡ max at ((rise length + next) - fall length))
+  greater at small fits m m-fits is =
+      rw (to_z-of_z m-fits, is, along_is fits, to_z_pos w64 {n = at} (omega arith))
+      (difference_max (pos next +ℤ length) (rise length + next) (fall length) at (difference_sum_of next length))
 
 -- A number and a multiple of a signed one.
 pub difference_length : (first n : ℕ) (z : ℤ) → Difference (pos first +ℤ pos n *ℤ z) (first + n * rise z) (n * fall z)

@@ -1,15 +1,17 @@
 -- Relaxation over an edge list, from table to table and in place, and what deciding says.
-use Rattle.std.specs.Prelude.{◌≡◌, Bool, true, false, List, ℕ, ◌+◌, ◌*◌, ◌≤◌, ◌<◌, length, get_or, ℤ}
+use Rattle.std.specs.Prelude.{◌≡◌, Bool, true, false, List, ℕ, ◌+◌, ◌*◌, ◌≤◌, ◌<◌, length, get_or, Option, IsSome, IsNone}
+use Rattle.std.specs.Option.{ForSome}
 use Rattle.livelock.specs.Lists.{sum}
 use Rattle.livelock.specs.Graphs.{Graph, Cycle, WalkLength}
-use Rattle.edge_lists.specs.EdgeLists.{edge_in, HasEdge}
+use Rattle.edge_lists.specs.declared.Edge.{Edge}
+use Rattle.edge_lists.specs.EdgeLists.{edge_in}
 use Rattle.deciding.specs.Signs.{rise, fall}
 
--- The first `count` edges of a list as a graph.
-abbrev pub edge_graph : ℕ → List ℤ → Graph
-edge_graph count edges =
+-- The edges of a list as a graph.
+abbrev pub edge_graph : List Edge → Graph
+edge_graph edges =
     record {
-      size = count;
+      size = length edges;
       counts = λ e. true;
       src = λ e. (edge_in edges e).from;
       dst = λ e. (edge_in edges e).to;
@@ -18,15 +20,14 @@ edge_graph count edges =
     }
 
 -- So many edges between so many states, none of which weighs more than 65,535 either way.
-pub record EdgesIn (states count : ℕ) (edges : List ℤ) : Type 0 where
+pub record EdgesIn (states : ℕ) (edges : List Edge) : Type 0 where
   pub some_state : 1 ≤ states
   pub states_in : states ≤ 64
-  pub few : count ≤ 256
-  pub there : (e : ℕ) → e < count → HasEdge edges e
-  pub from_in : (e : ℕ) → e < count → (edge_in edges e).from < states
-  pub to_in : (e : ℕ) → e < count → (edge_in edges e).to < states
-  pub rise_in : (e : ℕ) → e < count → rise (edge_in edges e).weight ≤ 65535
-  pub fall_in : (e : ℕ) → e < count → fall (edge_in edges e).weight ≤ 65535
+  pub few : length edges ≤ 256
+  pub from_in : (e : ℕ) → e < length edges → (edge_in edges e).from < states
+  pub to_in : (e : ℕ) → e < length edges → (edge_in edges e).to < states
+  pub rise_in : (e : ℕ) → e < length edges → rise (edge_in edges e).weight ≤ 65535
+  pub fall_in : (e : ℕ) → e < length edges → fall (edge_in edges e).weight ≤ 65535
 
 -- No number of the table is above `most`.
 abbrev pub AtMost : ℕ → List ℕ → Type 0
@@ -36,17 +37,17 @@ AtMost most table = (s : ℕ) → get_or table s 0 ≤ most
 abbrev pub WalkLengths : Graph → List ℕ → Type 0
 WalkLengths g heights = (s : ℕ) → WalkLength g s (get_or heights s 0)
 
--- The first `count` edges, none longer than 2 ^ 22, were relaxed in place, one after the other; `last` is the last that raised a height, or the number
--- of all edges if none did.
-pub record Pass (g : Graph) (count : ℕ) (before after : List ℕ) (last : ℕ) : Type 0 where
+-- The first `count` edges, none longer than 2 ^ 22, were relaxed in place, one after the other; `last` is the last that raised a height, or
+-- `None` if none did.
+pub record Pass (g : Graph) (count : ℕ) (before after : List ℕ) (last : Option ℕ) : Type 0 where
   pub same_length : length after ≡ length before
   pub never_lower : (s : ℕ) → get_or before s 0 ≤ get_or after s 0
   pub along : (e : ℕ) → e < count → g.plus e + get_or before (g.dst e) 0 ≤ get_or after (g.src e) 0 + g.minus e
   pub attained : WalkLengths g before → WalkLengths g after
   pub rises : (most : ℕ) → AtMost most before → AtMost (most + count * 4194304) after
-  pub last_in : last ≤ g.size
-  pub kept : g.size ≤ last → after ≡ before
-  pub raised : last < g.size → (s : ℕ) × (get_or before s 0 < get_or after s 0)
+  pub last_in : ForSome last (λ e. e < count)
+  pub kept : IsNone last → after ≡ before
+  pub raised : IsSome last → (s : ℕ) × (get_or before s 0 < get_or after s 0)
 
 -- Every simple cycle of the edges is below zero.
 abbrev pub AllBelowZero : Graph → Type 0

@@ -7,6 +7,7 @@ ghost use Rattle.livelock.specs.Graphs.{lengthened};
 ghost use Rattle.deciding.specs.Signs.{rise, fall};
 ghost use Rattle.deciding.specs.Rounds.{edge_graph, EdgesIn, AtMost, Pass, Decided};
 
+use edge_lists::Edge;
 use relaxing::{raised, rises};
 
 pub mod relaxing;
@@ -19,55 +20,51 @@ fn row_length(n: u64, weight: i64) -> i64
     1 + n as i64 * weight
 }
 
-// One pass over the edges, in place; the last edge that raised a height, or the number of edges if none did. The height of a is read first: read just
-// before the test, the compiler would store it at every edge, raised or not, and the next edge would wait for the store.
-fn relax(edges: &[i16], count: usize, states: usize, n: u64, heights: &mut [u64]) -> usize
-    requires { EdgesIn states count edges.now × (n ≤ 64) × (states ≤ length heights.old) × AtMost 68719476736 heights.old }
-    ensures { Pass (lengthened n (edge_graph count edges.now)) count heights.old heights.new result }
+// One pass over the edges, in place, with one height for each state; the last edge that raised a height, or none. The height of a is read first: read just
+// before the test, the compiler would store it at every edge, raised or not, and the next edge would wait for the store. The last edge is a number until
+// the end: with an Option in the loop the compiler makes two loops of it, and a pass takes 1.5 times as long.
+fn relax(edges: &[Edge], n: u64, heights: &mut [u64]) -> Option<usize>
+    requires { EdgesIn (length heights.old) edges.now × (n ≤ 64) × AtMost 68719476736 heights.old }
+    ensures { Pass (lengthened n (edge_graph edges.now)) (length edges.now) heights.old heights.new result }
 {
-    let mut last = count;
-    let mut i = 0;
-    while i < count {
-        let a = edge_lists::from_of(edges, i);
+    let mut last = edges.len();
+    for (i, edge) in edges.iter().enumerate() {
+        let a = usize::from(edge.from);
         let height = heights[a];
-        let b = edge_lists::to_of(edges, i);
-        let length = row_length(n, edge_lists::weight_of(edges, i));
+        let b = usize::from(edge.to);
         let next = heights[b];
+        let length = row_length(n, i64::from(edge.weight));
         if rises(height, next, length) {
             heights[a] = raised(height, next, length);
             last = i;
         }
-        i += 1;
     }
-    last
+    if last < edges.len() { Some(last) } else { None }
 }
 
-// Whether every simple cycle weighs below zero, with lent heights, each 0. A pass that raises no height says yes; if each of as many passes as there are
-// states raises one, the answer is no.
-fn decide_from(edges: &[i16], count: usize, states: usize, n: u64, heights: &mut [u64]) -> bool
-    requires { EdgesIn states count edges.now × (states ≤ n) × (n ≤ 64) × (states ≤ length heights.old) × AtMost 0 heights.old }
-    ensures { Decided (edge_graph count edges.now) result }
+// Whether every simple cycle weighs below zero, with a lent height for each state, each 0. A pass that raises no height says yes; if each of as many passes
+// as there are states raises one, the answer is no.
+fn decide_from(edges: &[Edge], n: u64, heights: &mut [u64]) -> bool
+    requires { EdgesIn (length heights.old) edges.now × (length heights.old ≤ n) × (n ≤ 64) × AtMost 0 heights.old }
+    ensures { Decided (edge_graph edges.now) result }
 {
-    let mut k = 0;
-    while k < states {
-        let last = relax(edges, count, states, n, heights);
-        if last == count {
+    for _ in 0..heights.len() {
+        if relax(edges, n, heights).is_none() {
             return true;
         }
-        k += 1;
     }
     false
 }
 
 // The same with heights of its own: a machine of few states needs few, and clearing 64 for each machine would be a tenth of the time.
-pub fn decide(edges: &[i16], count: usize, states: usize, n: u64) -> bool
-    requires { EdgesIn states count edges.now × (states ≤ n) × (n ≤ 64) }
-    ensures { Decided (edge_graph count edges.now) result }
+pub fn decide(edges: &[Edge], states: usize, n: u64) -> bool
+    requires { EdgesIn states edges.now × (states ≤ n) × (n ≤ 64) }
+    ensures { Decided (edge_graph edges.now) result }
 {
     if states <= 8 {
         let mut heights = [0; 8];
-        return decide_from(edges, count, states, n, &mut heights);
+        return decide_from(edges, n, &mut heights[..states]);
     }
     let mut heights = [0; 64];
-    decide_from(edges, count, states, n, &mut heights)
+    decide_from(edges, n, &mut heights[..states])
 }

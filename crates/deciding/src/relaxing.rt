@@ -17,5 +17,5 @@ pub fn raised(at: u64, next: u64, length: i64) -> u64
     ensures { result ≡ max at ((rise length + next) - fall length) }
 {
     let along = next as i64 + length;
-    if along <= at as i64 { at } else { along as u64 }
+    along.max(at as i64) as u64
 }

@@ -1,13 +1,21 @@
 -- The decoded table of `decode`, and the plant that it holds.
-use Rattle.std.specs.Prelude.{◌≡◌, List, ℕ, ◌≤◌, length, get_or, take, ltb}
+use Rattle.std.specs.Prelude.{◌≡◌, List, ℕ, ◌≤◌, length, get_or, take, ltb, Result, Ok, Err}
 use Rattle.livelock.specs.Lists.{count}
 use Rattle.livelock.specs.Plants.{Plant}
+use Rattle.plant.specs.Found.{Found, found}
+use Rattle.plant.specs.Steps.{fault_found}
+use Rattle.plant.specs.declared.Fault.{Fault}
 use Rattle.tables.specs.Tables.{plant_in, RoomFor}
 use Rattle.decoding.specs.declared.Shape.{Shape}
 
 -- The plant of a shape and a table: the entries and rows up to the counts.
 abbrev pub plant_of : Shape → List ℕ → Plant
 plant_of s table = plant_in s.types (take s.machines s.states) s.rows table
+
+-- What decoding gives: the plant of the shape and the table that a file of n bytes is read into, up to its end, or the fault.
+abbrev pub decoded_found : Result Shape Fault → ℕ → List ℕ → Found Plant
+decoded_found (Ok s) n table = found (plant_of s table) n
+decoded_found (Err f) n table = fault_found f
 
 -- How many rows the machines before m have: the number of the first row of machine m.
 abbrev pub rows_before : Plant → ℕ → ℕ

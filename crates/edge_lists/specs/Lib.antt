@@ -1,2 +1,2 @@
--- A list of edges in one list of numbers.
+-- A list of edges.
 pub mod EdgeLists

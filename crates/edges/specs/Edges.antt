@@ -1,17 +1,14 @@
 -- The quiet rows of one machine as an edge list.
-use Rattle.std.specs.Prelude.{◌≡◌, Bool, false, cond, List, ℕ, ◌+◌, ◌≤◌, ◌<◌, get_or, ℤ, pos, ◌-ℤ◌}
+use Rattle.std.specs.Prelude.{◌≡◌, false, List, ℕ, ◌+◌, ◌≤◌, ◌<◌, length, get_or, ℤ, pos, ◌-ℤ◌}
 use Rattle.livelock.specs.Weights.{message_weight}
 use Rattle.livelock.specs.Plants.{Row, has_progress}
 use Rattle.tables.specs.Tables.{row_in, RoomFor}
-use Rattle.edge_lists.specs.EdgeLists.{Edge, edge_in, HasEdge}
+use Rattle.edge_lists.specs.declared.Edge.{Edge}
+use Rattle.edge_lists.specs.EdgeLists.{edge_in}
 
 -- "weight sent less weight taken", of a row.
 abbrev pub row_weight : List ℕ → Row → ℤ
 row_weight ws r = pos (message_weight ws r.sent) -ℤ pos (message_weight ws r.taken)
-
--- 1 for a quiet row.
-abbrev pub one_if_quiet : Bool → ℕ
-one_if_quiet progress = cond progress 0 1
 
 -- No weight is above 1,000.
 abbrev pub Light : List ℕ → Type 0
@@ -26,18 +23,17 @@ pub record EdgeOf (t : List ℕ) (ws : List ℕ) (low high : ℕ) (e : Edge) : T
   pub entered : e.to ≡ (row_in t e.row).entered
   pub weighs : e.weight ≡ row_weight ws (row_in t e.row)
 
--- Row j is one of the first `count` edges.
-pub record Has (count : ℕ) (edges : List ℤ) (j : ℕ) : Type 0 where
+-- Row j is one of the edges.
+pub record Has (edges : List Edge) (j : ℕ) : Type 0 where
   pub place : ℕ
-  pub within : place < count
+  pub within : place < length edges
   pub is : (edge_in edges place).row ≡ j
 
--- The first `count` edges of the list are the quiet rows from `low` up to, and not including, `high`.
-pub record Listed (t : List ℕ) (ws : List ℕ) (low high count : ℕ) (edges : List ℤ) : Type 0 where
-  pub few : count + low ≤ high
-  pub there : (i : ℕ) → i < count → HasEdge edges i
-  pub each : (i : ℕ) → i < count → EdgeOf t ws low high (edge_in edges i)
-  pub every : (j : ℕ) → low ≤ j → j < high → has_progress (row_in t j) ≡ false → Has count edges j
+-- The edges are the quiet rows from `low` up to, and not including, `high`.
+pub record Listed (t : List ℕ) (ws : List ℕ) (low high : ℕ) (edges : List Edge) : Type 0 where
+  pub few : length edges + low ≤ high
+  pub each : (i : ℕ) → i < length edges → EdgeOf t ws low high (edge_in edges i)
+  pub every : (j : ℕ) → low ≤ j → j < high → has_progress (row_in t j) ≡ false → Has edges j
 
 -- A machine's rows from `low` up to, and not including, `high`: at most 255, between so many states.
 pub record RowsBetween (t : List ℕ) (low high states : ℕ) : Type 0 where

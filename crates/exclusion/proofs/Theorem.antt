@@ -1,11 +1,11 @@
 -- No plant has both: answers of `weigh` and `confirm` for one file are not "passed" and "confirmed".
 use mathlib.Core.Path.{◌≡◌, refl, sym, ap, ◌∙◌, subst}
-use mathlib.Core.Bool.{Bool, true, false, false≢true}
+use mathlib.Core.Bool.{Bool, true}
 use mathlib.Core.Logic.{◌↔◌}
 use mathlib.Core.List.{List}
 use Prim.Native.Nat.{ℕ}
+use Rattle.std.specs.Prelude.{Result, Ok}
 use lib.ListN.{length}
-use lib.IntN.{ℤ}
 use Rattle.livelock.specs.Plants.{Plant}
 use Rattle.livelock.proofs.Exclusion.{exclusion}
 use Rattle.plant.specs.Found.{Found, found, fault}
@@ -22,7 +22,6 @@ use Rattle.weighing.proofs.WeighingLaws.{passed_iff}
 use Rattle.weighing.proofs.PassedLaws.{no_figures, passed_owed}
 use Rattle.cycle_sets.specs.Answers as Confirming
 use Rattle.cycle_sets.specs.declared.Confirmation.{Confirmation}
-use Rattle.cycle_sets.specs.declared.Confirmation.TheVariants as Confirmations
 use Rattle.exclusion.specs.NeverBoth.{Weighs, Confirms, NeverBoth, ReadsPassing, Sees}
 
 -- `confirm` confirms only a balanced set of the file's plant, and `weigh` passes only weights that pass in it.
@@ -47,7 +46,7 @@ passing_iff file ws before after a room owed = (go (judged file ws (length befor
     back r = (passed_iff file ws before after a r.plant r.end (here ∙ r.good) owed).1 r.passes
 
 -- What the function sees of answers that meet the two contracts.
-pub sees : (file ws set before after : List ℕ) (w : Weighed) (c : Confirmation) (passed confirmed : Bool) → length before ≡ 64
+pub sees : (file ws set before after : List ℕ) (w : Result Weighed Fault) (c : Result Confirmation Fault) (passed confirmed : Bool) → length before ≡ 64
     → Weighs file ws before after w → Confirms file set c
     → (passed ≡ true) ↔ Weighing.HasFigures (Weighing.answer_of w) → (confirmed ≡ true) ↔ (Confirming.answer_of c ≡ Confirming.confirmed)
     → Sees file ws set passed confirmed
@@ -59,21 +58,6 @@ sees file ws set before after w c passed confirmed room weighs confirms p q =
       never_both = λ e f. never_both file ws set before after w c weighs confirms (p.0 e) (q.0 f);
     }
 
--- What a match on each answer tells.
-pub figures_told : {w : Weighed} (f : Figures) → w ≡ Weigheds.Passed f → (◌≡◌ {A = Bool} true true) ↔ Weighing.HasFigures (Weighing.answer_of w)
-figures_told f e = (λ t. (figures_in f, ap Weighing.answer_of e), λ h. refl)
-
-pub cycle_told : {w : Weighed} (k : ℕ) → w ≡ Weigheds.Cycle k → (false ≡ true) ↔ Weighing.HasFigures (Weighing.answer_of w)
-cycle_told k e = (λ t. absurd (false≢true t), λ f. let h = sym (ap Weighing.answer_of e) ∙ f.1 in cc)
-
-pub weighing_refused : {w : Weighed} (g : Fault) → w ≡ Weigheds.Refused g → (false ≡ true) ↔ Weighing.HasFigures (Weighing.answer_of w)
-weighing_refused g e = (λ t. absurd (false≢true t), λ f. let h = sym (ap Weighing.answer_of e) ∙ f.1 in cc)
-
-pub confirmed_told : {c : Confirmation} → c ≡ Confirmations.Confirmed → (◌≡◌ {A = Bool} true true) ↔ (Confirming.answer_of c ≡ Confirming.confirmed)
-confirmed_told e = (λ t. ap Confirming.answer_of e, λ f. refl)
-
-pub negative_told : {c : Confirmation} (message : ℕ) (sum : ℤ) → c ≡ Confirmations.Negative message sum → (false ≡ true) ↔ (Confirming.answer_of c ≡ Confirming.confirmed)
-negative_told message sum e = (λ t. absurd (false≢true t), λ f. let h = sym (ap Confirming.answer_of e) ∙ f in cc)
-
-pub set_refused : {c : Confirmation} (g : Fault) → c ≡ Confirmations.Refused g → (false ≡ true) ↔ (Confirming.answer_of c ≡ Confirming.confirmed)
-set_refused g e = (λ t. absurd (false≢true t), λ f. let h = sym (ap Confirming.answer_of e) ∙ f in cc)
+-- What a match on an answer of `weigh` tells.
+pub figures_told : {w : Result Weighed Fault} {v : Weighed} (f : Figures) → w ≡ Ok v → v ≡ Weigheds.Passed f → (◌≡◌ {A = Bool} true true) ↔ Weighing.HasFigures (Weighing.answer_of w)
+figures_told f e d = (λ t. (figures_in f, ap Weighing.answer_of e ∙ ap Weighing.weighed_answer d), λ h. refl)

@@ -7,35 +7,28 @@ ghost use Rattle.cycle_sets.specs.Answers as Confirming;
 ghost use Rattle.exclusion.specs.NeverBoth.{Sees};
 
 use cycle_sets::Confirmation;
+use plant::Fault;
 use weighing::Weighed;
 
 // What the two calls said of one file.
-#[derive(Drop)]
+#[derive(Clone, Copy, Debug, PartialEq, Eq)]
 pub struct Seen {
     pub passed: bool,
     pub confirmed: bool,
 }
 
 // Whether `weigh` handed back figures.
-fn is_passed(answer: Weighed) -> bool
+fn is_passed(answer: Result<Weighed, Fault>) -> bool
     ensures { (result ≡ true) ↔ Weighing.HasFigures (Weighing.answer_of answer) }
 {
-    match answer {
-        Weighed::Passed(figures) => true,
-        Weighed::Cycle { rows } => false,
-        Weighed::Refused(fault) => false,
-    }
+    matches!(answer, Ok(Weighed::Passed(_)))
 }
 
 // Whether `confirm` confirmed.
-fn is_confirmed(answer: Confirmation) -> bool
+fn is_confirmed(answer: Result<Confirmation, Fault>) -> bool
     ensures { (result ≡ true) ↔ (Confirming.answer_of answer ≡ Confirming.confirmed) }
 {
-    match answer {
-        Confirmation::Confirmed => true,
-        Confirmation::Negative { message, sum } => false,
-        Confirmation::Refused(fault) => false,
-    }
+    matches!(answer, Ok(Confirmation::Confirmed))
 }
 
 // Weighs a file and confirms a set for it: never does it see both.

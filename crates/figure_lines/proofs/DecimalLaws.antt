@@ -1,63 +1,47 @@
 -- Laws of decimal figures.
-use mathlib.Core.Path.{◌≡◌, sym, ap, ◌∙◌, subst, subst⁻¹}
+use mathlib.Core.Path.{◌≡◌, refl, sym, ap, ◌∙◌, subst, subst⁻¹}
 use mathlib.Core.List.{List, [], ◌∷◌, ◌++◌, append-nil, append_assoc}
-use Prim.Native.Nat.{ℕ, zero, suc, ◌+◌, ◌-◌, ◌/◌, ◌%◌, ◌^◌, ◌≤◌, ◌<◌}
+use Prim.Native.Nat.{ℕ, zero, suc, ◌+◌, ◌/◌, ◌%◌, ◌^◌, ◌≤◌, ◌<◌}
 use native.Mathlib.Omega.{arith}
 use native.Mathlib.Numerals.{add-one}
-use native.Mathlib.Nat.{le_refl, pow-zero, pow-suc, one-le-pow, mod-lt, mod-eq_of_lt, le-div_iff_mul-le, div-lt_iff_lt-mul}
+use native.Mathlib.Nat.{le_refl}
 use borrow.Author.Tests.{lt-ltb, le-ltb}
 use lib.ListN.{length, get_or, take, length-append}
 use lib.Seq.{take-suc, take_all}
-use Rattle.io.specs.Digits.{hex_digit_ascii, last_digits, IsDigitCount}
-use Rattle.figure_lines.specs.FigureLines.{digit, decimal_within, decimal, figure, figures, line_end, line_with}
+use Rattle.std.specs.Fmt as Text
+use Rattle.std.proofs.lemmas.Fmt.{decimal_by_steps}
+use Rattle.figure_lines.specs.FigureLines.{decimal_within, decimal, figure, figures, line_end, line_with}
 use Rattle.figure_lines.specs.Writing.{Wrote}
 use Rattle.figure_lines.proofs.WritingLaws.{wrote_then}
 
--- Without its last digit a number is below ten to one less.
-pub one_less : (n k : ℕ) → n < 10 ^ suc k → n / 10 < 10 ^ k
-one_less n k l = (div-lt_iff_lt-mul {k = 10} {x = n} {y = 10 ^ k} (omega arith)).1 (subst (λ (p : ℕ). n < p) (pow-suc 10 k) l)
+-- The digits of n, however many there may be after the first, if they are n or more.
+abbrev Within : ℕ → List ℕ → Type 0
+Within n ds = (most : ℕ) → n ≤ most → ds ≡ decimal_within most n
 
--- The byte of a last digit.
-last_digit : (n : ℕ) → hex_digit_ascii (n % 10) ≡ digit (n % 10)
-last_digit n = rw (lt-ltb (n % 10) 10 (mod-lt n (omega arith)))
-
--- The byte of an only digit.
-only_digit : (n : ℕ) → n < 10 → hex_digit_ascii (n % 10) ≡ digit n
-only_digit n h = rw (mod-eq_of_lt h, lt-ltb n 10 h)
-
--- Ten to one more is ten or more.
-ten_or_more : (k n : ℕ) → 10 ^ suc k ≤ n → 10 ≤ n
-ten_or_more k n h = let p : 1 ≤ 10 ^ k = one-le-pow k 10 (omega arith) in omega (arith, pow-suc 10 k)
-
--- A number whose fewest digits are two or more is ten to one less, or more.
-first_digit : (n k : ℕ) → IsDigitCount 10 1 n (suc (suc k)) → 10 ^ suc k ≤ n
-first_digit n k f = let e : suc (suc k) - 1 ≡ suc k = omega arith in subst (λ (j : ℕ). 10 ^ j ≤ n) e (f.2 (omega arith))
-
--- Its fewest digits without the last.
-fewest_before : (n k : ℕ) → IsDigitCount 10 1 n (suc (suc k)) → IsDigitCount 10 1 (n / 10) (suc k)
-fewest_before n k f =
-    let e : k ≡ suc k - 1 = omega arith in
-    let g : 10 ^ k ≤ n / 10 = (le-div_iff_mul-le {k = 10} {x = 10 ^ k} {y = n} (omega arith)).1 (subst (λ (p : ℕ). p ≤ n) (pow-suc 10 k) (first_digit n k f)) in
-    (omega arith, one_less n (suc k) f.1, λ h. subst (λ (j : ℕ). 10 ^ j ≤ n / 10) e g)
-
--- The fewest digits are the decimal digits.
-pub digits_are : (most n k : ℕ) → n ≤ most → IsDigitCount 10 1 n k → last_digits 10 k n ≡ decimal_within most n
+-- One digit is its number,
+one_digit : (n : ℕ) → n < 10 → Within n ((48 + n) ∷ [])
 unfolding decimal_within
-digits_are most n zero h f = absurd (omega (arith, f.0))
-digits_are zero n (suc zero) h f = ap (λ (d : ℕ). d ∷ []) (only_digit n (omega arith))
-digits_are zero n (suc (suc k)) h f = absurd (omega (arith, ten_or_more k n (first_digit n k f)))
-digits_are (suc most) n (suc zero) h f =
-    let l : n < 10 = omega (arith, f.1, pow-suc 10 0, pow-zero 10) in
-    rw (lt-ltb n 10 l) (ap (λ (d : ℕ). d ∷ []) (only_digit n l))
-digits_are (suc most) n (suc (suc k)) h f =
-    let l : 10 ≤ n = ten_or_more k n (first_digit n k f) in
-    rw (le-ltb n 10 l) (ap (λ (d : ℕ). last_digits 10 (suc k) (n / 10) ++ (d ∷ [])) (last_digit n)
-    ∙ ap (λ (ds : List ℕ). ds ++ (digit (n % 10) ∷ [])) (digits_are most (n / 10) (suc k) (omega arith) (fewest_before n k f)))
+one_digit n l zero h = refl
+one_digit n l (suc most) h = rw (lt-ltb n 10 l)
 
--- A space and the fewest digits are a figure.
-pub figure_is : (n k : ℕ) (ds : List ℕ) → ds ≡ last_digits 10 k n → IsDigitCount 10 1 n k → (32 ∷ []) ++ ds ≡ figure n
-unfolding decimal figure
-figure_is n k ds e f = ap (λ (l : List ℕ). 32 ∷ l) (e ∙ digits_are n n k (le_refl n) f)
+-- and a last digit comes after those of a tenth.
+last_digit : (n : ℕ) (ds : List ℕ) → 10 ≤ n → Within (n / 10) ds → Within n (ds ++ ((48 + n % 10) ∷ []))
+unfolding decimal_within
+last_digit n ds l before zero h = absurd (omega arith)
+last_digit n ds l before (suc most) h = rw (le-ltb n 10 l) (ap (λ (front : List ℕ). front ++ ((48 + n % 10) ∷ [])) (before most (omega arith)))
+
+-- So a number of 64 bits is printed as its decimal digits.
+pub printed : (n : ℕ) → n < 2 ^ 64 → Text.decimal n ≡ decimal n
+unfolding decimal
+printed n l = decimal_by_steps Within one_digit last_digit n l n (le_refl n)
+
+-- A space and what is printed are a figure.
+figure_is : (n : ℕ) (ds : List ℕ) → n < 2 ^ 64 → ds ≡ Text.decimal n → (32 ∷ []) ++ ds ≡ figure n
+unfolding figure
+figure_is n ds l e = ap (λ (digits : List ℕ). 32 ∷ digits) (e ∙ printed n l)
+
+pub figure_length : (n : ℕ) (ds : List ℕ) → n < 2 ^ 64 → ds ≡ Text.decimal n → 1 + length ds ≡ length (figure n)
+figure_length n ds l e = omega (arith, ap length (figure_is n ds l e))
 
 -- Figures and one more.
 pub figures_next : (ns : List ℕ) (n : ℕ) → figures (ns ++ (n ∷ [])) ≡ figures ns ++ figure n
@@ -83,11 +67,11 @@ line_length word ns = omega (arith, length-append (word ++ figures ns) line_end,
 
 -- ---- figures that are written
 
--- A space and the fewest digits of a number.
-pub figure_wrote : {before between after : List ℕ} {at middle next : ℕ} (n k : ℕ) (ds : List ℕ) → ds ≡ last_digits 10 k n → IsDigitCount 10 1 n k
+-- A space and the digits of a number.
+pub figure_wrote : {before between after : List ℕ} {at middle next : ℕ} (n : ℕ) (ds : List ℕ) → n < 2 ^ 64 → ds ≡ Text.decimal n
     → Wrote before between at middle (32 ∷ []) → Wrote between after middle next ds → Wrote before after at next (figure n)
-figure_wrote {before} {between} {after} {at} {middle} {next} n k ds e f w v =
-    subst (λ (bytes : List ℕ). Wrote before after at next bytes) (figure_is n k ds e f) (wrote_then w v)
+figure_wrote {before} {between} {after} {at} {middle} {next} n ds l e w v =
+    subst (λ (bytes : List ℕ). Wrote before after at next bytes) (figure_is n ds l e) (wrote_then w v)
 
 -- The figures of the first numbers, and of one number more.
 pub figures_more : {before between after : List ℕ} {at middle next : ℕ} (ns : List ℕ) (i : ℕ) → i < length ns

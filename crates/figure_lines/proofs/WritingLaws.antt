@@ -1,19 +1,24 @@
 -- Laws of bytes that are written one after the other.
 use mathlib.Core.Path.{◌≡◌, refl, sym, ap, ◌∙◌}
-use mathlib.Core.List.{List, [], ◌++◌}
+use mathlib.Core.List.{List, [], ◌++◌, append_assoc}
 use Prim.Native.Nat.{ℕ, ◌+◌, ◌≤◌}
 use native.Mathlib.Omega.{arith}
 use native.Mathlib.Nat.{add-zero}
-use lib.ListN.{length, take, length-append}
-use lib.Seq.{sets, take_all, length-sets}
+use borrow.Rule.Slice.PartMut.{put_mid}
+use lib.ListN.{length, take, drop, length-append}
+use lib.Seq.{sets, length-sets}
+use Rattle.std.proofs.lemmas.List.Edits.{paste_all, sets-eq}
+use Rattle.std.proofs.lemmas.Slice.{put_mid-paste}
 use Rattle.livelock.proofs.StoreLaws.{sets_append}
 use Rattle.figure_lines.specs.Writing.{Wrote}
 
--- All bytes are written.
-pub copied_all : (p l out : List ℕ) (at i : ℕ) → length p ≤ i → i ≤ length p → out ≡ sets l at (take i p) → Wrote l out at (at + i) p
-copied_all p l out at i h g e =
-    let n : i ≡ length p = omega arith in
-    record { next_is = ap (λ (k : ℕ). at + k) n; after_is = e ∙ ap (λ (q : List ℕ). sets l at q) (take_all i p h) }
+-- A part of a list that becomes the bytes is written.
+pub part_wrote : (l part bytes : List ℕ) (at k : ℕ) → at + length bytes ≤ length l → k ≡ length bytes → part ≡ bytes → Wrote l (put_mid at k l part) at (at + length bytes) bytes
+part_wrote l part bytes at k room n e =
+    record {
+      next_is = refl;
+      after_is = put_mid-paste at k l part bytes (length bytes) e (sym n) refl ∙ paste_all l at bytes (length bytes) refl ∙ sym (sets-eq bytes l at room ∙ append_assoc (take at l) bytes (drop (at + length bytes) l));
+    }
 
 -- Writing keeps the length.
 pub wrote-length : {before after : List ℕ} {at next : ℕ} {bytes : List ℕ} → Wrote before after at next bytes → length after ≡ length before

@@ -1,19 +1,37 @@
 -- Laws of the figures F, n, G and n × w.
-use mathlib.Core.Path.{◌≡◌}
+use mathlib.Core.Path.{◌≡◌, sym, ap, ◌∙◌}
 use mathlib.Core.List.{List}
-use Prim.Native.Nat.{ℕ, ◌+◌, ◌-◌, ◌*◌, ◌≤◌, ◌<◌}
+use Prim.Native.Nat.{ℕ, zero, suc, ◌+◌, ◌-◌, ◌*◌, ◌≤◌, ◌<◌}
 use native.Mathlib.Nat.{mul-le-mul}
+use native.Mathlib.Numerals.{add-one}
 use native.Mathlib.Omega.{arith}
-use lib.ListN.{length, get_or}
+use lib.ListN.{length, get_or, take}
+use lib.Seq.{take_all}
+use Rattle.std.specs.List.{sum_by}
+use Rattle.std.proofs.lemmas.List.Sums.{fold_more}
 use Rattle.livelock.specs.Lists.{below, sum, greatest}
 use Rattle.livelock.specs.Plants.{Plant, machine_count, state_count}
 use Rattle.livelock.specs.Weights.{weight}
 use Rattle.livelock.specs.Figures.{states_less_one, most_states, largest_weight, base, per_progress, per_doubling}
 use Rattle.livelock.proofs.ListLaws.{all_at}
-use Rattle.livelock.proofs.SumLaws.{sum_limit, greatest_limit}
+use Rattle.livelock.proofs.SumLaws.{sum_none, sum_next, sum_limit, greatest_limit}
 use Rattle.plant.specs.Limits.{WithinLimits}
 use Rattle.figures.specs.FigureSums.{figures_in, FiguresOf}
 use Rattle.figures.specs.declared.Figures.{Figures}
+
+-- ---- a sum over a list
+
+-- The sum of f over the first n elements of a list is the sum of f over their places,
+module _ (f : ℕ → ℕ) (xs : List ℕ) where
+  sum_first : (n : ℕ) → n ≤ length xs → sum_by f (take n xs) ≡ sum (λ i. f (get_or xs i 0)) (below n)
+  sum_first zero l = sym (sum_none _)
+  sum_first (suc n) l =
+      let e = sum_first n (omega arith) in
+      omega (arith, rw (add-one n) at (fold_more (λ a x. a + f x) 0 xs n 0 l), e, sum_next (λ i. f (get_or xs i 0)) n)
+
+  -- and so is that over all.
+  pub sum_is : sum_by f xs ≡ sum (λ i. f (get_or xs i 0)) (below (length xs))
+  sum_is = ap (λ (ys : List ℕ). sum_by f ys) (sym (take_all (length xs) xs (omega arith))) ∙ sum_first (length xs) (omega arith)
 
 -- ---- the figures of a plant
 

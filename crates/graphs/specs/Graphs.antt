@@ -1,35 +1,36 @@
--- The parts of a graph in one list of numbers.
-use Rattle.std.specs.Prelude.{List, map, ℕ, ◌+◌, ◌*◌, ◌%◌, get_or, take, drop}
+-- The parts of a graph.
+use Rattle.std.specs.Prelude.{List, map, ℕ, ◌%◌, get_or}
 use Rattle.livelock.specs.Lists.{below}
+use Rattle.graphs.specs.declared.Graph.{Graph}
 
 -- What stands for each row number in 64 numbers of a graph.
-abbrev pub rows_at : ℕ → List ℕ → List ℕ
-rows_at from graph = map (λ k. get_or graph (from + k % 64) 0) (below 1024)
+abbrev pub rows_at : List ℕ → List ℕ
+rows_at part = map (λ k. get_or part (k % 64) 0) (below 1024)
 
 -- The states that the rows leave,
-unfoldable pub left_of : List ℕ → List ℕ
-left_of graph = rows_at 0 graph
+unfoldable pub left_of : Graph → List ℕ
+left_of graph = rows_at graph.left
 
 -- the states that they enter,
-unfoldable pub entered_of : List ℕ → List ℕ
-entered_of graph = rows_at 64 graph
+unfoldable pub entered_of : Graph → List ℕ
+entered_of graph = rows_at graph.entered
 
 -- and the next row after each that leaves the same state.
-unfoldable pub next_of : List ℕ → List ℕ
-next_of graph = rows_at 128 graph
+unfoldable pub next_of : Graph → List ℕ
+next_of graph = rows_at graph.next
 
 -- The first row that leaves each state,
-unfoldable pub head_of : List ℕ → List ℕ
-head_of graph = take 24 (drop 192 graph)
+unfoldable pub head_of : Graph → List ℕ
+head_of graph = graph.head
 
--- for each state the states with a row to it, as bits in two numbers,
-unfoldable pub into_of : List ℕ → List ℕ
-into_of graph = map (λ s. get_or graph (224 + 2 * s) 0 + 65536 * get_or graph (225 + 2 * s) 0) (below 32)
+-- for each state the states with a row to it, as bits,
+unfoldable pub into_of : Graph → List ℕ
+into_of graph = graph.into
 
 -- and at 32 s + t the number of rows from state s to state t.
-unfoldable pub between_of : List ℕ → List ℕ
-between_of graph = take 768 (drop 288 graph)
+unfoldable pub between_of : Graph → List ℕ
+between_of graph = graph.between
 
 -- The number after the last row.
-unfoldable pub last_of : List ℕ → ℕ
-last_of graph = get_or graph 216 0
+unfoldable pub last_of : Graph → ℕ
+last_of graph = graph.last

@@ -1,2 +1,2 @@
--- The rows of a machine as a graph in one list of numbers.
+-- The rows of a machine as a graph.
 pub mod Graphs

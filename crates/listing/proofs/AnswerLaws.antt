@@ -9,15 +9,16 @@ use borrow.Author.Tests.{lt-ltb, le-ltb, le-leb, lt-leb}
 use lib.ListN.{length}
 use lib.Dec.{leb}
 use lib.Seq.{sets-eq}
+use Rattle.std.specs.Prelude.{Result}
 use Rattle.livelock.specs.Plants.{Plant, machine_count, state_count}
 use Rattle.plant.specs.Found.{Found, fault, and_then}
+use Rattle.plant.specs.declared.Fault.{Fault}
 use Rattle.plant.specs.Limits.{rows_of}
 use Rattle.plant.specs.Reading.{read_plant}
 use Rattle.listing.specs.Answers.{entries, refused, answer_of}
 use Rattle.listing.specs.Listing.{entries_needed, checked_room, checked_size, checked, judged, answered, filled, Means}
 use Rattle.cycle_entries.specs.Entries.{Added}
 use Rattle.listing.specs.Inner.Machines.{Answers}
-use Rattle.listing.specs.declared.Listed.{Listed}
 use Rattle.listing.proofs.ListingLaws.{owed_means}
 
 -- ---- room for the entries
@@ -25,14 +26,14 @@ use Rattle.listing.proofs.ListingLaws.{owed_means}
 -- All entries of the rows were counted, and they are those needed.
 module _ (all needed before : List ℕ) (are : all ≡ needed) (n : ℕ) (counted : n ≡ min (suc (length before)) (length all)) (end : ℕ) where
   -- More entries counted than the list has: fault 14, and the list is kept.
-  pub too_short : length before < n → (r : Listed) → answer_of r ≡ refused 14 0 → Answers (checked_room (length before) needed end) before before r
+  pub too_short : length before < n → (r : Result ℕ Fault) → answer_of r ≡ refused 14 0 → Answers (checked_room (length before) needed end) before before r
   unfolding checked_room
   too_short h r is =
       let l : length before < length needed = omega (arith, ap length are) in
       record { answer = rw (lt-ltb (length before) (length needed) l) is; list_after = rw (lt-ltb (length before) (length needed) l) refl }
 
   -- Otherwise all entries are stored in front, and their count is the answer.
-  pub enough : n ≤ length before → (used : ℕ) (after : List ℕ) → Added (length before) before 0 all used after → (r : Listed) → answer_of r ≡ entries used
+  pub enough : n ≤ length before → (used : ℕ) (after : List ℕ) → Added (length before) before 0 all used after → (r : Result ℕ Fault) → answer_of r ≡ entries used
       → Answers (checked_room (length before) needed end) before after r
   unfolding checked_room
   enough h used after added r is =
@@ -69,19 +70,19 @@ module _ (m room : ℕ) (P : Plant) (end : ℕ) where
 -- ---- the whole answer
 
 -- A fault found is answered by its number and place, with the list kept.
-pub refusal : (number place : ℕ) (x : Found (List ℕ)) → fault number place ≡ x → (before : List ℕ) (r : Listed) → answer_of r ≡ refused number place → Answers x before before r
+pub refusal : (number place : ℕ) (x : Found (List ℕ)) → fault number place ≡ x → (before : List ℕ) (r : Result ℕ Fault) → answer_of r ≡ refused number place → Answers x before before r
 refusal number place x e before r is = subst (λ (y : Found (List ℕ)). Answers y before before r) e (record { answer = is; list_after = refl })
 
 -- What answers one thing found answers what equals it.
-pub answers_same : {x y : Found (List ℕ)} {before after : List ℕ} {r : Listed} → x ≡ y → Answers x before after r → Answers y before after r
+pub answers_same : {x y : Found (List ℕ)} {before after : List ℕ} {r : Result ℕ Fault} → x ≡ y → Answers x before after r → Answers y before after r
 answers_same {x} {y} {before} {after} {r} e a = subst (λ (z : Found (List ℕ)). Answers z before after r) e a
 
 -- What answers what was read answers the file.
-pub file_answers : (file : List ℕ) (m : ℕ) (before after : List ℕ) (r : Listed) (x : Found Plant) → read_plant file ≡ x → Answers (and_then x (checked m (length before))) before after r
+pub file_answers : (file : List ℕ) (m : ℕ) (before after : List ℕ) (r : Result ℕ Fault) (x : Found Plant) → read_plant file ≡ x → Answers (and_then x (checked m (length before))) before after r
     → Answers (judged file m (length before)) before after r
 file_answers file m before after r x read a = answers_same (ap (λ (y : Found Plant). and_then y (checked m (length before))) (sym read)) a
 
 -- What `list` ensures.
-pub owed : (file : List ℕ) (m : ℕ) (before after : List ℕ) (r : Listed) → Answers (judged file m (length before)) before after r
+pub owed : (file : List ℕ) (m : ℕ) (before after : List ℕ) (r : Result ℕ Fault) → Answers (judged file m (length before)) before after r
     → (answer_of r ≡ answered (judged file m (length before))) × ((after ≡ filled (judged file m (length before)) before) × Means file m (answer_of r) after)
 owed file m before after r a = (a.answer, (a.list_after, owed_means file m before after (answer_of r) a.answer a.list_after))

@@ -6,14 +6,15 @@ use Prim.Native.Nat.{ℕ}
 use lib.ListN.{length, take, drop}
 use lib.Seq.{take-append_seam}
 use lib.Dec.{leb, ltb}
+use Rattle.std.specs.Prelude.{Result, Ok, Err}
 use Rattle.livelock.specs.Plants.{Plant, machine_count, state_count}
 use Rattle.plant.specs.Found.{Found, found, fault, and_then}
+use Rattle.plant.specs.Refusals.{number_of}
+use Rattle.plant.specs.declared.Fault.{Fault}
 use Rattle.plant.specs.Reading.{read_plant}
 use Rattle.plant.specs.Limits.{rows_of}
 use Rattle.plant.proofs.FileBounds.{within_limits}
 use Rattle.plant.proofs.OneToOne.{same_fault}
-use Rattle.listing.specs.declared.Listed.{Listed}
-use Rattle.listing.specs.declared.Listed.TheVariants as Variants
 use Rattle.listing.specs.Answers.{Answer, entries, answer_of}
 use Rattle.cycle_paths.specs.Cycles.{cycles_of}
 use Rattle.listing.specs.Listing.{entries_needed, checked_room, checked_size, checked, judged, answered, filled, ListsCycles, Means}
@@ -73,11 +74,11 @@ owed_means file m before after a said put =
 -- ---- different answers
 
 -- Different answers never mean the same.
-pub one_to_one : (a b : Listed) → answer_of a ≡ answer_of b → a ≡ b
-one_to_one (Variants.Entries k) (Variants.Entries k') e = cc
-one_to_one (Variants.Entries k) (Variants.Refused g) e = cc
-one_to_one (Variants.Refused f) (Variants.Entries k') e = cc
-one_to_one (Variants.Refused f) (Variants.Refused g) e =
-    let n : f.number ≡ g.number = cc in
+pub one_to_one : (a b : Result ℕ Fault) → answer_of a ≡ answer_of b → a ≡ b
+one_to_one (Ok k) (Ok k') e = cc
+one_to_one (Ok k) (Err g) e = cc
+one_to_one (Err f) (Ok k') e = cc
+one_to_one (Err f) (Err g) e =
+    let n : number_of f.refusal ≡ number_of g.refusal = cc in
     let q : f.place ≡ g.place = cc in
-    ap Variants.Refused (same_fault f g n q)
+    ap Err (same_fault f g n q)

@@ -1,7 +1,7 @@
 -- The answers of listing, in document 01's numbers and values.
-use Rattle.std.specs.Prelude.{ℕ}
-use Rattle.listing.specs.declared.Listed.{Listed}
-use Rattle.listing.specs.declared.Listed.TheVariants as Variants
+use Rattle.std.specs.Prelude.{ℕ, Result, Ok, Err}
+use Rattle.plant.specs.Refusals.{number_of}
+use Rattle.plant.specs.declared.Fault.{Fault}
 
 -- "the entries used are handed back"; or "its number and a place". Different answers are different here.
 pub data Answer : Type 0 where
@@ -9,6 +9,6 @@ pub data Answer : Type 0 where
   refused : ℕ → ℕ → Answer
 
 -- What an answer of `list` says.
-abbrev pub answer_of : Listed → Answer
-answer_of (Variants.Entries used) = entries used
-answer_of (Variants.Refused f) = refused f.number f.place
+abbrev pub answer_of : Result ℕ Fault → Answer
+answer_of (Ok used) = entries used
+answer_of (Err f) = refused (number_of f.refusal) f.place

@@ -4,10 +4,11 @@ use mathlib.Core.List.{List, map}
 use Prim.Native.Nat.{ℕ, ◌+◌, ◌-◌, ◌*◌, ◌≤◌, ◌<◌}
 use native.Mathlib.Decide.{ℕ_discrete}
 use native.Mathlib.Omega.{arith}
-use lib.ListN.{length, set}
+use lib.ListN.{length, set, length-set}
 use lib.Seq.{get_or-set_same, get_or-set_other}
 use Rattle.livelock.specs.Lists.{below}
 use Rattle.tables.specs.Tables.{row_in}
+use Rattle.graphs.specs.declared.Graph.{Graph}
 use Rattle.graphs.specs.Graphs.{left_of, entered_of, next_of, head_of, into_of, between_of, last_of}
 use Rattle.graphs.proofs.PartLaws.{map_below}
 use Rattle.state_marks.specs.Marks.{column, RowsBelow, Sources}
@@ -16,7 +17,7 @@ use Rattle.cycle_counts.specs.Pairs.{Between}
 use Rattle.cycle_counts.proofs.BetweenLaws.{between_few}
 use Rattle.machine_graphs.specs.Graphs.{Listable, NoRows, Copied, Graphed}
 use Rattle.machine_graphs.specs.Inner.Rows.{RowAdded}
-use Rattle.machine_graphs.proofs.PartLaws.{next_long, head_long, into_long, between_long}
+use Rattle.machine_graphs.proofs.RowLaws.{next_long}
 use Rattle.machine_graphs.proofs.LinkLaws.{linked_none, linked_more, linked_same}
 use Rattle.machine_graphs.proofs.SourceLaws.{sources_none, sources_more, sources_same}
 use Rattle.machine_graphs.proofs.PairLaws.{between_none, between_more, between_same}
@@ -51,8 +52,9 @@ entering_is : (table : List ℕ) (k : ℕ) → k < 1024 → column (entering tab
 entering_is table k l = map_below (λ i. (row_in table i).entered) 1024 k l
 
 -- A graph has the rows from k on. Links, sources and pairs are those of the table's states.
-pub record Begun (table : List ℕ) (k last : ℕ) (graph : List ℕ) : Type 0 where
-  pub long : length graph ≡ 1056
+pub record Begun (table : List ℕ) (k last : ℕ) (graph : Graph) : Type 0 where
+  pub into_long : length (into_of graph) ≡ 32
+  pub between_long : length (between_of graph) ≡ 768
   pub copied : Copied table k last (left_of graph) (entered_of graph)
   pub links : Linked (leaving table) (next_of graph) (head_of graph) k last
   pub from : Sources (leaving table) (entering table) (into_of graph) k last
@@ -60,24 +62,25 @@ pub record Begun (table : List ℕ) (k last : ℕ) (graph : List ℕ) : Type 0 w
   pub last_is : last_of graph ≡ last
 
 -- At first it has none.
-pub begun_none : (table : List ℕ) (last : ℕ) (graph : List ℕ) → last ≤ 1024 → NoRows last graph → Begun table last last graph
+pub begun_none : (table : List ℕ) (last : ℕ) (graph : Graph) → last ≤ 1024 → NoRows last graph → Begun table last last graph
 begun_none table last graph few g =
     record {
-      long = g.long;
+      into_long = g.into_long;
+      between_long = g.between_long;
       copied = none_copied table last (left_of graph) (entered_of graph);
-      links = linked_none (leaving table) (next_of graph) (head_of graph) last (omega (arith, few, next_long graph)) (omega (arith, head_long graph g.long)) g.no_head;
+      links = linked_none (leaving table) (next_of graph) (head_of graph) last (omega (arith, few, next_long graph)) (omega (arith, g.head_long)) g.no_head;
       from = sources_none (leaving table) (entering table) (into_of graph) last;
       pairs = between_none (leaving table) (entering table) (between_of graph) last g.no_pair;
       last_is = g.last_is;
     }
 
 -- No more rows lead from one state to another than there are.
-pub begun_few : (table : List ℕ) (k last : ℕ) (graph : List ℕ) (s t : ℕ) → s < 24 → t < 24 → last ≤ 1024 → Begun table k last graph → column (between_of graph) (s * 32 + t) ≤ 1024
+pub begun_few : (table : List ℕ) (k last : ℕ) (graph : Graph) (s t : ℕ) → s < 24 → t < 24 → last ≤ 1024 → Begun table k last graph → column (between_of graph) (s * 32 + t) ≤ 1024
 begun_few table k last graph s t b d few g =
     omega (arith, g.pairs.known s t b d, between_few (leaving table) (entering table) s t k (last - k))
 
 -- Row k is added.
-module _ (table : List ℕ) (k last left entered : ℕ) (before after : List ℕ) (inside : k < last) (few : last ≤ 1024) (near : last ≤ k + 64)
+module _ (table : List ℕ) (k last left entered : ℕ) (before after : Graph) (inside : k < last) (few : last ≤ 1024) (near : last ≤ k + 64)
     (left_is : left ≡ (row_in table k).left) (entered_is : entered ≡ (row_in table k).entered) (low : left < 24) (high : entered < 24)
     (g : Begun table (k + 1) last before) (r : RowAdded k left entered before after) where
   leaves : column (leaving table) k ≡ left
@@ -107,7 +110,10 @@ module _ (table : List ℕ) (k last left entered : ℕ) (before after : List ℕ
   pub begun_row : Begun table k last after
   begun_row =
       record {
-        long = r.long;
+        into_long = rw r.into_is (length-set (into_of before) entered r.into ∙ g.into_long);
+        between_long =
+            rw r.between_is
+            (length-set (between_of before) (left * 32 + entered) (column (between_of before) (left * 32 + entered) + 1) ∙ g.between_long);
         copied = record { left_is = λ j a b. left_copied j a b (ℕ_discrete j k); entered_is = λ j a b. entered_copied j a b (ℕ_discrete j k) };
         links =
             subst (λ (z : List ℕ). Linked (leaving table) (next_of after) z k last) (sym r.head_is)
@@ -117,17 +123,17 @@ module _ (table : List ℕ) (k last left entered : ℕ) (before after : List ℕ
             subst (λ (z : List ℕ). Sources (leaving table) (entering table) z k last) (sym r.into_is)
             (subst (λ (e : ℕ). Sources (leaving table) (entering table) (set (into_of before) e r.into) k last) enters
             (sources_more (leaving table) (entering table) (into_of before) k last r.into g.from (omega (arith, leaves, low)) (omega (arith, enters, high))
-            (into_long before)
+            g.into_long
             (rw (leaves, enters) r.into_marks)));
         pairs =
             subst (λ (z : List ℕ). Between (leaving table) (entering table) z k last) (sym r.between_is)
             (between_more (leaving table) (entering table) (between_of before) k last (left * 32 + entered) g.pairs inside (omega (arith, leaves, low)) (omega (arith, enters, high))
-            (between_long before g.long) (omega (arith, leaves, enters)));
+            g.between_long (omega (arith, leaves, enters)));
         last_is = r.last_same ∙ g.last_is;
       }
 
 -- All rows are there.
-pub begun_ends : (table : List ℕ) (first last : ℕ) (graph : List ℕ) → Listable table first last → Begun table first last graph → Graphed table first last graph
+pub begun_ends : (table : List ℕ) (first last : ℕ) (graph : Graph) → Listable table first last → Begun table first last graph → Graphed table first last graph
 begun_ends table first last graph ok g =
     let leaves : (k : ℕ) → first ≤ k → k < last → column (left_of graph) k ≡ column (leaving table) k =
     λ k a b. g.copied.left_is k a b ∙ sym (leaving_is table k (omega (arith, ok.few))) in

@@ -1,5 +1,4 @@
--- Laws of the graph of a machine's rows: its parts, one row, its links, sources and pairs, and all rows.
-pub mod PartLaws
+-- Laws of the graph of a machine's rows: one row, its links, sources and pairs, and all rows.
 pub mod RowLaws
 pub mod LinkLaws
 pub mod SourceLaws

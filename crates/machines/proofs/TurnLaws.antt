@@ -5,8 +5,7 @@ use mathlib.Core.List.{List, map}
 use Prim.Native.Nat.{ℕ, ◌+◌, ◌-◌, ◌≤◌, ◌<◌}
 use native.Mathlib.Decide.{dec_lt}
 use native.Mathlib.Omega.{arith}
-use lib.ListN.{get_or}
-use lib.IntN.{ℤ}
+use lib.ListN.{length, get_or}
 use Rattle.livelock.specs.Plants.{machine_count, state_count}
 use Rattle.livelock.specs.Figures.{most_states}
 use Rattle.livelock.proofs.SumLaws.{greatest_below}
@@ -15,7 +14,8 @@ use Rattle.livelock.specs.Lists.{sum}
 use Rattle.livelock.specs.Weights.{Passes, FailingCycle}
 use Rattle.livelock.proofs.Decision.{not_both}
 use Rattle.tables.specs.Tables.{RoomFor}
-use Rattle.edge_lists.specs.EdgeLists.{EdgeRoom, edge_in}
+use Rattle.edge_lists.specs.declared.Edge.{Edge}
+use Rattle.edge_lists.specs.EdgeLists.{edge_in}
 use Rattle.decoding.specs.Tables.{plant_of}
 use Rattle.decoding.specs.declared.Shape.{Shape}
 use Rattle.decoding.proofs.TableLaws.{machines_counted, states_at}
@@ -67,39 +67,39 @@ module _ (s : Shape) (table ws : List ℕ) (ok : Weighable s table ws) where
     )
 
     -- The rows of a cycle of the machine's edges that is zero or more are a quiet simple cycle of the plant that weighs zero or more.
-    pub edges_fail : {count : ℕ} {edges : List ℤ} → FailingRows table ws (get_or s.first m 0) (get_or s.first (m + 1) 0) count edges
-        → (es : List ℕ) → Cycle (edge_graph count edges) es → sum (edge_graph count edges).minus es ≤ sum (edge_graph count edges).plus es
+    pub edges_fail : {edges : List Edge} → FailingRows table ws (get_or s.first m 0) (get_or s.first (m + 1) 0) edges
+        → (es : List ℕ) → Cycle (edge_graph edges) es → sum (edge_graph edges).minus es ≤ sum (edge_graph edges).plus es
         → FailingCycle (plant_of s table) ws (map (λ i. (edge_in edges i).row) es)
-    edges_fail {count} {edges} failing es simple weighs =
-        let f = machine_fails s table ok.ready ok.limits ws m within count edges failing.listed es simple weighs in
+    edges_fail {edges} failing es simple weighs =
+        let f = machine_fails s table ok.ready ok.limits ws m within edges failing.listed es simple weighs in
         record { machine = m; simple = f.0; quiet = f.1; weighs = f.2 }
 
     -- So where the machine fails, the weights do not pass.
-    pub one_fails : {count : ℕ} {edges : List ℤ} → FailingRows table ws (get_or s.first m 0) (get_or s.first (m + 1) 0) count edges → Passes (plant_of s table) ws → ⊥
+    pub one_fails : {edges : List Edge} → FailingRows table ws (get_or s.first m 0) (get_or s.first (m + 1) 0) edges → Passes (plant_of s table) ws → ⊥
     one_fails failing p = let x = failing.zero_or_more in not_both (plant_of s table) ws _ p (edges_fail failing x.0 x.1 x.2)
 
     module _ (low high : ℕ) (low_is : low ≡ get_or s.first m 0) (high_is : high ≡ get_or s.first (m + 1) 0) where
       -- The rows are few enough for an edge list.
-      pub turn_rows : (edges : List ℤ) → EdgesBeside table edges → RoomFor high table × (high ≤ 1024) × (low ≤ high) × EdgeRoom (high - low) edges
+      pub turn_rows : (edges : List Edge) → EdgesBeside table edges → RoomFor high table × (high ≤ 1024) × (low ≤ high) × (high - low ≤ length edges)
       turn_rows edges room =
           let x = rows_between s table ok.ready ok.limits m within in
           (omega (arith, high_is, x.room), omega (arith, high_is, x.in_table), omega (arith, low_is, high_is, x.ordered), omega (arith, low_is, high_is, x.few, x.room, room))
 
-      module _ (count : ℕ) (edges : List ℤ) (listed : Listed table ws low high count edges) where
+      module _ (edges : List Edge) (listed : Listed table ws low high edges) where
         -- The edges are the machine's.
-        turn_listed : Listed table ws (get_or s.first m 0) (get_or s.first (m + 1) 0) count edges
-        turn_listed = subst (λ (x : ℕ). Listed table ws x (get_or s.first (m + 1) 0) count edges) low_is (subst (λ (y : ℕ). Listed table ws low y count edges) high_is listed)
+        turn_listed : Listed table ws (get_or s.first m 0) (get_or s.first (m + 1) 0) edges
+        turn_listed = subst (λ (x : ℕ). Listed table ws x (get_or s.first (m + 1) 0) edges) low_is (subst (λ (y : ℕ). Listed table ws low y edges) high_is listed)
 
         -- They are within the limits.
-        pub turn_edges : (n : ℕ) → n ≡ get_or s.states m 0 → EdgesIn n count edges
+        pub turn_edges : (n : ℕ) → n ≡ get_or s.states m 0 → EdgesIn n edges
         turn_edges n n-is =
-            subst (λ (k : ℕ). EdgesIn k count edges) (sym (n-is ∙ states_at s table m within))
-            (edges_in table ws ok.light (get_or s.first m 0) (get_or s.first (m + 1) 0) count edges turn_listed (state_count (plant_of s table) m) states_in.0 states_in.1 (rows_between s table ok.ready ok.limits m within))
+            subst (λ (k : ℕ). EdgesIn k edges) (sym (n-is ∙ states_at s table m within))
+            (edges_in table ws ok.light (get_or s.first m 0) (get_or s.first (m + 1) 0) edges turn_listed (state_count (plant_of s table) m) states_in.0 states_in.1 (rows_between s table ok.ready ok.limits m within))
 
         -- The machine passes if every cycle is below zero,
-        pub turn_passes : AllBelowZero (edge_graph count edges) → MachinePasses (plant_of s table) ws m
-        turn_passes = machine_passes s table ok.ready ok.limits ws m within count edges turn_listed
+        pub turn_passes : AllBelowZero (edge_graph edges) → MachinePasses (plant_of s table) ws m
+        turn_passes = machine_passes s table ok.ready ok.limits ws m within edges turn_listed
 
         -- and fails if one is not.
-        pub turn_fails : SomeZeroOrMore (edge_graph count edges) → FailingRows table ws (get_or s.first m 0) (get_or s.first (m + 1) 0) count edges
+        pub turn_fails : SomeZeroOrMore (edge_graph edges) → FailingRows table ws (get_or s.first m 0) (get_or s.first (m + 1) 0) edges
         turn_fails zero_or_more = record { listed = turn_listed; zero_or_more = zero_or_more }

@@ -8,9 +8,10 @@ ghost use Rattle.decoding.specs.Tables.{plant_of};
 ghost use Rattle.machines.specs.Machines.{Weighable, EdgesBeside, FirstFailing};
 
 use decoding::Shape;
+use edge_lists::Edge;
 
-// A machine with a cycle that weighs zero or more, or the count of machines if there is none, and how many edges that machine has.
-#[derive(Clone, Copy)]
+// A machine with a cycle that weighs zero or more, and how many edges it has.
+#[derive(Clone, Copy, Debug, PartialEq, Eq)]
 pub struct Failing {
     pub machine: usize,
     pub count: usize,
@@ -23,21 +24,18 @@ pub fn first_failing(
     from: usize,
     weights: &[u16],
     n: u64,
-    edges: &mut [i16],
-) -> Failing
+    edges: &mut [Edge],
+) -> Option<Failing>
     requires { Weighable shape table.now weights.now × (from ≤ shape.machines) × (n ≡ most_states (plant_of shape table.now)) × EdgesBeside table.now edges.old }
-    ensures { FirstFailing shape table.now weights.now from result.machine result.count edges.new }
+    ensures { FirstFailing shape table.now weights.now from result edges.new }
 {
-    let mut m = from;
-    while m < shape.machines {
-        let low = casts::index_u16(shape.first[m]);
-        let high = casts::index_u16(shape.first[m + 1]);
+    for m in from..shape.machines {
+        let low = usize::from(shape.first[m]);
+        let high = usize::from(shape.first[m + 1]);
         let count = edges::edges_of(table, low, high, weights, edges);
-        if !deciding::decide(edges, count, casts::index_u8(shape.states[m]), n) {
-            return Failing { machine: m, count };
+        if !deciding::decide(&edges[..count], usize::from(shape.states[m]), n) {
+            return Some(Failing { machine: m, count });
         }
-        m += 1;
     }
-    let count = 0;
-    Failing { machine: m, count }
+    None
 }

@@ -8,8 +8,8 @@ ghost use Rattle.watched_runs.specs.Answers.{answer_of};
 ghost use Rattle.watched_runs.specs.Owed.{Opens, LentSteps, LentMessageSteps};
 ghost use Rattle.panel.specs.Structs.{watch_struct, lent, WatchedAs};
 
-use watched_runs::Watched;
-use watchers::Watcher;
+use plant::Fault;
+use watchers::{Opened, Watcher};
 
 // kind 9: the quiet rows left; kind 0: a refusal.
 #[repr(C)]
@@ -21,23 +21,24 @@ pub struct WatchAnswer {
     pub left: u64,
 }
 
-// The struct of an answer.
-fn watch_answer(answer: Watched) -> WatchAnswer
-    ensures { result ≡ watch_struct (answer_of answer) }
-{
-    match answer {
-        Watched::Remaining(left) => WatchAnswer {
-            kind: 9,
-            number: 0,
-            place: 0,
-            left,
-        },
-        Watched::Refused(fault) => WatchAnswer {
-            kind: 0,
-            number: fault.number,
-            place: fault.place,
-            left: 0,
-        },
+impl From<Result<u64, Fault>> for WatchAnswer {
+    ghost from_gives = { λ answer struct. struct ≡ watch_struct (answer_of answer) };
+
+    fn from(answer: Result<u64, Fault>) -> WatchAnswer {
+        match answer {
+            Ok(left) => WatchAnswer {
+                kind: 9,
+                number: 0,
+                place: 0,
+                left,
+            },
+            Err(fault) => WatchAnswer {
+                kind: 0,
+                number: fault.number(),
+                place: fault.place,
+                left: 0,
+            },
+        }
     }
 }
 
@@ -55,22 +56,22 @@ pub extern "C" fn hemtaluq_watch_open_v1(
 ) -> WatchAnswer
     ensures { WatchedAs (λ a. Opens file.now weights.now opening.now a (lent copy.new table.new sizes.new states.new contents.new counts.new)) result }
 {
-    let opened = Watcher::open(file, weights, opening);
-    let watcher = opened.watcher;
-    let copied = watcher.copy;
-    let rows = watcher.table;
-    let fixed = watcher.sizes;
-    let stopped = watcher.states;
-    let messages = watcher.contents;
-    let counted = watcher.counts;
+    let Opened { watcher, answer } = Watcher::open(file, weights, opening);
+    let Watcher {
+        copy: copied,
+        table: rows,
+        sizes: fixed,
+        states: stopped,
+        contents: messages,
+        counts: counted,
+    } = watcher;
     *copy = copied;
     *table = rows;
     *sizes = fixed;
     *states = stopped;
     *contents = messages;
     *counts = counted;
-    let answer = opened.answer;
-    watch_answer(answer)
+    answer.into()
 }
 
 #[unsafe(no_mangle)]
@@ -84,8 +85,7 @@ pub extern "C" fn hemtaluq_watch_row_v1(
 ) -> WatchAnswer
     ensures { WatchedAs (λ a. LentSteps table.now sizes.now states.old contents.old counts.old (Runs.row row) a states.new contents.new counts.new) result }
 {
-    let answer = watch_events::take_row(table, sizes, states, contents, counts, row);
-    watch_answer(answer)
+    watch_events::take_row(table, sizes, states, contents, counts, row).into()
 }
 
 #[unsafe(no_mangle)]
@@ -97,8 +97,7 @@ pub extern "C" fn hemtaluq_watch_loss_v1(
 ) -> WatchAnswer
     ensures { WatchedAs (λ a. LentMessageSteps sizes.now contents.old counts.now (Runs.loss message_type) a contents.new counts.now) result }
 {
-    let answer = watch_events::take_loss(sizes, contents, counts, message_type);
-    watch_answer(answer)
+    watch_events::take_loss(sizes, contents, counts, message_type).into()
 }
 
 #[unsafe(no_mangle)]
@@ -110,6 +109,5 @@ pub extern "C" fn hemtaluq_watch_doubling_v1(
 ) -> WatchAnswer
     ensures { WatchedAs (λ a. LentMessageSteps sizes.now contents.old counts.old (Runs.doubling message_type) a contents.new counts.new) result }
 {
-    let answer = watch_events::take_doubling(sizes, contents, counts, message_type);
-    watch_answer(answer)
+    watch_events::take_doubling(sizes, contents, counts, message_type).into()
 }

@@ -12,8 +12,9 @@ use Rattle.plant.specs.Reading.{byte_in, with_machine, read_rows, rows_byte, rea
 use Rattle.plant.specs.Limits.{Placed, at_the_end, within, at_twin}
 use Rattle.plant.specs.Steps.{end_found}
 use Rattle.plant.specs.Steps.{offset_of}
-use Rattle.plant.specs.declared.End.{End}
-use Rattle.plant.specs.declared.End.TheVariants as Ends
+use Rattle.std.specs.Prelude.{Result, Ok, Err}
+use Rattle.plant.specs.Refusals.{number_of}
+use Rattle.plant.specs.declared.Fault.{Fault}
 use Rattle.plant.proofs.Bounds.{Each, got, stopped, read_rows_each}
 
 -- `&s[b..]`, as the rule for it has it.
@@ -48,12 +49,12 @@ place_within n number place at_the_end = le_refl n
 place_within n number place (within h u l) = omega arith
 place_within n number place (at_twin l) = omega arith
 
-end_within : (J : Plant → ℕ → Type 0) (n : ℕ) (p : Plant) (e : End) → Each (λ q next. (next ≤ n) × J q next) n (end_found e p) → offset_of e ≤ n
-end_within J n p (Ends.At next) (got h) = h.0
-end_within J n p (Ends.Fault f) (stopped h) = place_within n f.number f.place h
+end_within : (J : Plant → ℕ → Type 0) (n : ℕ) (p : Plant) (e : Result ℕ Fault) → Each (λ q next. (next ≤ n) × J q next) n (end_found e p) → offset_of e ≤ n
+end_within J n p (Ok next) (got h) = h.0
+end_within J n p (Err f) (stopped h) = place_within n (number_of f.refusal) f.place h
 
 -- Reading rows in the part from b on ends in that part.
-pub rows_end : (n m states b : ℕ) (s : List ℕ) (p q : Plant) (end : End) → 0 < states
+pub rows_end : (n m states b : ℕ) (s : List ℕ) (p q : Plant) (end : Result ℕ Fault) → 0 < states
     → end_found end q ≡ read_rows n m states 0 (take (length s - b) (drop b s)) 0 p → offset_of end ≤ length s - b
 rows_end n m states b s p q end h e =
     rw

@@ -3,4 +3,5 @@ pub mod Found
 pub mod Twins
 pub mod Reading
 pub mod Limits
+pub mod Refusals
 pub mod Steps

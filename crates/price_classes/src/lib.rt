@@ -10,5 +10,5 @@ pub fn price_class(ceiling: u64) -> u32
     requires { ceiling < 2 ^ 43 }
     ensures { result ≡ class_of ceiling }
 {
-    64 - u64::leading_zeros(ceiling)
+    u64::BITS - ceiling.leading_zeros()
 }

@@ -11,6 +11,8 @@ use Rattle.livelock.specs.Weights.{Passes, FailingCycle}
 use Rattle.livelock.specs.Figures.{Figures, figures_of, ceiling_of}
 use Rattle.livelock.proofs.Decision.{decision, not_both}
 use Rattle.plant.specs.Found.{Found, found, fault, and_then}
+use Rattle.std.specs.Prelude.{Result, Ok, Err}
+use Rattle.plant.specs.Refusals.{number_of}
 use Rattle.plant.specs.declared.Fault.{Fault}
 use Rattle.plant.proofs.OneToOne.{same_fault}
 use Rattle.weight_checks.specs.Checks.{first_above, judged_weights}
@@ -22,12 +24,10 @@ use Rattle.weighing.proofs.WeighingLaws.{verdict_refused, verdict_fails, verdict
 use Rattle.price_classes.specs.Classes.{class_of}
 use Rattle.contents.specs.Contents.{amounts, checked_amounts, checked_contents, AllAtMost, weight_of_contents}
 use Rattle.contents.specs.Checks.{Checks}
-use Rattle.contents.specs.declared.Check.TheVariants as CheckVariants
 use Rattle.quoting.specs.Answers.{Answer, quoted, refused, answer_of}
 use Rattle.quoting.specs.Quoting.{judged, ceiling_for, Owed, for_fault, for_plant, largest_ceiling}
 use Rattle.quoting.specs.Inner.Pricing.{Priced, FiguresFit, quoted_for, OwedChecked}
 use Rattle.quoting.specs.declared.Quoted.{Quoted}
-use Rattle.quoting.specs.declared.Quoted.TheVariants as QuotedVariants
 use Rattle.quoting.proofs.CeilingLaws.{bound_for, judged_within}
 use Rattle.quoting.proofs.CeilingLaws.{largest_file, largest_weights, largest_contents, largest_plant, largest_attained}
 
@@ -35,12 +35,12 @@ use Rattle.quoting.proofs.CeilingLaws.{largest_file, largest_weights, largest_co
 
 module _ (passes : Bool) (f : Figures) (ws contents : List ℕ) (g d : ℕ) where
   -- A fault is handed on,
-  pub check_refused : (e : Fault) → Checks (length ws) contents (g ∷ d ∷ []) passes (CheckVariants.Fault e) → OwedChecked passes f ws contents g d (refused e.number e.place)
+  pub check_refused : (e : Fault) → Checks (length ws) contents (g ∷ d ∷ []) passes (Err e) → OwedChecked passes f ws contents g d (refused (number_of e.refusal) e.place)
   check_refused e ok P end t = ap (quoted_for f ws contents g d) (ok P end t)
 
   -- and without one the ceiling is that of the figures and W.
   pub check_priced : (w : ℕ) (a : Answer) → w ≡ weight_of_contents ws contents → Priced f w g d a
-      → Checks (length ws) contents (g ∷ d ∷ []) passes CheckVariants.Good → OwedChecked passes f ws contents g d a
+      → Checks (length ws) contents (g ∷ d ∷ []) passes (Ok tt) → OwedChecked passes f ws contents g d a
   check_priced w a e p ok P end t =
       subst (λ (x : ℕ). Priced f x g d a) e p
       ∙ ap (quoted_for f ws contents g d) (ok P end t)
@@ -212,11 +212,14 @@ largest_quoted a owed = go (subst (Owed largest_weights largest_contents 1000000
         ∙ (ap (λ (c : ℕ). quoted c (class_of c)) largest_attained.ceiling ∙ ap (quoted largest_ceiling) largest_attained.class)
 
 -- Different answers never mean the same.
-pub one_to_one : (a b : Quoted) → answer_of a ≡ answer_of b → a ≡ b
-one_to_one (QuotedVariants.Ceiling c k) (QuotedVariants.Ceiling c' k') e = cc
-one_to_one (QuotedVariants.Ceiling c k) (QuotedVariants.Refused f) e = cc
-one_to_one (QuotedVariants.Refused f) (QuotedVariants.Ceiling c k) e = cc
-one_to_one (QuotedVariants.Refused f) (QuotedVariants.Refused h) e =
-    let n : f.number ≡ h.number = cc in
+pub one_to_one : (a b : Result Quoted Fault) → answer_of a ≡ answer_of b → a ≡ b
+one_to_one (Ok q) (Ok r) e =
+    let ceilings : q.ceiling ≡ r.ceiling = cc in
+    let classes : q.class ≡ r.class = cc in
+    λ i. Ok (record { ceiling = ceilings i; class = classes i })
+one_to_one (Ok q) (Err f) e = cc
+one_to_one (Err f) (Ok q) e = cc
+one_to_one (Err f) (Err h) e =
+    let n : number_of f.refusal ≡ number_of h.refusal = cc in
     let q : f.place ≡ h.place = cc in
-    ap QuotedVariants.Refused (same_fault f h n q)
+    ap Err (same_fault f h n q)

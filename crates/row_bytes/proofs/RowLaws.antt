@@ -1,11 +1,12 @@
 -- The bytes of a row, from its six numbers.
 use mathlib.Core.Path.{◌≡◌, refl, subst}
-use mathlib.Core.Bool.{Bool, true, cond}
+use mathlib.Core.Bool.{Bool, true, false, cond}
 use mathlib.Core.List.{List, [], ◌∷◌, ◌++◌}
 use Prim.Native.Nat.{ℕ, zero, suc, ◌+◌, ◌*◌, ◌≤◌, ◌<◌}
 use native.Mathlib.Nat.{not-suc-le-zero}
 use native.Mathlib.Omega.{arith}
 use lib.Dec.{eqb}
+use mir.Val.{bool_byte}
 use Rattle.livelock.specs.Plants.{row_with}
 use Rattle.plant_files.specs.Files.{byte_if, type_bytes, map_with, differs, is_some, row_bytes}
 use Rattle.plant_files.proofs.RowReads.{bits}
@@ -17,7 +18,7 @@ use Rattle.row_bytes.proofs.StoreLaws.{stored_then}
 -- ---- the map byte
 
 -- Kind 1 is bit 2, kind 2 is bit 3, and kind 3 is both,
-pub kind_bits : (kind : ℕ) → kind < 4 → kind * 4 ≡ cond (sends kind) 4 0 + cond (takes kind) 8 0
+kind_bits : (kind : ℕ) → kind < 4 → kind * 4 ≡ cond (sends kind) 4 0 + cond (takes kind) 8 0
 kind_bits zero h = refl
 kind_bits (suc zero) h = refl
 kind_bits (suc (suc zero)) h = refl
@@ -25,10 +26,18 @@ kind_bits (suc (suc (suc zero))) h = refl
 kind_bits (suc (suc (suc (suc n)))) h = let z : 1 ≤ 0 = omega (arith, h) in absurd (not-suc-le-zero z)
 
 -- and progress is bit 4.
-pub progress_bit : (progress : ℕ) → progress < 2 → progress * 16 ≡ cond (eqb progress 1) 16 0
+progress_bit : (progress : ℕ) → progress < 2 → progress * 16 ≡ cond (eqb progress 1) 16 0
 progress_bit zero h = refl
 progress_bit (suc zero) h = refl
 progress_bit (suc (suc n)) h = let z : 1 ≤ 0 = omega (arith, h) in absurd (not-suc-le-zero z)
+
+-- The states' bits count where they stand.
+pub map_bits : (left entered : Bool) (kind progress : ℕ) → kind < 4 → progress < 2
+    → bool_byte left + bool_byte entered * 2 + kind * 4 + progress * 16 ≡ map_with left entered (sends kind) (takes kind) (eqb progress 1)
+map_bits true true kind progress few one = omega (arith, kind_bits kind few, progress_bit progress one)
+map_bits true false kind progress few one = omega (arith, kind_bits kind few, progress_bit progress one)
+map_bits false true kind progress few one = omega (arith, kind_bits kind few, progress_bit progress one)
+map_bits false false kind progress few one = omega (arith, kind_bits kind few, progress_bit progress one)
 
 -- ---- the bytes
 

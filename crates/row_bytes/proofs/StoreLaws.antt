@@ -8,6 +8,7 @@ use native.Mathlib.Numerals.{add-one}
 use native.Mathlib.Omega.{arith}
 use lib.ListN.{length, set, take, length-append, length-set}
 use lib.Seq.{take-suc, get_or-set_same}
+use mir.Val.{bool_byte}
 use Rattle.plant_files.specs.Files.{byte_if}
 use Rattle.row_bytes.specs.Stores.{Stored}
 
@@ -42,8 +43,6 @@ module _ (l : List ℕ) (pos byte : ℕ) (h : pos < length l) where
       }
 
   -- A byte that stands, and one that does not.
-  pub stored_standing : (stands : Bool) → stands ≡ true → Stored l (set l pos byte) pos (byte_if stands byte) (pos + 1)
-  stored_standing stands t = rw t stored_one
-
-  pub stored_absent : (stands : Bool) → stands ≡ false → Stored l (set l pos byte) pos (byte_if stands byte) pos
-  stored_absent stands t = rw t (record { ends = sym (add-zero pos); front = take-set l pos byte ∙ sym (append-nil (take pos l)) })
+  pub stored_byte : (stands : Bool) → Stored l (set l pos byte) pos (byte_if stands byte) (pos + bool_byte stands)
+  stored_byte true = stored_one
+  stored_byte false = rw add-zero (record { ends = sym (add-zero pos); front = take-set l pos byte ∙ sym (append-nil (take pos l)) })

@@ -16,20 +16,7 @@ pub fn put(file: &mut [u8], pos: usize, byte: u8, stands: bool) -> usize
     ensures upper_bound { result ≤ pos + 1 }
 {
     file[pos] = byte;
-    if stands {
-        return pos + 1;
-    }
-    pos
-}
-
-// A bit's value, if it stands.
-fn bit(stands: bool, value: u8) -> u8
-    ensures { (result ≡ cond stands value 0) × (result ≤ value) }
-{
-    if stands {
-        return value;
-    }
-    0
+    pos + usize::from(stands)
 }
 
 // The map byte of a row of this kind: kind 1 sends, kind 2 takes, and kind 3 has the bits of both.
@@ -37,7 +24,7 @@ fn map_of(left: bool, entered: bool, kind: u16, progress: u16) -> u8
     requires { (kind < 4) × (progress < 2) }
     ensures { result ≡ map_with left entered (sends kind) (takes kind) (eqb progress 1) }
 {
-    bit(left, 1) + bit(entered, 2) + kind as u8 * 4 + progress as u8 * 16
+    u8::from(left) + u8::from(entered) * 2 + kind as u8 * 4 + progress as u8 * 16
 }
 
 // The number that has the type sent: the sixth, where the fourth has the type taken.
@@ -45,10 +32,7 @@ fn sent_byte(kind: u16, message: u16, sent: u16) -> u8
     requires { (message < 64) × (sent < 64) }
     ensures { result ≡ cond (eqb kind 3) sent message }
 {
-    if kind == 3 {
-        return sent as u8;
-    }
-    message as u8
+    if kind == 3 { sent as u8 } else { message as u8 }
 }
 
 // Stores the row whose six numbers begin at `at`, before which a state is implied, and hands back the offset after it.

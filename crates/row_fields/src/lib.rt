@@ -6,7 +6,7 @@ ghost use Rattle.plant.specs.Reading.{has_bit, map_byte, state_field, type_field
 ghost use Rattle.plant.specs.Steps.{field_found};
 ghost use Rattle.row_fields.specs.Fields.{type_found};
 
-use plant::{Field, FieldStep, byte_in};
+use plant::{Fault, Field, Refusal, byte_in};
 
 // Whether the bit of this value stands in a map byte.
 pub fn has_bit(map: u8, value: u8) -> bool
@@ -17,20 +17,26 @@ pub fn has_bit(map: u8, value: u8) -> bool
 }
 
 // A row's map byte.
-pub fn map_byte(s: &[u8], at: usize) -> FieldStep
+pub fn map_byte(s: &[u8], at: usize) -> Result<Field<u8>, Fault>
     ensures { field_found result ≡ map_byte s.now at }
 {
-    byte_in(s, at, 0, 32, 4)
+    byte_in(s, at, 0, 32, Refusal::MapByte)
 }
 
 // A state field, or the state that stands for it.
-pub fn state_field(s: &[u8], at: usize, stands: bool, absent: u8, states: u8) -> FieldStep
+pub fn state_field(
+    s: &[u8],
+    at: usize,
+    stands: bool,
+    absent: u8,
+    states: u8,
+) -> Result<Field<u8>, Fault>
     ensures { field_found result ≡ state_field stands absent states s.now at }
 {
     if stands {
-        byte_in(s, at, 0, states, 5)
+        byte_in(s, at, 0, states, Refusal::NotAState)
     } else {
-        FieldStep::Value(Field {
+        Ok(Field {
             value: absent,
             next: at,
         })
@@ -38,14 +44,14 @@ pub fn state_field(s: &[u8], at: usize, stands: bool, absent: u8, states: u8) ->
 }
 
 // A type field, or 64.
-pub fn type_field(s: &[u8], at: usize, stands: bool, types: u8) -> FieldStep
+pub fn type_field(s: &[u8], at: usize, stands: bool, types: u8) -> Result<Field<u8>, Fault>
     requires { types ≤ 64 }
     ensures { type_found result ≡ type_field stands types s.now at }
 {
     if stands {
-        byte_in(s, at, 0, types, 6)
+        byte_in(s, at, 0, types, Refusal::NotAType)
     } else {
-        FieldStep::Value(Field {
+        Ok(Field {
             value: 64,
             next: at,
         })

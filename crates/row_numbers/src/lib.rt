@@ -8,27 +8,21 @@ ghost use Rattle.plant_rows.specs.Rows.{fields_row};
 ghost use Rattle.plant_lists.specs.Lists.{sent_by, taken_by, types_for, sent_types_for, listed_row};
 ghost use Rattle.plant_lists.specs.Inner.Rows.{number_passes, row_passes, row_listed, RowThere, number_fault};
 
-use plant::Fault;
+use plant::{Fault, Field, Refusal};
 use plant_rows::RowFields;
 
 // Where the fourth number of a row of this kind ends, its type,
 fn type_end(kind: u16, types: u8) -> u16
     ensures { result ≡ types_for kind types }
 {
-    if kind == 0 {
-        return 1;
-    }
-    types as u16
+    if kind == 0 { 1 } else { u16::from(types) }
 }
 
 // and its sixth, the type sent where the fourth is the type taken.
 fn sent_end(kind: u16, types: u8) -> u16
     ensures { result ≡ sent_types_for kind types }
 {
-    if kind == 3 {
-        return types as u16;
-    }
-    1
+    if kind == 3 { u16::from(types) } else { 1 }
 }
 
 // Whether the six numbers of a row all pass. One test of the list's length serves them all.
@@ -39,33 +33,20 @@ pub fn row_passes(numbers: &[u16], at: usize, states: u8, types: u8) -> bool
     if numbers.len() - at < 6 {
         return false;
     }
-    if states as u16 <= numbers[at] {
-        return false;
-    }
-    if states as u16 <= numbers[at + 1] {
-        return false;
-    }
     let kind = numbers[at + 2];
-    if 4 <= kind {
-        return false;
-    }
-    if type_end(kind, types) <= numbers[at + 3] {
-        return false;
-    }
-    if 2 <= numbers[at + 4] {
-        return false;
-    }
-    numbers[at + 5] < sent_end(kind, types)
+    numbers[at] < u16::from(states)
+        && numbers[at + 1] < u16::from(states)
+        && kind < 4
+        && numbers[at + 3] < type_end(kind, types)
+        && numbers[at + 4] < 2
+        && numbers[at + 5] < sent_end(kind, types)
 }
 
 // Whether the list has a number at `at`, and it is below `end`.
 fn number_passes(numbers: &[u16], at: usize, end: u16) -> bool
     ensures { result ≡ number_passes end numbers.now at }
 {
-    if numbers.len() <= at {
-        return false;
-    }
-    numbers[at] < end
+    at < numbers.len() && numbers[at] < end
 }
 
 // The first of a row's six numbers that does not pass.
@@ -73,10 +54,11 @@ fn first_wrong(numbers: &[u16], at: usize, states: u8, types: u8) -> usize
     requires { (at ≤ length numbers.now) × (row_passes states types numbers.now at ≡ false) }
     ensures { (m : ℕ) → listed_row m states types numbers.now at ≡ number_fault numbers.now result }
 {
-    if !number_passes(numbers, at, states as u16) {
+    let states = u16::from(states);
+    if !number_passes(numbers, at, states) {
         return at;
     }
-    if !number_passes(numbers, at + 1, states as u16) {
+    if !number_passes(numbers, at + 1, states) {
         return at + 1;
     }
     if !number_passes(numbers, at + 2, 4) {
@@ -98,10 +80,12 @@ pub fn row_fault(numbers: &[u16], at: usize, states: u8, types: u8) -> Fault
     ensures { (m : ℕ) → listed_row m states types numbers.now at ≡ fault_found result }
 {
     let place = first_wrong(numbers, at, states, types);
-    if place < numbers.len() {
-        return Fault { number: 24, place };
-    }
-    Fault { number: 23, place }
+    let refusal = if place < numbers.len() {
+        Refusal::ListNumber
+    } else {
+        Refusal::ListLength
+    };
+    Fault { refusal, place }
 }
 
 // The type that a row of this kind sends, or 64,
@@ -109,13 +93,11 @@ fn type_sent(kind: u16, message: u16, sent: u16) -> u8
     requires { (message < 64) × (sent < 64) }
     ensures { type_of result ≡ sent_by kind message sent }
 {
-    if kind == 1 {
-        return message as u8;
+    match kind {
+        1 => message as u8,
+        3 => sent as u8,
+        _ => 64,
     }
-    if kind == 3 {
-        return sent as u8;
-    }
-    64
 }
 
 // and the type that it takes.
@@ -123,29 +105,28 @@ fn type_taken(kind: u16, message: u16) -> u8
     requires { message < 64 }
     ensures { type_of result ≡ taken_by kind message }
 {
-    if kind == 2 {
-        return message as u8;
+    match kind {
+        2 | 3 => message as u8,
+        _ => 64,
     }
-    if kind == 3 {
-        return message as u8;
-    }
-    64
 }
 
 // The row that the six numbers at `at` say, and the index after them.
-pub fn listed_row(numbers: &[u16], at: usize) -> RowFields
+pub fn listed_row(numbers: &[u16], at: usize) -> Field<RowFields>
     requires { RowThere numbers.now at }
-    ensures { ((m : ℕ) → fields_row m result ≡ row_listed m numbers.now at) × (result.next ≡ at + 6) }
+    ensures { ((m : ℕ) → fields_row m result.value ≡ row_listed m numbers.now at) × (result.next ≡ at + 6) }
 {
     let kind = numbers[at + 2];
     let message = numbers[at + 3];
     let sent = numbers[at + 5];
-    RowFields {
-        left: numbers[at] as u8,
-        entered: numbers[at + 1] as u8,
-        sent: type_sent(kind, message, sent),
-        taken: type_taken(kind, message),
-        progress: numbers[at + 4] == 1,
+    Field {
+        value: RowFields {
+            left: numbers[at] as u8,
+            entered: numbers[at + 1] as u8,
+            sent: type_sent(kind, message, sent),
+            taken: type_taken(kind, message),
+            progress: numbers[at + 4] == 1,
+        },
         next: at + 6,
     }
 }

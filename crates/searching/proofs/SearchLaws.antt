@@ -5,9 +5,10 @@ use mathlib.Core.Bool.{Bool, true, false}
 use mathlib.Core.List.{List, [], ◌∷◌, ◌++◌, map, map-append, append_assoc}
 use Prim.Native.Nat.{ℕ, suc, ◌+◌, ◌-◌, ◌*◌, ◌≤◌, ◌<◌}
 use native.Mathlib.Nat.{not-suc-le-zero}
-use native.Mathlib.Decide.{ℕ_discrete, dec_le, dec_lt}
+use native.Mathlib.Decide.{dec_le, dec_lt}
 use native.Mathlib.Numerals.{add-one}
 use native.Mathlib.Omega.{arith}
+use Rattle.std.specs.Prelude.{Option, Some, None, IfSome, MatchOption}
 use lib.ListN.{length, length-map, length-append, length-set, get_or, set, drop}
 use lib.Seq.{set_at, drop-cons}
 use lib.Dec.{eqb}
@@ -20,8 +21,9 @@ use Rattle.livelock.proofs.Pigeonhole.{left_once}
 use Rattle.livelock.proofs.Walks.{visited, walk-append, HasCycle, distinct_or_cycle}
 use Rattle.livelock.specs.Graphs.{Graph, IsEdge, Cycle}
 use Rattle.deciding.specs.Rounds.{NoneBelow}
-use Rattle.closed_walks.specs.ClosedWalks.{origin, heaviest, Closes, entry, FirstEdge, LeastFrom, Noted}
+use Rattle.closed_walks.specs.ClosedWalks.{origin, heaviest, Closes, entry, FirstEdge, FirstEdges, LeastFrom}
 use Rattle.closed_walks.proofs.WalkLaws.{Searchable, ClosedWalk, walk_closes}
+use Rattle.searching.specs.declared.Start.{Start}
 use Rattle.searching.specs.Searches.{LeastWithin, Written}
 
 -- ---- a shortest closed walk is simple
@@ -135,47 +137,14 @@ shortest_is_cycle g a (e ∷ es) l w none = record { non_empty = l; edges = w.ed
 
 -- ---- the least number of edges from any start
 
--- From the first s states no fewer than k edges close; k edges do from `start`, unless k is one more than the limit.
-pub record Sought (g : Graph) (states limit start k s : ℕ) : Type 0 where
+-- From the first s states no number of edges up to `most` closes: one less than what was found, or the limit.
+pub record Sought (g : Graph) (states limit : ℕ) (found : Option Start) (most s : ℕ) : Type 0 where
   pub passed : s ≤ states
-  pub some_edge : 1 ≤ k
-  pub few : k ≤ limit + 1
-  pub none : (a j : ℕ) → a < s → 1 ≤ j → j < k → Closes g a j → ⊥
-  pub closes : k ≤ limit → (start < states) × Closes g start k
-
--- Before the first state.
-pub sought_none : (g : Graph) (states limit : ℕ) → Sought g states limit 0 (limit + 1) 0
-sought_none g states limit =
-    record { passed = omega arith; some_edge = omega arith; few = omega arith; none = λ a j x y z q. omega arith; closes = λ x. absurd (omega arith) }
-
-module _ {g : Graph} {states limit start k s r : ℕ} (h : Sought g states limit start k s) (l : s < states) (f : LeastFrom g s (k - 1) r) where
-  none_more : (a j : ℕ) → a < s + 1 → 1 ≤ j → j < r → Closes g a j → ⊥
-  none_more a j x y z q = go (ℕ_discrete a s)
-    where
-      go : Dec (a ≡ s) → ⊥
-      go (yes e) = f.least j y z (subst (λ (i : ℕ). Closes g i j) e q)
-      go (no e) = h.none a j (omega arith) y (omega (arith, f.few, h.some_edge)) q
-
-  -- From s fewer edges close,
-  pub sought_fewer : r < k → Sought g states limit s r (s + 1)
-  sought_fewer m =
-      record { passed = omega arith; some_edge = f.some_edge; few = omega (arith, h.few); none = none_more; closes = λ x. (l, f.closes (omega arith)) }
-
-  -- or not.
-  pub sought_same : k ≤ r → Sought g states limit start r (s + 1)
-  sought_same m =
-      let e : k ≡ r = omega (arith, f.few, h.some_edge) in
-      record {
-        passed = omega arith;
-        some_edge = f.some_edge;
-        few = omega (arith, h.few);
-        none = none_more;
-        closes = subst (λ (i : ℕ). i ≤ limit → (start < states) × Closes g start i) e h.closes;
-      }
-
--- After the last state the number is the least from any, up to the limit.
-pub sought_all : {g : Graph} {states limit start k s : ℕ} → states ≤ s → Sought g states limit start k s → LeastWithin g states limit start k
-sought_all e h = record { some_edge = h.some_edge; few = h.few; closes = h.closes; least = λ a j x y z q. h.none a j (omega arith) y z q }
+  pub few : most ≤ limit
+  pub next : MatchOption found (most ≡ limit) (λ f. f.length ≡ most + 1)
+  pub within : IfSome found (λ f. f.length ≤ limit)
+  pub none : (a j : ℕ) → a < s → 1 ≤ j → j ≤ most → Closes g a j → ⊥
+  pub closes : IfSome found (λ f. (f.start < states) × Closes g f.start f.length)
 
 -- A walk with an edge begins at one of the states.
 begins_in : {g : Graph} {states : ℕ} → Searchable g states
@@ -191,12 +160,12 @@ module _ {g : Graph} {states : ℕ} (ok : Searchable g states) (es : List ℕ) (
   pub cycle_few : length es ≤ states
   cycle_few = left_once g.src states es c.once (all_weaken (IsEdge g) (λ e. g.src e < states) (λ e u. (ok.within e u).0) es c.edges)
 
-  -- One that weighs zero or more is a closed walk from one of the states, so it has at least as many edges as were found.
-  cycle_long : {limit start k : ℕ} → LeastWithin g states limit start k → sum g.minus es ≤ sum g.plus es → k ≤ length es
-  cycle_long {k = k} h w =
+  -- One that weighs zero or more is a closed walk from one of the states, so it has as many edges as close, at least.
+  cycle_long : {k : ℕ} → ((s j : ℕ) → s < states → 1 ≤ j → j < k → Closes g s j → ⊥) → sum g.minus es ≤ sum g.plus es → k ≤ length es
+  cycle_long {k} none w =
       elim (dec_lt (length es) k) [
         | yes l ↦
-            absurd (h.least
+            absurd (none
             c.at
             (length es)
             (begins_in ok c.at c.at es c.non_empty c.edges c.closed)
@@ -206,9 +175,13 @@ module _ {g : Graph} {states : ℕ} (ok : Searchable g states) (es : List ℕ) (
         | no l ↦ omega arith
       ]
 
--- So no cycle that weighs zero or more has fewer edges than were found.
-pub none_below : {g : Graph} {states limit start k : ℕ} → Searchable g states → LeastWithin g states limit start k → NoneBelow g k
-none_below ok h es c w = cycle_long ok es c h w
+-- So no cycle that weighs zero or more has fewer edges than were found,
+pub none_below : {g : Graph} {states limit : ℕ} {f : Start} → Searchable g states → LeastWithin g states limit (Some f) → NoneBelow g f.length
+none_below ok h es c w = cycle_long ok es c (λ s j x y z q. h.least s j x y z q) w
+
+-- or as few as the limit.
+pub none_within : {g : Graph} {states limit : ℕ} → Searchable g states → LeastWithin g states limit None → NoneBelow g (limit + 1)
+none_within {limit = limit} ok h es c w = cycle_long ok es c (λ s j x y z q. h.least s j x y (omega (arith, z)) q) w
 
 -- If none has as few as there are states, there is none, and none below any number.
 pub none_at_all : {g : Graph} {states k : ℕ} → Searchable g states → states < k → NoneBelow g k → (least : ℕ) → NoneBelow g least
@@ -225,17 +198,18 @@ pub record Least (g : Graph) (states start k : ℕ) : Type 0 where
   pub least : (s j : ℕ) → s < states → 1 ≤ j → j < k → Closes g s j → ⊥
 
 -- The search found it.
-pub least_found : {g : Graph} {states limit start k : ℕ} → limit ≤ states → k ≤ limit → LeastWithin g states limit start k → Least g states start k
-least_found below found h =
-    record { start_in = (h.closes found).0; some_edge = h.some_edge; few = omega arith; closes = (h.closes found).1; least = h.least }
+pub least_found : {g : Graph} {states limit : ℕ} {f : Start} → limit ≤ states → LeastWithin g states limit (Some f) → Least g states f.start f.length
+least_found below h =
+    record { start_in = h.closes.0; some_edge = h.some_edge; few = omega (arith, h.few, below); closes = h.closes.1; least = λ s j x y z q. h.least s j x y z q }
 
--- A search from the start that was found, up to the length that was found, finds this length again.
-pub least_again : {g : Graph} {states start k r : ℕ} → Least g states start k → LeastFrom g start k r → r ≡ k
-least_again {g} {states} {start} {k} {r} h f = go (dec_lt k r)
-  where
-    go : Dec (k < r) → r ≡ k
-    go (yes l) = absurd (f.least k h.some_edge l h.closes)
-    go (no l) = elim (dec_lt r k) [ yes m ↦ absurd (h.least start r h.start_in f.some_edge m (f.closes (omega arith))) | no m ↦ omega arith ]
+-- A search from the start that was found, up to the length that was found, finds one,
+pub least_there : {g : Graph} {states start k : ℕ} → Least g states start k → LeastFrom g start k None → ⊥
+least_there {k = k} h f = f.least k h.some_edge (omega arith) h.closes
+
+-- of this length again.
+pub least_again : {g : Graph} {states start k r : ℕ} → Least g states start k → LeastFrom g start k (Some r) → r ≡ k
+least_again {g} {states} {start} {k} {r} h f =
+    elim (dec_lt r k) [ yes m ↦ absurd (h.least start r h.start_in f.some_edge m f.closes) | no m ↦ omega (arith, f.few) ]
 
 -- ---- the walk that is written
 
@@ -291,11 +265,10 @@ module _ {g : Graph} {states start k : ℕ} (ok : Searchable g states) (least : 
     walk_in = walk_end_in ok start s w.walk least.start_in w.edges w.joined
 
     -- and the first edge of the walk on is noted.
-    pub walk_leads : {limit : ℕ} {noted : List ℕ} → i < k → Noted g states start limit k noted → k ≤ limit
-        → FirstEdge g start (k - i - 1) s (entry noted ((k - i - 1) * 64) s)
-    walk_leads l n few =
+    pub walk_leads : (noted : List ℕ) → i < k → FirstEdges g states start k noted → FirstEdge g start (k - i - 1) s (entry noted ((k - i - 1) * 64) s)
+    walk_leads noted l first =
         let q : k - i ≡ suc (k - i - 1) = omega arith in
-        n.first_edges few (k - i - 1) s (omega arith) walk_in (rw q at walk_alive)
+        first (k - i - 1) s (omega arith) walk_in (rw q at walk_alive)
 
     module _ (l : i < k) (room : 64 ≤ length before) (e : ℕ) (h : FirstEdge g start (k - i - 1) s e) where
       abbrev shown : List ℕ → List ℕ

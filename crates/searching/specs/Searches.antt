@@ -1,18 +1,20 @@
 -- The search for a closed walk with the fewest edges that weighs zero or more.
-use Rattle.std.specs.Prelude.{◌≡◌, List, ◌++◌, map, ℕ, ◌+◌, ◌≤◌, ◌<◌, length, drop, ℤ}
+use Rattle.std.specs.Prelude.{◌≡◌, List, ◌++◌, map, ℕ, ◌+◌, ◌≤◌, ◌<◌, length, drop, Option, IfSome, IfNone, MatchOption}
 use Rattle.livelock.specs.Lists.{sum}
 use Rattle.livelock.specs.Graphs.{Graph, Cycle}
+use Rattle.edge_lists.specs.declared.Edge.{Edge}
 use Rattle.edge_lists.specs.EdgeLists.{edge_in}
 use Rattle.deciding.specs.Rounds.{edge_graph, NoneBelow}
 use Rattle.closed_walks.specs.ClosedWalks.{Closes}
+use Rattle.searching.specs.declared.Start.{Start}
 
--- k is the least number of edges, up to a limit, of a closed walk that weighs zero or more, from whatever state, and one goes from `start`;
--- limit + 1 stands for none.
-pub record LeastWithin (g : Graph) (states limit start k : ℕ) : Type 0 where
-  pub some_edge : 1 ≤ k
-  pub few : k ≤ limit + 1
-  pub closes : k ≤ limit → (start < states) × Closes g start k
-  pub least : (s j : ℕ) → s < states → 1 ≤ j → j < k → Closes g s j → ⊥
+-- `found` has the least number of edges, up to a limit, of a closed walk that weighs zero or more, from whatever state, and the state from which one goes;
+-- `None` stands for none.
+pub record LeastWithin (g : Graph) (states limit : ℕ) (found : Option Start) : Type 0 where
+  pub some_edge : IfSome found (λ f. 1 ≤ f.length)
+  pub few : IfSome found (λ f. f.length ≤ limit)
+  pub closes : IfSome found (λ f. (f.start < states) × Closes g f.start f.length)
+  pub least : (s j : ℕ) → s < states → 1 ≤ j → MatchOption found (j ≤ limit) (λ f. j < f.length) → Closes g s j → ⊥
 
 -- The front of the list has the rows of a simple cycle of k edges that weighs zero or more; the rest is kept.
 pub record Written (g : Graph) (row : ℕ → ℕ) (k : ℕ) (before after : List ℕ) : Type 0 where
@@ -22,10 +24,10 @@ pub record Written (g : Graph) (row : ℕ → ℕ) (k : ℕ) (before after : Lis
   pub weighs : sum g.minus cycle ≤ sum g.plus cycle
   pub shown : after ≡ map row cycle ++ drop k before
 
--- A shortest cycle of at most `limit` edges that weighs zero or more was written, and has k; or there is none, k is limit + 1 and the list is kept.
-pub record ShownWithin (count : ℕ) (edges : List ℤ) (limit k : ℕ) (before after : List ℕ) : Type 0 where
-  pub some_row : 1 ≤ k
-  pub few : k ≤ limit + 1
-  pub fewest : NoneBelow (edge_graph count edges) k
-  pub written : k ≤ limit → Written (edge_graph count edges) (λ e. (edge_in edges e).row) k before after
-  pub kept : limit < k → after ≡ before
+-- A shortest cycle of at most `limit` edges that weighs zero or more was written, and has `shown`; or there is none, `shown` is `None` and the list is kept.
+pub record ShownWithin (edges : List Edge) (limit : ℕ) (shown : Option ℕ) (before after : List ℕ) : Type 0 where
+  pub some_row : IfSome shown (λ k. 1 ≤ k)
+  pub few : IfSome shown (λ k. k ≤ limit)
+  pub fewest : MatchOption shown (NoneBelow (edge_graph edges) (limit + 1)) (NoneBelow (edge_graph edges))
+  pub written : IfSome shown (λ k. Written (edge_graph edges) (λ e. (edge_in edges e).row) k before after)
+  pub kept : IfNone shown (after ≡ before)

@@ -12,7 +12,7 @@ use borrow.Author.Tests.{eqb-true, eq-eqb}
 use Rattle.livelock.specs.Lists.{All, Distinct}
 use Rattle.livelock.specs.Plants.{Row, Plant, has_progress}
 use Rattle.livelock.specs.Cycles.{Walk, leaves, enters, RowOf, first_left, SimpleCycle, Quiet}
-use Rattle.livelock.proofs.ListLaws.{all_weaken, all_always, all_both, all_of_map, all_map_of, get_d_replicate_default}
+use Rattle.livelock.proofs.ListLaws.{all_at, all_weaken, all_always, all_both, all_of_map, all_map_of, get_d_replicate_default}
 use Rattle.livelock.proofs.Tests.{same_test, and_iff, both_iff, equal_iff, not_iff, simple_cycle_iff, quiet_iff}
 use Rattle.tables.specs.Tables.{row_in}
 use Rattle.set_entries.specs.Sets.{is_quiet_cycle_of}
@@ -102,21 +102,23 @@ module _ (P : Plant) (rows : ℕ) (c : List ℕ) (is : TableOf P rows c) (m end 
             }),
       )
 
--- For rows of the plant, at least one, with no state marked, the test tells whether they are a quiet simple cycle.
+-- For rows of the plant, at least one, with no state marked, the test over the table tells whether they are a quiet simple cycle.
 pub leads_is : (P : Plant) (rows : ℕ) (c : List ℕ) → TableOf P rows c → (m : ℕ) (ks : List ℕ) → 0 < length ks → All (λ k. k < rows) ks
-    → leads c m (first_left P ks) (first_left P ks) (replicate 256 false) ks ≡ is_quiet_cycle_of P m ks
-leads_is P rows c is m ks some l = same_test _ _ (
-  λ e.
-      let w = leading P rows c is m (first_left P ks) (first_left P ks) (replicate 256 false) ks refl l e in
-      (quiet_cycle_iff P m ks).1 (record { non_empty = some; of_machine = w.of_machine; closed = w.walk; once = w.once }, w.quiet),
-  λ e.
-      let q = (quiet_cycle_iff P m ks).0 e in
-      leads_so P rows c is m (first_left P ks) (first_left P ks) (replicate 256 false) ks l
-      (record {
-        of_machine = q.0.of_machine;
-        quiet = q.1;
-        walk = q.0.closed;
-        unmarked = all_always _ (λ k. get_d_replicate_default 256 false (leaves P k)) ks;
-        once = q.0.once;
-      }),
-)
+    → leads c m (row_in c (get_or ks 0 0)).left (row_in c (get_or ks 0 0)).left (replicate 256 false) ks ≡ is_quiet_cycle_of P m ks
+leads_is P rows c is m ks some l =
+    subst (λ (s : ℕ). leads c m s s (replicate 256 false) ks ≡ is_quiet_cycle_of P m ks) (ap (λ (r : Row). r.left) (is.row_is (get_or ks 0 0) (all_at (λ k. k < rows) 0 ks l 0 some)))
+    (same_test _ _ (
+      λ e.
+          let w = leading P rows c is m (first_left P ks) (first_left P ks) (replicate 256 false) ks refl l e in
+          (quiet_cycle_iff P m ks).1 (record { non_empty = some; of_machine = w.of_machine; closed = w.walk; once = w.once }, w.quiet),
+      λ e.
+          let q = (quiet_cycle_iff P m ks).0 e in
+          leads_so P rows c is m (first_left P ks) (first_left P ks) (replicate 256 false) ks l
+          (record {
+            of_machine = q.0.of_machine;
+            quiet = q.1;
+            walk = q.0.closed;
+            unmarked = all_always _ (λ k. get_d_replicate_default 256 false (leaves P k)) ks;
+            once = q.0.once;
+          }),
+    ))

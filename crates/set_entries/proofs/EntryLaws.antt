@@ -3,16 +3,14 @@ use mathlib.Core.Path.{◌≡◌, refl, sym, ap, ◌∙◌, subst}
 use mathlib.Core.Bool.{Bool, true, false, false≢true}
 use mathlib.Core.List.{List}
 use Prim.Native.Nat.{ℕ, ◌+◌, ◌-◌, ◌≤◌, ◌<◌}
-use native.Mathlib.Nat.{le_refl, add-zero}
 use native.Mathlib.Omega.{arith}
 use lib.ListN.{get_or, replicate}
-use lib.Seq.{get_or-take, get_or-drop}
-use Rattle.livelock.specs.Plants.{Row, Plant, row_count, machine_count}
-use Rattle.livelock.specs.Cycles.{first_left}
+use Rattle.std.specs.Prelude.{Result, Ok, Err}
+use Rattle.livelock.specs.Plants.{Plant, row_count, machine_count}
 use Rattle.livelock.specs.CycleSets.{Entry}
 use Rattle.plant.specs.Found.{Found, found, fault, and_then}
-use Rattle.plant.specs.declared.End.{End}
-use Rattle.plant.specs.declared.End.TheVariants as Ends
+use Rattle.plant.specs.declared.Fault.{Fault}
+use Rattle.plant.specs.declared.Refusal.TheVariants as Refusals
 use Rattle.tables.specs.Tables.{row_in}
 use Rattle.set_numbers.specs.Numbers.{number_in, rows_at, first_numbers, value_found, part}
 use Rattle.set_entries.specs.Sets.{is_quiet_cycle_of, entry_ends, entry_at}
@@ -24,36 +22,21 @@ use Rattle.set_entries.proofs.ChainLaws.{chained, three_stop}
 use Rattle.set_entries.proofs.PartLaws.{RowsRead, rows_read, part_length, part_below}
 use Rattle.set_entries.proofs.CycleTestLaws.{leads_is}
 
--- ---- the test of the rows in the list
-
--- For row numbers that the list has, the test over the columns tells whether they are a quiet simple cycle of the plant.
-rows_test : (P : Plant) (rows : ℕ) (c : List ℕ) → TableOf P rows c → (set : List ℕ) (m a b : ℕ) → a < b → NumbersBelow rows set a b
-    → leads c m (row_in c (get_or set a 0)).left (row_in c (get_or set a 0)).left (replicate 256 false) (part set a b) ≡ is_quiet_cycle_of P m (part set a b)
-rows_test P rows c is set m a b l h =
-    subst (λ (s : ℕ). leads c m s s (replicate 256 false) (part set a b) ≡ is_quiet_cycle_of P m (part set a b)) first_is
-    (leads_is P rows c is m (part set a b) (omega (arith, part_length set a b h.there)) (part_below rows set (b - a) a b (omega arith) h))
-  where
-    first_number : get_or (part set a b) 0 0 ≡ get_or set a 0
-    first_number = get_or-take (b - a) _ 0 0 (omega arith) ∙ (get_or-drop a set 0 0 ∙ ap (λ (i : ℕ). get_or set i 0) (add-zero a))
-
-    first_is : first_left P (part set a b) ≡ (row_in c (get_or set a 0)).left
-    first_is = rw first_number (ap (λ (r : Row). r.left) (is.row_is (get_or set a 0) (h.small a (le_refl a) l)))
-
 -- ---- where an entry ends
 
 module _ (c : List ℕ) (set : List ℕ) (at end : ℕ) (some : at + 3 < end) (b : Bool)
-    (b-is : b ≡ leads c (get_or set at 0) (row_in c (get_or set (at + 3) 0)).left (row_in c (get_or set (at + 3) 0)).left (replicate 256 false) (part set (at + 3) end)) where
+    (b-is : b ≡ leads c (get_or set at 0) (row_in c (get_or (part set (at + 3) end) 0 0)).left (row_in c (get_or (part set (at + 3) end) 0 0)).left (replicate 256 false) (part set (at + 3) end)) where
   -- What the code's test says is what the definition's test says.
   tested_so : (P : Plant) (rows : ℕ) → TableOf P rows c → NumbersBelow rows set (at + 3) end → is_quiet_cycle_of P (get_or set at 0) (part set (at + 3) end) ≡ b
-  tested_so P rows is below = sym (b-is ∙ rows_test P rows c is set (get_or set at 0) (at + 3) end some below)
+  tested_so P rows is below = sym (b-is ∙ leads_is P rows c is (get_or set at 0) (part set (at + 3) end) (omega (arith, part_length set (at + 3) end below.there)) (part_below rows set (end - (at + 3)) (at + 3) end (omega arith) below))
 
   -- "not a quiet simple cycle of that machine"
-  pub cycle_stops : b ≡ false → JudgedEnd c set at end (Ends.Fault (record { number = 17; place = at }))
+  pub cycle_stops : b ≡ false → JudgedEnd c set at end (Err (record { refusal = Refusals.NotQuietCycle; place = at }))
   unfolding entry_ends
   cycle_stops f P rows is below = rw (tested_so P rows is below, f)
 
   -- Where they are, the entry is read.
-  pub cycle_good : b ≡ true → JudgedEnd c set at end (Ends.At end)
+  pub cycle_good : b ≡ true → JudgedEnd c set at end (Ok end)
   unfolding entry_ends
   cycle_good t P rows is below = rw (tested_so P rows is below, t)
 
@@ -70,8 +53,8 @@ module _ (machines : ℕ) (set : List ℕ) (at : ℕ) where
     pub second : number_in 1 1000001 set (at + 1) ≡ found (get_or set (at + 1) 0) (at + 2)
     pub third : number_in 1 65 set (at + 2) ≡ found (get_or set (at + 2) 0) (at + 3)
 
-  -- They are read where the row count is handed on.
-  pub three_read : (n next : ℕ) → first_numbers machines set at ≡ found n next → ThreeRead
+  -- They are read where the row count is handed on, and the rows come next.
+  pub three_read : (n next : ℕ) → first_numbers machines set at ≡ found n next → ThreeRead × (next ≡ at + 3)
   unfolding first_numbers
   three_read n next h =
       let c1 = chained (number_in 0 machines set at) (λ m a. and_then (number_in 1 1000001 set a) (λ r b. number_in 1 65 set b)) n next h in
@@ -79,7 +62,7 @@ module _ (machines : ℕ) (set : List ℕ) (at : ℕ) where
       let c2 = chained (number_in 1 1000001 set c1.next) (λ r b. number_in 1 65 set b) n next c1.second in
       let x2 = settled set 1 1000001 c1.next (at + 1) c2.value c2.next (at + 2) c2.first x1.1 (omega arith) in
       let x3 = settled set 1 65 c2.next (at + 2) n next (at + 3) c2.second x2.1 (omega arith) in
-      record { first = x1.0; second = x2.0; third = x3.0 }
+      (record { first = x1.0; second = x2.0; third = x3.0 }, x3.1)
 
 module _ (c : List ℕ) (rows machines : ℕ) (set : List ℕ) (at : ℕ) where
   -- x is what the entry reads as in every plant with these columns.
@@ -130,7 +113,7 @@ module _ (c : List ℕ) (rows machines : ℕ) (set : List ℕ) (at : ℕ) where
           (subst (λ (n : ℕ). rows_at n rows set (at + 3) ≡ found (part set (at + 3) end) next) counted fourth)
 
       -- Once its numbers are read, what is judged where it ends is what the entry reads as.
-      pub entry_ended : (r : End) → JudgedEnd c set at end r → Reads (value_found (entry_in set at) r)
+      pub entry_ended : (r : Result ℕ Fault) → JudgedEnd c set at end r → Reads (value_found (entry_in set at) r)
       unfolding entry_at
       entry_ended r h P is e = h P rows is rows_below ∙ rw (e, three.first, three.second, three.third, is.rows_are, fourth_is)
 
@@ -162,7 +145,7 @@ module _ (P : Plant) (set : List ℕ) (at : ℕ) (e : Entry) (next : ℕ) where
   three_there h = go (first_numbers (machine_count P) set at) refl
     where
       go : (x : Found ℕ) → first_numbers (machine_count P) set at ≡ x → ThreeRead (machine_count P) set at
-      go (found n i) q = three_read (machine_count P) set at n i q
+      go (found n i) q = (three_read (machine_count P) set at n i q).0
       go (fault number place) q =
           let z =
           three_stop (number_in 0 (machine_count P) set at) (number_in 1 1000001 set) (number_in 1 65 set)

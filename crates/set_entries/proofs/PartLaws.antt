@@ -6,7 +6,7 @@ use native.Mathlib.Decide.{ℕ_discrete}
 use native.Mathlib.Numerals.{add-one}
 use native.Mathlib.Omega.{arith}
 use lib.ListN.{length, get_or, drop, length-take, length-drop}
-use lib.Seq.{drop-cons}
+use lib.Seq.{drop-cons, get_or-take, get_or-drop}
 use Rattle.livelock.specs.Lists.{All}
 use Rattle.plant.specs.Found.{found, and_then}
 use Rattle.set_numbers.specs.Numbers.{number_in, rows_at, part}
@@ -26,6 +26,10 @@ part_first set i end h l =
 -- A part that the list has is as long as its indices say.
 pub part_length : (set : List ℕ) (a b : ℕ) → b ≤ length set → length (part set a b) ≡ b - a
 part_length set a b h = omega (arith, length-take (b - a) (drop a set), length-drop a set)
+
+-- The numbers of a part are those of the list from its first index on.
+pub part_at : (set : List ℕ) (a b i : ℕ) → i < b - a → get_or (part set a b) i 0 ≡ get_or set (a + i) 0
+part_at set a b i h = get_or-take (b - a) (drop a set) i 0 h ∙ get_or-drop a set i 0
 
 -- The numbers of a part are below the limit.
 pub part_below : (limit : ℕ) (set : List ℕ) (n a b : ℕ) → a + n ≡ b → NumbersBelow limit set a b → All (λ k. k < limit) (part set a b)

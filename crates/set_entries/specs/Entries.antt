@@ -1,8 +1,8 @@
 -- The entry that numbers make up, the table that its rows are judged by, and what judging it gives.
-use Rattle.std.specs.Prelude.{◌≡◌, List, ℕ, ◌+◌, ◌≤◌, ◌<◌, length, get_or}
+use Rattle.std.specs.Prelude.{◌≡◌, List, ℕ, ◌+◌, ◌≤◌, ◌<◌, length, get_or, Result}
 use Rattle.livelock.specs.Plants.{Plant, row_at, row_count, machine_count}
 use Rattle.livelock.specs.CycleSets.{Entry}
-use Rattle.plant.specs.declared.End.{End}
+use Rattle.plant.specs.declared.Fault.{Fault}
 use Rattle.tables.specs.Tables.{row_in, RoomFor}
 use Rattle.set_numbers.specs.Numbers.{value_found, part}
 use Rattle.set_entries.specs.Sets.{entry_at}
@@ -32,6 +32,6 @@ abbrev pub entry_in : List ℕ → ℕ → Entry
 entry_in set at = entry_up_to set at (at + 3 + get_or set (at + 2) 0)
 
 -- The end r is what the entry at an index reads as, in every plant with this table and so many machines.
-abbrev pub JudgedEntry : List ℕ → (rows machines : ℕ) → List ℕ → ℕ → End → Type 0
+abbrev pub JudgedEntry : List ℕ → (rows machines : ℕ) → List ℕ → ℕ → Result ℕ Fault → Type 0
 JudgedEntry c rows machines set at r =
     (P : Plant) → TableOf P rows c → machine_count P ≡ machines → value_found (entry_in set at) r ≡ entry_at P set at

@@ -6,55 +6,19 @@ use native.Mathlib.Omega.{arith}
 use lib.Dec.{ltb}
 use lib.ListN.{length, get_or, drop, length-drop}
 use lib.Seq.{take-suc, get_or-drop}
-use borrow.Author.Tests.{lt-ltb, le-ltb, le-leb, lt-leb}
+use borrow.Author.Tests.{le-ltb}
 use Rattle.livelock.proofs.Tests.{both_iff, at_most_iff, less_iff}
 use Rattle.plant.specs.Found.{Found, found, fault, and_then}
 use Rattle.plant.specs.Reading.{in_range}
-use Rattle.set_numbers.specs.Numbers.{number_in, rows_at, first_numbers, entry_begins, part}
+use Rattle.set_numbers.specs.Numbers.{number_in, rows_at, first_numbers, part}
 use Rattle.set_numbers.proofs.FoundLaws.{tested, value_same, place_same, read_on}
-
--- ---- where an entry begins
-
-module _ (n : ℕ) (set : List ℕ) (at : ℕ) where
-  -- Number 18: the list has ended,
-  pub list_ended : length set ≤ at → fault 18 at ≡ entry_begins n set at
-  unfolding entry_begins
-  list_ended h = rw (le-ltb at (length set) h)
-
-  -- or no entry may come.
-  pub entries_full : at < length set → n ≡ 0 → fault 18 at ≡ entry_begins n set at
-  unfolding entry_begins
-  entries_full h e = rw (lt-ltb at (length set) h, e)
-
-  -- Otherwise an entry begins.
-  pub entry_comes : at < length set → 0 < n → found tt at ≡ entry_begins n set at
-  unfolding entry_begins
-  entry_comes h l = rw (lt-ltb at (length set) h, lt-ltb 0 n l)
 
 -- ---- one number
 
-module _ (low end : ℕ) (set : List ℕ) (at : ℕ) where
-  -- Number 15: the list ends before it.
-  pub number_missing : length set ≤ at → fault 15 (length set) ≡ number_in low end set at
-  unfolding number_in
-  number_missing h = rw (le-ltb at (length set) h)
-
-  module _ (there : at < length set) where
-    -- Number 16: it is below the limits,
-    pub number_below : get_or set at 0 < low → fault 16 at ≡ number_in low end set at
-    unfolding number_in
-    number_below h = rw (lt-ltb at (length set) there, lt-leb low (get_or set at 0) h)
-
-    module _ (enough : low ≤ get_or set at 0) where
-      -- or above them.
-      pub number_above : end ≤ get_or set at 0 → fault 16 at ≡ number_in low end set at
-      unfolding number_in
-      number_above h = rw (lt-ltb at (length set) there, le-leb low (get_or set at 0) enough, le-ltb (get_or set at 0) end h)
-
-      -- Otherwise it is the number.
-      pub number_good : get_or set at 0 < end → found (get_or set at 0) (at + 1) ≡ number_in low end set at
-      unfolding number_in
-      number_good h = rw (lt-ltb at (length set) there, le-leb low (get_or set at 0) enough, lt-ltb (get_or set at 0) end h)
+-- Number 15: the list ends before it.
+pub number_missing : (low end : ℕ) (set : List ℕ) (at : ℕ) → length set ≤ at → fault 15 (length set) ≡ number_in low end set at
+unfolding number_in
+number_missing low end set at h = rw (le-ltb at (length set) h)
 
 -- What a number that was found is.
 pub record NumberRead (low end : ℕ) (set : List ℕ) (at v next : ℕ) : Type 0 where
@@ -118,16 +82,15 @@ module _ (rows : ℕ) (set : List ℕ) (at end : ℕ) where
       row_stops number place e = rw e at one_more
 
       -- one that is read joins those before it,
-      pub row_goes_on : (next : ℕ) → number_in 0 rows set i ≡ found (get_or set i 0) next → RowsSoFar next
+      pub row_goes_on : (next : ℕ) → number_in 0 rows set i ≡ found (get_or set i 0) next → RowsSoFar (i + 1)
       row_goes_on next e =
           let r = number_read 0 rows set i (get_or set i 0) next e in
-          subst RowsSoFar (sym r.next_is)
           (rw (part_next set at i from r.there) (sym (behind (part set at i) (get_or set i 0) (rows_at (end - (i + 1)) rows set (i + 1))) ∙ (rw (e, r.next_is) at one_more)))
 
     -- and behind the last all are read.
-    pub rows_end : i ≡ end → found (part set at end) i ≡ rows_at (end - at) rows set at
+    pub rows_end : i ≡ end → found (part set at end) end ≡ rows_at (end - at) rows set at
     unfolding rows_at
-    rows_end e = let z : end - i ≡ 0 = omega arith in subst (λ (x : ℕ). found (part set at x) i ≡ rows_at (end - at) rows set at) e (rw (z, append-nil (part set at i)) at h)
+    rows_end e = let z : end - i ≡ 0 = omega arith in subst (λ (x : ℕ). found (part set at x) x ≡ rows_at (end - at) rows set at) e (rw (z, append-nil (part set at i)) at h)
 
 -- ---- the first three numbers of an entry
 
@@ -144,13 +107,13 @@ module _ (machines : ℕ) (set : List ℕ) (at : ℕ) where
   unfolding first_numbers
   no_machine number place h = rw h
 
-  module _ (first : number_in 0 machines set at ≡ found (get_or set at 0) (at + 1)) where
+  module _ (machine a : ℕ) (first : number_in 0 machines set at ≡ found machine a) where
     -- so is one at the repeats,
-    pub no_repeats : (number place : ℕ) → number_in 1 1000001 set (at + 1) ≡ fault number place → fault number place ≡ first_numbers machines set at
+    pub no_repeats : (number place : ℕ) → number_in 1 1000001 set a ≡ fault number place → fault number place ≡ first_numbers machines set at
     unfolding first_numbers
     no_repeats number place h = rw (first, h)
 
     -- and behind both stands the row count.
-    pub count_next : number_in 1 1000001 set (at + 1) ≡ found (get_or set (at + 1) 0) (at + 2) → number_in 1 65 set (at + 2) ≡ first_numbers machines set at
+    pub count_next : (repeats b : ℕ) → number_in 1 1000001 set a ≡ found repeats b → number_in 1 65 set b ≡ first_numbers machines set at
     unfolding first_numbers
-    count_next second = rw (first, second)
+    count_next repeats b second = rw (first, second)

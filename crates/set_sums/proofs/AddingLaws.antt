@@ -9,7 +9,7 @@ use native.Mathlib.Omega.{arith}
 use lib.Dec.{ltb, eqb}
 use lib.ListN.{length, get_or, set, length-set, length-append}
 use lib.Seq.{get_or-set_same, get_or-set_other}
-use lib.IntN.{ℤ, pos, neg_ℤ, nat_abs, ◌+ℤ◌, ◌-ℤ◌}
+use lib.IntN.{ℤ, pos, neg_ℤ, nat_abs, ◌+ℤ◌}
 use mir.Syntax.{w64}
 use mir.Val.{to_z, of_z}
 use borrow.Author.Tests.{ltb-true, lt-ltb, le-ltb, eq-eqb, ne_eqb}
@@ -22,7 +22,7 @@ use Rattle.livelock.proofs.Differences.{difference_shift, difference_plus, diffe
 use Rattle.plant.specs.Steps.{type_of}
 use Rattle.tables.specs.Tables.{row_in}
 use Rattle.set_sums.specs.Sums.{raised, Within, having, Added}
-use Rattle.set_sums.proofs.SizeLaws.{size_plus, size_neg, sum_is, times_is, less_is}
+use Rattle.set_sums.proofs.SizeLaws.{size_plus, size_neg, sum_is}
 
 -- 1 where a byte is type t.
 abbrev one : ℕ → ℕ → ℕ
@@ -104,8 +104,8 @@ module _ (table : List ℕ) (repeats : ℕ) (few : repeats ≤ 1000000) (rows : 
   sent_within m x w = raised_within now h.room m (pos repeats) (x + length rows * 2000000) 1000000 few (h.within x w)
 
   -- and leaves room in 64 bits to take one from the sums.
-  pub sent_small : Within (2 ^ 61) before → length rows < 64 → (m : ℕ) (mid : List ℤ) → mid ≡ raised now m (to_z w64 repeats) → Within (2 ^ 62) mid
-  sent_small small short m mid e = subst (Within (2 ^ 62)) (sym (e ∙ ap (raised now m) (times_is repeats few))) (λ i. omega (arith, sent_within m (2 ^ 61) small i))
+  pub sent_small : Within (2 ^ 61) before → length rows < 64 → (m : ℕ) (z : ℤ) → z ≡ pos repeats → (mid : List ℤ) → mid ≡ raised now m z → Within (2 ^ 62) mid
+  sent_small small short m z is mid e = subst (Within (2 ^ 62)) (sym (e ∙ ap (raised now m) is)) (λ i. omega (arith, sent_within m (2 ^ 61) small i))
 
   module _ (k x y : ℕ) (sends : type_of x ≡ (row_in table k).sent) (takes : type_of y ≡ (row_in table k).taken) where
     -- Row k adds to the sum of what it sends,
@@ -153,10 +153,10 @@ module _ (table : List ℕ) (repeats : ℕ) (few : repeats ≤ 1000000) (rows : 
           within = row_within;
         }
 
-    -- The same as the code does it, in 64 bits.
-    pub row_stored : (mid after : List ℤ) → mid ≡ raised now x (to_z w64 repeats) → after ≡ raised mid y (to_z w64 (of_z w64 (pos 0 -ℤ to_z w64 repeats)))
+    -- The same as the code does it, where so many times and the same below zero are what it adds.
+    pub row_stored : (u d : ℤ) → u ≡ pos repeats → d ≡ neg_ℤ (pos repeats) → (mid after : List ℤ) → mid ≡ raised now x u → after ≡ raised mid y d
         → Added table repeats (rows ++ (k ∷ [])) before after
-    row_stored mid after e f = subst (Added table repeats (rows ++ (k ∷ [])) before) (sym (f ∙ rw (e, less_is repeats few, times_is repeats few))) row_added
+    row_stored u d p q mid after e f = subst (Added table repeats (rows ++ (k ∷ [])) before) (sym (f ∙ rw (e, p, q))) row_added
 
 -- ---- the rows one after the other
 

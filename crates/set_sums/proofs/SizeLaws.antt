@@ -5,7 +5,7 @@ use native.Mathlib.Omega.{arith}
 use lib.IntN.{ℤ, pos, negsuc, neg_ℤ, nat_abs, ◌+ℤ◌, ◌-ℤ◌, +ℤ_idl}
 use mir.Syntax.{w64}
 use mir.Val.{SFits, to_z, of_z}
-use mir.Facts.{to_z-of_z, to_z_pos}
+use mir.Facts.{to_z-of_z}
 use Rattle.livelock.specs.Differences.{Difference}
 use Rattle.livelock.proofs.Differences.{difference_plus}
 
@@ -38,23 +38,19 @@ back z h = to_z-of_z (size_fits z h)
 -- A change of at most 1,000,000 either way, added to a small number in 64 bits.
 module _ (v z : ℤ) (small : nat_abs v ≤ 2 ^ 62) (few : nat_abs z ≤ 1000000) where
   -- Their sum fits,
-  pub sum_fits : SFits w64 (to_z w64 (of_z w64 v) +ℤ to_z w64 (of_z w64 z))
+  sum_fits : SFits w64 (to_z w64 (of_z w64 v) +ℤ to_z w64 (of_z w64 z))
   sum_fits = rw (back v (omega arith), back z (omega arith)) (size_fits (v +ℤ z) (omega (arith, size_plus v z)))
 
   -- and comes back.
   pub sum_is : to_z w64 (of_z w64 (to_z w64 (of_z w64 v) +ℤ to_z w64 (of_z w64 z))) ≡ v +ℤ z
   sum_is = to_z-of_z sum_fits ∙ rw (back v (omega arith), back z (omega arith))
 
--- A number of repeats, cast, and the same below zero.
-module _ (repeats : ℕ) (few : repeats ≤ 1000000) where
-  -- It is cast to itself,
-  pub times_is : to_z w64 repeats ≡ pos repeats
-  times_is = to_z_pos w64 (omega arith)
+-- A number of repeats as 64 bits hold it, and the same below zero.
+module _ (z : ℤ) (repeats : ℕ) (is : z ≡ pos repeats) (few : repeats ≤ 1000000) where
+  -- It is itself,
+  pub times_is : to_z w64 (of_z w64 z) ≡ pos repeats
+  times_is = rw is (back (pos repeats) (omega arith))
 
-  -- taken from 0 it fits 64 bits,
-  pub less_fits : SFits w64 (pos 0 -ℤ to_z w64 repeats)
-  less_fits = rw (times_is, +ℤ_idl (neg_ℤ (pos repeats))) (size_fits (neg_ℤ (pos repeats)) (omega (arith, size_neg repeats)))
-
-  -- and comes back.
-  pub less_is : to_z w64 (of_z w64 (pos 0 -ℤ to_z w64 repeats)) ≡ neg_ℤ (pos repeats)
-  less_is = to_z-of_z less_fits ∙ rw (times_is, +ℤ_idl (neg_ℤ (pos repeats)))
+  -- and so it is where it was taken from 0.
+  pub less_is : to_z w64 (of_z w64 (pos 0 -ℤ to_z w64 (of_z w64 z))) ≡ neg_ℤ (pos repeats)
+  less_is = rw (times_is, +ℤ_idl (neg_ℤ (pos repeats))) (back (neg_ℤ (pos repeats)) (omega (arith, size_neg repeats)))

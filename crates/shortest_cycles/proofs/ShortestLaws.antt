@@ -1,67 +1,68 @@
 -- Laws of the shortest cycle: one machine after the other is searched, and the rows are copied.
-use mathlib.Core.Path.{◌≡◌, sym, ap, ◌∙◌, subst}
+use mathlib.Core.Path.{◌≡◌, refl, sym, ap, ◌∙◌, subst}
+use mathlib.Core.Bool.{true}
+use Rattle.std.specs.Prelude.{Option, Some, None, is_some}
+use Rattle.std.specs.Option.{unwrap_or}
 use mathlib.Core.List.{List, ◌++◌, map}
 use Prim.Native.Nat.{ℕ, ◌+◌, ◌-◌, ◌≤◌, ◌<◌, min}
-use native.Mathlib.Nat.{zero-add}
 use native.Mathlib.Decide.{dec_le, dec_lt}
 use native.Mathlib.Omega.{arith}
 use lib.ListN.{length, get_or, take, drop, length-map}
-use lib.Seq.{sets, sets-eq, length-take-le, take-append_seam}
-use lib.IntN.{ℤ}
+use lib.Seq.{length-take-le, take-append_seam}
 use lib.Signed.{clash_ℤ}
-use Rattle.livelock.specs.Plants.{Plant}
 use Rattle.livelock.specs.Cycles.{SimpleCycle}
 use Rattle.livelock.specs.Weights.{FailingCycle}
 use Rattle.livelock.proofs.QuietGraphs.{cycle_machine}
 use Rattle.decoding.specs.Tables.{plant_of}
 use Rattle.decoding.specs.declared.Shape.{Shape}
+use Rattle.edge_lists.specs.declared.Edge.{Edge}
 use Rattle.edge_lists.specs.EdgeLists.{edge_in}
-use Rattle.deciding.specs.Rounds.{edge_graph, EdgesIn, NoneBelow}
+use Rattle.deciding.specs.Rounds.{edge_graph, EdgesIn, NoneBelow, SomeZeroOrMore}
 use Rattle.closed_walks.proofs.WalkLaws.{edges_searchable}
 use Rattle.searching.specs.Searches.{Written, ShownWithin}
 use Rattle.searching.proofs.SearchLaws.{cycle_few, none_at_all}
-use Rattle.machines.specs.Machines.{Weighable, FailingRows, FirstFailing}
+use Rattle.machines.specs.declared.Failing.{Failing}
+use Rattle.machines.specs.Machines.{Weighable, FailingRows, stop, FirstFailing}
 use Rattle.machines.proofs.MachineLaws.{machine_long}
 use Rattle.machines.proofs.TurnLaws.{machines_are, edges_fail}
 use Rattle.shortest_cycles.specs.ShortestCycles.{ShownShortest}
-use Rattle.shortest_cycles.specs.Inner.Turns.{MachineSearched, ShortestOf}
+use Rattle.shortest_cycles.specs.Inner.Turns.{ShortestOf}
 
 -- ---- one machine
 
 -- A search up to the number of states, or up to one less than the least number so far if that is smaller, finds what one up to the latter finds:
 -- where the number of states is the smaller and nothing was found, there is no cycle at all.
-module _ {count : ℕ} {edges : List ℤ} {states : ℕ} (ok : EdgesIn states count edges) {least : ℕ} (some : 1 ≤ least) {limit : ℕ} (limit_is : limit ≡ min states (least - 1))
-    {k : ℕ} {before after : List ℕ} (h : ShownWithin count edges limit k before after) where
+module _ {edges : List Edge} {states : ℕ} (ok : EdgesIn states edges) {least : ℕ} (some : 1 ≤ least) {limit : ℕ} (limit_is : limit ≡ min states (least - 1))
+    {before after : List ℕ} where
   -- A cycle was found,
-  pub search_found : k ≤ limit → ShownWithin count edges (least - 1) k before after
-  search_found l =
-      record {
-        some_row = h.some_row;
-        few = omega (arith, limit_is);
-        fewest = h.fewest;
-        written = λ x. h.written l;
-        kept = λ x. absurd (omega (arith, limit_is, l, x));
-      }
+  pub search_found : {k : ℕ} → ShownWithin edges limit (Some k) before after → ShownWithin edges (least - 1) (Some k) before after
+  search_found h = record { some_row = h.some_row; few = omega (arith, limit_is, h.few); fewest = h.fewest; written = h.written; kept = tt }
 
   -- or not.
-  pub search_failed : limit < k → ShownWithin count edges (least - 1) least before after
-  search_failed l =
+  pub search_failed : ShownWithin edges limit None before after → ShownWithin edges (least - 1) None before after
+  search_failed h =
       record {
-        some_row = some;
-        few = omega arith;
-        fewest = elim (dec_le least k) [
+        some_row = tt;
+        few = tt;
+        fewest = elim (dec_le (least - 1) limit) [
           | yes x ↦ λ es c w. omega (arith, x, h.fewest es c w)
-          | no x ↦ none_at_all (edges_searchable ok) (omega (arith, limit_is, l)) h.fewest least
+          | no x ↦ none_at_all (edges_searchable ok) (omega (arith, limit_is, x)) h.fewest (least - 1 + 1)
         ];
-        written = λ x. absurd (omega (arith, some, x));
-        kept = λ x. h.kept l;
+        written = tt;
+        kept = h.kept;
       }
 
--- ---- one machine after the other
+  pub search_wider : (r : Option ℕ) → ShownWithin edges limit r before after → ShownWithin edges (least - 1) r before after
+  search_wider (Some k) h = search_found h
+  search_wider None h = search_failed h
 
--- After the last machine.
-pub all_searched : {P : Plant} {ws list : List ℕ} {m n k : ℕ} → n ≤ m → ShortestOf P ws m k list → ShortestOf P ws n k list
-all_searched below h = record { some_row = h.some_row; few = h.few; fewest = λ c f l. h.fewest c f (omega (arith, below, l)); shown = h.shown }
+-- Where a machine fails, a search up to its number of states finds a cycle.
+pub search_some : {edges : List Edge} {size : ℕ} → EdgesIn size edges → SomeZeroOrMore (edge_graph edges) → (r : Option ℕ) {before after : List ℕ}
+    → ShownWithin edges size r before after → is_some r ≡ true
+search_some ok x (Some k) h = refl
+search_some ok x None h = absurd (omega (arith, h.fewest x.0 x.1 x.2, cycle_few (edges_searchable ok) x.0 x.1))
+
+-- ---- one machine after the other
 
 module _ (s : Shape) (table ws : List ℕ) (ok : Weighable s table ws) where
   -- A failing cycle is one of a machine of the shape.
@@ -69,21 +70,21 @@ module _ (s : Shape) (table ws : List ℕ) (ok : Weighable s table ws) where
   failing_machine {c} f = omega (arith, cycle_machine (plant_of s table) ok.limits.formed f.machine c f.simple, machines_are s table ws ok)
 
   -- Machines that pass have no failing cycle.
-  none_passing : {from m count : ℕ} {edges : List ℤ} → FirstFailing s table ws from m count edges
-      → {c : List ℕ} (f : FailingCycle (plant_of s table) ws c) → f.machine < m → from ≤ f.machine → ⊥
-  none_passing failing {c} f l there = clash_ℤ (failing.before f.machine l there c f.simple f.quiet) f.weighs
+  none_passing : {from : ℕ} (first : Option Failing) {edges : List Edge} → FirstFailing s table ws from first edges
+      → {c : List ℕ} (f : FailingCycle (plant_of s table) ws c) → f.machine < stop s first → from ≤ f.machine → ⊥
+  none_passing first failing {c} f l there = clash_ℤ (failing.before f.machine l there c f.simple f.quiet) f.weighs
 
   -- So they are passed over.
-  passing_skipped : {from m count k : ℕ} {edges : List ℤ} {list : List ℕ} → FirstFailing s table ws from m count edges
-      → ShortestOf (plant_of s table) ws from k list → ShortestOf (plant_of s table) ws m k list
-  passing_skipped {from} {m} {k = k} failing h = record { some_row = h.some_row; few = h.few; fewest = fewest; shown = h.shown }
+  pub passing_skipped : {from k : ℕ} (first : Option Failing) {edges : List Edge} {list : List ℕ} → FirstFailing s table ws from first edges
+      → ShortestOf (plant_of s table) ws from k list → ShortestOf (plant_of s table) ws (stop s first) k list
+  passing_skipped {from} {k} first failing h = record { some_row = h.some_row; few = h.few; fewest = fewest; shown = h.shown }
     where
-      fewest : (c : List ℕ) (f : FailingCycle (plant_of s table) ws c) → f.machine < m → k ≤ length c
-      fewest c f l = elim (dec_lt f.machine from) [ yes x ↦ h.fewest c f x | no x ↦ absurd (none_passing failing f l (omega arith)) ]
+      fewest : (c : List ℕ) (f : FailingCycle (plant_of s table) ws c) → f.machine < stop s first → k ≤ length c
+      fewest c f l = elim (dec_lt f.machine from) [ yes x ↦ h.fewest c f x | no x ↦ absurd (none_passing first failing f l (omega arith)) ]
 
-  module _ (m : ℕ) (within : m < s.machines) {count : ℕ} {edges : List ℤ} (machine : FailingRows table ws (get_or s.first m 0) (get_or s.first (m + 1) 0) count edges) where
+  module _ (m : ℕ) (within : m < s.machines) {edges : List Edge} (machine : FailingRows table ws (get_or s.first m 0) (get_or s.first (m + 1) 0) edges) where
     -- The first k of a list in which a cycle of k edges was written are the rows of a failing cycle.
-    written_fails : {k : ℕ} {before after : List ℕ} → Written (edge_graph count edges) (λ i. (edge_in edges i).row) k before after → FailingCycle (plant_of s table) ws (take k after)
+    written_fails : {k : ℕ} {before after : List ℕ} → Written (edge_graph edges) (λ i. (edge_in edges i).row) k before after → FailingCycle (plant_of s table) ws (take k after)
     written_fails {k} {before} {after} w =
         let rows : List ℕ = map (λ i. (edge_in edges i).row) w.cycle in
         let long : length rows ≡ k = length-map w.cycle (λ i. (edge_in edges i).row) ∙ w.long in
@@ -91,7 +92,7 @@ module _ (s : Shape) (table ws : List ℕ) (ok : Weighable s table ws) where
         subst (FailingCycle (plant_of s table) ws) front (edges_fail s table ws ok m within machine w.cycle w.simple w.weighs)
 
     -- Where no failing cycle of the machines before has fewer than k rows, and no cycle of the machine's edges has, none up to it has.
-    fewest_with : (k : ℕ) → ((c : List ℕ) (f : FailingCycle (plant_of s table) ws c) → f.machine < m → k ≤ length c) → NoneBelow (edge_graph count edges) k
+    fewest_with : (k : ℕ) → ((c : List ℕ) (f : FailingCycle (plant_of s table) ws c) → f.machine < m → k ≤ length c) → NoneBelow (edge_graph edges) k
         → (c : List ℕ) (f : FailingCycle (plant_of s table) ws c) → f.machine < m + 1 → k ≤ length c
     fewest_with k before here c f l = go (dec_lt f.machine m)
       where
@@ -100,60 +101,54 @@ module _ (s : Shape) (table ws : List ℕ) (ok : Weighable s table ws) where
         go (no x) =
             let same : f.machine ≡ m = omega arith in
             let simple = subst (λ (i : ℕ). SimpleCycle (plant_of s table) i c) same f.simple in
-            machine_long s table ok.ready ok.limits ws m within count edges machine.listed k here c simple f.quiet f.weighs
+            machine_long s table ok.ready ok.limits ws m within edges machine.listed k here c simple f.quiet f.weighs
 
-    -- The first machine that fails is searched up to its number of states. It has a cycle that is zero or more, so one was written.
-    pub first_searched : {size k : ℕ} {before after : List ℕ} → FirstFailing s table ws 0 m count edges → EdgesIn size count edges → ShownWithin count edges size k before after
+    -- In a machine behind those that pass a cycle was written.
+    own_searched : {size k : ℕ} {before after : List ℕ}
+        → ((c : List ℕ) (f : FailingCycle (plant_of s table) ws c) → f.machine < m → ⊥) → EdgesIn size edges → ShownWithin edges size (Some k) before after
         → ShortestOf (plant_of s table) ws (m + 1) k after
-    first_searched {size} {k} failing in-edges r =
-        let x = machine.zero_or_more in
-        let found : k ≤ size = omega (arith, r.fewest x.0 x.1 x.2, cycle_few (edges_searchable in-edges) x.0 x.1) in
+    own_searched {size} {k} passing in-edges r =
         record {
           some_row = r.some_row;
-          few = omega (arith, found, in-edges.states_in);
-          fewest = fewest_with k (λ c f l. absurd (none_passing failing f l (omega arith))) r.fewest;
-          shown = written_fails (r.written found);
+          few = omega (arith, r.few, in-edges.states_in);
+          fewest = fewest_with k (λ c f l. absurd (passing c f l)) r.fewest;
+          shown = written_fails r.written;
         }
 
     -- A later one is searched for a shorter cycle. For the machines before it the least number only falls.
-    machine_searched : {k least : ℕ} {before after : List ℕ} → ShortestOf (plant_of s table) ws m least before → ShownWithin count edges (least - 1) k before after
-        → ShortestOf (plant_of s table) ws (m + 1) k after
-    machine_searched {k} {least} {before} {after} h r =
+    machine_searched : {least : ℕ} (r : Option ℕ) {before after : List ℕ} → ShortestOf (plant_of s table) ws m least before → ShownWithin edges (least - 1) r before after
+        → ShortestOf (plant_of s table) ws (m + 1) (unwrap_or r least) after
+    machine_searched {least} (Some k) {before} {after} h r =
         record {
           some_row = r.some_row;
-          few = omega (arith, falls, h.few);
-          fewest = fewest_with k (λ c f l. omega (arith, falls, h.fewest c f l)) r.fewest;
-          shown = shown (dec_lt k least);
+          few = omega (arith, r.few, h.some_row, h.few);
+          fewest = fewest_with k (λ c f l. omega (arith, r.few, h.some_row, h.fewest c f l)) r.fewest;
+          shown = written_fails r.written;
         }
-      where
-        falls : k ≤ least
-        falls = omega (arith, r.few, h.some_row)
+    machine_searched {least} None {before} {after} h r =
+        record {
+          some_row = h.some_row;
+          few = h.few;
+          fewest = fewest_with least h.fewest (λ es c w. omega (arith, r.fewest es c w, h.some_row));
+          shown = subst (λ (y : List ℕ). FailingCycle (plant_of s table) ws (take least y)) (sym r.kept) h.shown;
+        }
 
-        shown : Dec (k < least) → FailingCycle (plant_of s table) ws (take k after)
-        shown (yes l) = written_fails (r.written (omega (arith, l)))
-        shown (no l) =
-            let same : least ≡ k = omega (arith, falls) in
-            let kept : before ≡ after = sym (r.kept (omega (arith, h.some_row))) in
-            subst (λ (i : ℕ). FailingCycle (plant_of s table) ws (take i after)) same (subst (λ (y : List ℕ). FailingCycle (plant_of s table) ws (take least y)) kept h.shown)
+  -- The first machine that fails is searched up to its number of states. It has a cycle that is zero or more (`search_some`), so one was written.
+  pub first_searched : {size k : ℕ} (f : Failing) {edges : List Edge} {before after : List ℕ} → FirstFailing s table ws 0 (Some f) edges → EdgesIn size (take f.count edges)
+      → ShownWithin (take f.count edges) size (Some k) before after → ShortestOf (plant_of s table) ws (f.machine + 1) k after
+  first_searched f failing in-edges r =
+      own_searched f.machine failing.fails.there failing.fails.rows (λ c g l. none_passing (Some f) failing g l (omega arith)) in-edges r
 
-  -- One turn: the next machine that fails, if there is one, is searched.
-  pub turn_searched : {from m count least k : ℕ} {edges : List ℤ} {before after : List ℕ} → FirstFailing s table ws from m count edges
-      → ShortestOf (plant_of s table) ws from least before → MachineSearched s m count edges least k before after → ShortestOf (plant_of s table) ws (m + 1) k after
-  turn_searched {m = m} {least = least} {k = k} {before = before} {after = after} failing h r = go (dec_lt m s.machines)
-    where
-      go : Dec (m < s.machines) → ShortestOf (plant_of s table) ws (m + 1) k after
-      go (yes within) = machine_searched m within (failing.fails within) (passing_skipped failing h) (r.some within)
-      go (no beyond) =
-          let kept = r.none (omega (arith, beyond)) in
-          let all = passing_skipped failing h in
-          let last : ShortestOf (plant_of s table) ws (m + 1) least before =
-          record { some_row = all.some_row; few = all.few; fewest = λ c f l. all.fewest c f (omega (arith, beyond, failing_machine f)); shown = all.shown } in
-          subst (λ (i : ℕ). ShortestOf (plant_of s table) ws (m + 1) i after) (sym kept.0) (subst (ShortestOf (plant_of s table) ws (m + 1) least) (sym kept.1) last)
+  -- One turn: the next machine that fails is searched.
+  pub turn_searched : {from least : ℕ} (f : Failing) {edges : List Edge} (r : Option ℕ) {before after : List ℕ} → FirstFailing s table ws from (Some f) edges
+      → ShortestOf (plant_of s table) ws from least before → ShownWithin (take f.count edges) (least - 1) r before after
+      → ShortestOf (plant_of s table) ws (f.machine + 1) (unwrap_or r least) after
+  turn_searched f r failing h shown = machine_searched f.machine failing.fails.there failing.fails.rows r (passing_skipped (Some f) failing h) shown
 
   -- Once its rows are copied, the shortest cycle of all machines is shown.
   pub shortest_shown : {k : ℕ} {list before after : List ℕ} → ShortestOf (plant_of s table) ws s.machines k list → 64 ≤ length list
-      → 64 ≤ length before → after ≡ sets before 0 (take k list) → ShownShortest (plant_of s table) ws k before after
-  shortest_shown {k} {list} {before} h room lent copied =
+      → after ≡ take k list ++ drop k before → ShownShortest (plant_of s table) ws k before after
+  shortest_shown {k} {list} h room copied =
       let long : length (take k list) ≡ k = length-take-le k list (omega (arith, h.few)) in
       record {
         rows = take k list;
@@ -161,5 +156,5 @@ module _ (s : Shape) (table ws : List ℕ) (ok : Weighable s table ws) where
         fewest = λ c f. omega (arith, long, h.fewest c f (failing_machine f));
         long = long;
         few = h.few;
-        shown = copied ∙ (sets-eq (take k list) before 0 (omega (arith, long, h.few)) ∙ rw (zero-add, long));
+        shown = copied;
       }

@@ -2,45 +2,26 @@
 // machine must not leave there the rest of a longer one. No entry point: `weighing` calls it.
 #![tactic(auto)]
 
-ghost use Rattle.std.specs.Prelude.{◌≡◌, ◌≤◌, min, length, take};
-ghost use Rattle.std.proofs.lemmas.List.Edits.{sets};
+ghost use Rattle.std.specs.Prelude.{◌-◌, ◌≤◌, length};
+ghost use Rattle.deciding.specs.Rounds.{EdgesIn};
 ghost use Rattle.decoding.specs.Tables.{plant_of};
+ghost use Rattle.searching.specs.Searches.{ShownWithin};
 ghost use Rattle.shortest_cycles.specs.ShortestCycles.{FailsFirst, ShownShortest};
-ghost use Rattle.shortest_cycles.specs.Inner.Turns.{MachineEdges, MachineSearched, ShortestOf};
+ghost use Rattle.shortest_cycles.specs.Inner.Turns.{ShortestOf};
 
 use decoding::Shape;
+use edge_lists::Edge;
 use machines::Failing;
 
 // No simple cycle has more rows than a machine can have states.
 const MOST: usize = 64;
 
-// The smaller of two numbers.
-fn smaller(a: usize, b: usize) -> usize
-    ensures { result ≡ min a b }
+// Searches the edges of a machine for a cycle with fewer than `least` rows. Writes the rows of a shortest, and hands back how many they are.
+fn shorter(edges: &[Edge], states: usize, least: usize, rows: &mut [u16]) -> Option<usize>
+    requires { EdgesIn states edges.now × (1 ≤ least) × (64 ≤ length rows.old) }
+    ensures { ShownWithin edges.now (least - 1) result rows.old rows.new }
 {
-    if a < b {
-        return a;
-    }
-    b
-}
-
-// Searches the edges of a machine, if there is one, for a cycle with fewer than `least` rows. Writes the rows of a shortest, and hands back how many they
-// are; `least` if there is none.
-fn shorter(shape: Shape, failing: Failing, edges: &[i16], least: usize, rows: &mut [u16]) -> usize
-    requires { MachineEdges shape failing.machine failing.count edges.now × (1 ≤ least) × (64 ≤ length rows.old) }
-    ensures { MachineSearched shape failing.machine failing.count edges.now least result rows.old rows.new }
-{
-    let m = failing.machine;
-    if m == shape.machines {
-        return least;
-    }
-    let states = casts::index_u8(shape.states[m]);
-    let limit = smaller(states, least - 1);
-    let k = searching::show(edges, failing.count, states, limit, rows);
-    if k <= limit {
-        return k;
-    }
-    least
+    searching::show(edges, states, states.min(least - 1), rows)
 }
 
 // Writes the rows of a shortest cycle of the machines from the first that fails, whose edges stand in the list; hands back how many they are.
@@ -51,34 +32,22 @@ fn shortest(
     first: Failing,
     weights: &[u16],
     n: u64,
-    edges: &mut [i16],
+    edges: &mut [Edge],
     rows: &mut [u16],
 ) -> usize
     requires { FailsFirst shape table.now weights.now first n edges.old × (64 ≤ length rows.old) }
     ensures { ShortestOf (plant_of shape table.now) weights.now shape.machines result rows.new }
 {
     let begin = first.machine;
-    let states = casts::index_u8(shape.states[begin]);
-    let mut least = searching::show(edges, first.count, states, states, rows);
-    let mut m = begin + 1;
-    while m < shape.machines {
-        let next = machines::first_failing(table, shape, m, weights, n, edges);
-        least = shorter(shape, next, edges, least, rows);
-        m = next.machine + 1;
+    let states = usize::from(shape.states[begin]);
+    let mut least = searching::show(&edges[..first.count], states, states, rows).unwrap();
+    let mut from = begin + 1;
+    while let Some(next) = machines::first_failing(table, shape, from, weights, n, edges) {
+        let states = usize::from(shape.states[next.machine]);
+        least = shorter(&edges[..next.count], states, least, rows).unwrap_or(least);
+        from = next.machine + 1;
     }
     least
-}
-
-// Copies the first `count` rows to the front of a list.
-fn copy_rows(rows: &[u16], count: usize, cycle: &mut [u16])
-    requires { (count ≤ length rows.now) × (count ≤ length cycle.old) }
-    ensures { cycle.new ≡ sets cycle.old 0 (take count rows.now) }
-{
-    let mut i = 0;
-    while i < count {
-        cycle[i] = rows[i];
-        i += 1;
-    }
 }
 
 // Writes the rows of a shortest cycle that weighs zero or more, of all machines, to the front of the list, and hands back how many they are.
@@ -89,7 +58,7 @@ pub fn show(
     first: Failing,
     weights: &[u16],
     n: u64,
-    edges: &mut [i16],
+    edges: &mut [Edge],
     cycle: &mut [u16],
 ) -> usize
     requires { FailsFirst shape table.now weights.now first n edges.old × (64 ≤ length cycle.old) }
@@ -97,6 +66,6 @@ pub fn show(
 {
     let mut rows = [0; MOST];
     let least = shortest(table, shape, first, weights, n, edges, &mut rows);
-    copy_rows(&rows, least, cycle);
+    cycle[..least].copy_from_slice(&rows[..least]);
     least
 }

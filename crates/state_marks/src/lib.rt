@@ -6,8 +6,10 @@ ghost use Rattle.std.specs.Prelude.{◌≡◌, ◌<◌, get_or, set, eqb};
 ghost use Rattle.state_marks.specs.Marks.{marks_of, BelowOnly, OthersKept, Closed};
 ghost use Rattle.graphs.specs.Graphs.{into_of};
 
+use graphs::Graph;
+
 // The bits of 24 states.
-const ALL: u32 = 16_777_215;
+pub const ALL: u32 = 16_777_215;
 
 // Whether a state is not yet left: its bit does not stand.
 pub fn not_yet_left(marks: u32, state: u8) -> bool
@@ -43,33 +45,31 @@ fn turned(bits: u32, state: u32) -> u32
 
 // The marks, with dead ends marked as well: the states from which no path over states that are not marked leads back to `start`. The
 // others, `live`, are found backward from `start`; `todo` has those of them whose sources are not yet in `live`. Each state is to do at most once.
-pub fn without_dead_ends(graph: &[u16; 1056], start: u8, marks: u32) -> u32
+pub fn without_dead_ends(graph: &Graph, start: u8, marks: u32) -> u32
     requires { start < 24 }
     ensures { Closed (into_of graph.now) start (marks_of 24 marks) (marks_of 24 result) }
 {
     let free = marks ^ ALL;
-    let mut live = graphs::into_of(graph, start as usize) & free;
+    let mut live = graph.into_of(usize::from(start)) & free;
     let mut todo = live;
-    let mut turns: u32 = 0;
-    while todo != 0 {
-        if turns >= 24 {
-            return marks;
+    for _ in 0..24 {
+        if todo == 0 {
+            return marks | (live ^ ALL);
         }
-        let state = u32::trailing_zeros(todo);
-        let more = graphs::into_of(graph, state as usize) & (free ^ live);
+        let state = todo.trailing_zeros();
+        let more = graph.into_of(state as usize) & (free ^ live);
         todo = turned(todo, state) | more;
-        live = live | more;
-        turns += 1;
+        live |= more;
     }
-    marks | (live ^ ALL)
+    marks
 }
 
 // The same once `state` is left, where the dead ends were marked before: if no state that is not marked has a row to it, there are no new ones.
-pub fn after_leaving(graph: &[u16; 1056], start: u8, state: u8, marks: u32) -> u32
+pub fn after_leaving(graph: &Graph, start: u8, state: u8, marks: u32) -> u32
     requires { (start < 24) × (state < 24) }
     ensures { Closed (into_of graph.now) start (marks_of 24 marks) (marks_of 24 result) }
 {
-    if graphs::into_of(graph, state as usize) & (marks ^ ALL) == 0 {
+    if graph.into_of(usize::from(state)) & (marks ^ ALL) == 0 {
         return marks;
     }
     without_dead_ends(graph, start, marks)

@@ -44,7 +44,7 @@ pub row_is : (types : ℕ) (states : List ℕ) (rows : ℕ) (table : List ℕ) (
 row_is types states rows table k l = get_d_map_below (row_in table) no_row rows k l
 
 -- The mark of a value of `row_in` says whether its row has progress. Nothing else above the theory looks into `has_progress`.
-pub row_progress : (r : TableRow) → r.progress ≡ has_progress (row_of r)
+pub row_progress : (r : TableRow) → r.fields.progress ≡ has_progress (row_of r)
 unfolding has_progress
 row_progress r = refl
 

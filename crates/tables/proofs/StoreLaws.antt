@@ -1,6 +1,6 @@
 -- Laws of a row that is stored: six stores, one behind the other.
 use mathlib.Core.Path.{◌≡◌, refl, sym, ◌∙◌}
-use mathlib.Core.Bool.{Bool, true, false, cond}
+use mathlib.Core.Bool.{Bool, true, false}
 use mathlib.Core.List.{List}
 use Prim.Native.Nat.{ℕ, ◌+◌, ◌*◌, ◌≤◌, ◌<◌}
 use native.Mathlib.Nat.{add-zero}
@@ -8,6 +8,7 @@ use native.Mathlib.Omega.{arith}
 use lib.ListN.{length, get_or, set, length-set}
 use lib.Seq.{get_or-set_same, get_or-set_other}
 use lib.Dec.{eqb}
+use mir.Val.{bool_byte}
 use Rattle.plant_rows.specs.declared.RowFields.{RowFields}
 use Rattle.plant_rows.specs.Rows.{fields_row}
 use Rattle.tables.specs.Tables.{row_in, RoomFor, Stored}
@@ -17,7 +18,7 @@ apart : (i k x y : ℕ) → (i ≡ k → ⊥) → x < 8 → y < 8 → 8 * i + x 
 apart i k x y n l m e = omega arith
 
 -- A byte that is 1 where a test holds.
-bit_is : (b : Bool) → eqb (cond b 1 0) 1 ≡ b
+bit_is : (b : Bool) → eqb (bool_byte b) 1 ≡ b
 bit_is true = refl
 bit_is false = refl
 
@@ -87,7 +88,7 @@ module _ (t : List ℕ) (at a b c d e f : ℕ) where
     is_5 = get_or-set_same t5 (at + 5) f 0 (simp length-set (omega arith))
 
 -- Six bytes that are stored at 8 × k are row k, and every other row is kept.
-module _ (t : List ℕ) (k m : ℕ) (r : RowFields) (p : ℕ) (bit : p ≡ cond r.progress 1 0) (room : RoomFor (k + 1) t) where
+module _ (t : List ℕ) (k m : ℕ) (r : RowFields) (p : ℕ) (bit : p ≡ bool_byte r.progress) (room : RoomFor (k + 1) t) where
   abbrev after : List ℕ
   after = six t (8 * k) m r.left r.entered r.sent r.taken p
 

@@ -3,6 +3,7 @@ use Rattle.std.specs.Prelude.{◌≡◌, List, map, ℕ, ◌+◌, ◌*◌, ◌�
 use Rattle.livelock.specs.Lists.{below}
 use Rattle.livelock.specs.Plants.{Row, Plant}
 use Rattle.plant.specs.Steps.{type_of}
+use Rattle.plant_rows.specs.Rows.{fields_row}
 use Rattle.tables.specs.declared.TableRow.{TableRow}
 
 -- Row k of a table: the bytes from 8 × k on.
@@ -19,8 +20,7 @@ row_in table k =
 
 -- The row that a value of `row_in` is.
 abbrev pub row_of : TableRow → Row
-row_of r =
-    record { machine = r.machine; left = r.left; entered = r.entered; sent = type_of r.sent; taken = type_of r.taken; progress = r.progress }
+row_of r = fields_row r.machine r.fields
 
 -- A table has room for so many rows.
 abbrev pub RoomFor : ℕ → List ℕ → Type 0

@@ -3,22 +3,25 @@
 // No entry point: these functions have the only indices into a table, and the other crates know their contracts.
 #![tactic(auto)]
 
-ghost use Rattle.std.specs.Prelude.{◌≡◌, ◌+◌, cond};
-ghost use Rattle.plant.specs.Steps.{type_of};
+ghost use Rattle.std.specs.Prelude.{◌≡◌, ◌+◌};
 ghost use Rattle.plant_rows.specs.Rows.{fields_row};
 ghost use Rattle.tables.specs.Tables.{row_in, row_of, RoomFor, Stored};
 
 use plant_rows::RowFields;
 
+// The bytes of a table of the 1,024 rows that a plant can have,
+pub const LONGEST: usize = 8192;
+
+// and of one of 64 rows, which serves a file of at most so many bytes: a row takes a byte at least, and clearing a long table would take half of the time.
+pub const SHORT: usize = 512;
+
+pub const SHORT_FILE: usize = 64;
+
 // A row of a table.
-#[derive(Clone, Copy)]
+#[derive(Clone, Copy, Debug, PartialEq, Eq)]
 pub struct TableRow {
     pub machine: u8,
-    pub left: u8,
-    pub entered: u8,
-    pub sent: u8,
-    pub taken: u8,
-    pub progress: bool,
+    pub fields: RowFields,
 }
 
 // Row k.
@@ -29,50 +32,14 @@ pub fn row_in(table: &[u8], k: usize) -> TableRow
     let at = 8 * k;
     TableRow {
         machine: table[at],
-        left: table[at + 1],
-        entered: table[at + 2],
-        sent: table[at + 3],
-        taken: table[at + 4],
-        progress: table[at + 5] == 1,
+        fields: RowFields {
+            left: table[at + 1],
+            entered: table[at + 2],
+            sent: table[at + 3],
+            taken: table[at + 4],
+            progress: table[at + 5] == 1,
+        },
     }
-}
-
-// The state that row k leaves.
-pub fn left_of(table: &[u8], k: usize) -> u8
-    requires { RoomFor (k + 1) table.now }
-    ensures { result ≡ (row_in table.now k).left }
-{
-    table[8 * k + 1]
-}
-
-// The state that row k enters.
-pub fn entered_of(table: &[u8], k: usize) -> u8
-    requires { RoomFor (k + 1) table.now }
-    ensures { result ≡ (row_in table.now k).entered }
-{
-    table[8 * k + 2]
-}
-
-// The type that row k sends, or 64.
-pub fn sent_of(table: &[u8], k: usize) -> u8
-    requires { RoomFor (k + 1) table.now }
-    ensures { type_of result ≡ (row_in table.now k).sent }
-{
-    table[8 * k + 3]
-}
-
-// The type that row k takes, or 64.
-pub fn taken_of(table: &[u8], k: usize) -> u8
-    requires { RoomFor (k + 1) table.now }
-    ensures { type_of result ≡ (row_in table.now k).taken }
-{
-    table[8 * k + 4]
-}
-
-fn bit(b: bool) -> u8
-    ensures { result ≡ cond b 1 0 }
-{
-    if b { 1 } else { 0 }
 }
 
 // Stores a row that was read, as row k.
@@ -86,5 +53,5 @@ pub fn store_row(table: &mut [u8], k: usize, machine: u8, row: RowFields)
     table[at + 2] = row.entered;
     table[at + 3] = row.sent;
     table[at + 4] = row.taken;
-    table[at + 5] = bit(row.progress);
+    table[at + 5] = u8::from(row.progress);
 }

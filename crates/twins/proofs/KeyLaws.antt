@@ -1,6 +1,7 @@
 -- Laws of keys: rows of one machine have the same key exactly if they are equal, so that a row is a twin exactly if its key is kept.
 use mathlib.Core.Path.{◌≡◌, refl, sym, ap, ◌∙◌, subst}
-use mathlib.Core.Bool.{Bool, true, false, ◌&&◌, ◌||◌, cond, true≢false, false≢true, or-false, or_assoc}
+use mathlib.Core.Bool.{Bool, true, false, ◌&&◌, ◌||◌, cond, false≢true, or-false, or_assoc}
+use Rattle.std.specs.Prelude as Std
 use mathlib.Core.Option.{Option, none, some}
 use mathlib.Core.List.{List, [], ◌∷◌, ◌++◌, map, map-append}
 use Prim.Native.Nat.{ℕ, ◌+◌, ◌*◌, ◌/◌, ◌%◌, ◌^◌, ◌<◌}
@@ -13,6 +14,7 @@ use lib.Dec.{eqb, ltb}
 use lib.Arith.{digits_div, digits_mod}
 use lib.Bits.{bit_or}
 use lib.Pow.{pow_pos}
+use mir.Val.{bool_byte}
 use borrow.Author.Tests.{eqb-true, eq-eqb, ltb-true}
 use Rattle.livelock.specs.Lists.{All}
 use Rattle.livelock.specs.Plants.{Row, TypeIn}
@@ -27,6 +29,11 @@ use Rattle.plant.proofs.TwinLaws.{same_row_iff, own_twin}
 use Rattle.plant_rows.specs.Rows.{fields_row}
 use Rattle.plant_rows.specs.declared.RowFields.{RowFields}
 use Rattle.twins.specs.Keys.{type_number, key_of, Small, is_in, state_bit, RowsKept, RowKept}
+
+-- A truth value as a number.
+pub bit_is : (b : Bool) → bool_byte b ≡ cond b 1 0
+bit_is true = refl
+bit_is false = refl
 
 -- ---- keys
 
@@ -172,15 +179,17 @@ module _ (n : ℕ) (f : RowFields) (states : ℕ) (keys : List ℕ) (left : f.le
 
   -- What is told of a twin,
   pub row_twin : (kept : Bool) → kept ≡ (eqb (state_bit states f.left) 1 && is_in key (take n keys)) → kept ≡ true
-      → RowKept n f states keys keys (record { twin = true; states = states })
-  row_twin kept e t = record { long = refl; told = λ m rows k. sym t ∙ told_is kept e m rows k; kept = λ m rows k e. absurd (true≢false e) }
+      → RowKept n f states keys keys Std.None
+  row_twin kept e t = record { long = refl; told = λ m rows k. sym t ∙ told_is kept e m rows k; kept = λ m rows k more e. absurd cc }
 
   -- and of a row that is none.
   pub row_fresh : (kept : Bool) → kept ≡ (eqb (state_bit states f.left) 1 && is_in key (take n keys)) → kept ≡ false → n < length keys
-      → (more : ℕ) → more ≡ bit_or states (1 * 2 ^ (f.left % 64)) → RowKept n f states keys (set keys n key) (record { twin = false; states = more })
+      → (more : ℕ) → more ≡ bit_or states (1 * 2 ^ (f.left % 64)) → RowKept n f states keys (set keys n key) (Std.Some more)
   row_fresh kept e t l more is-more =
       record {
         long = length-set keys n key;
         told = λ m rows k. sym t ∙ told_is kept e m rows k;
-        kept = λ m rows k u. rw (is-more, key_in m) (one_kept m n rows keys states k (fields_row m f) refl (small_row m) l);
+        kept = λ m rows k other u.
+            let same : more ≡ other = cc in
+            rw (← same, is-more, key_in m) (one_kept m n rows keys states k (fields_row m f) refl (small_row m) l);
       }

@@ -1,6 +1,7 @@
 -- Rows as numbers, and what is kept of the rows of a machine that were read, so that a twin is found among them. No definition of an answer rests on
 -- these.
 use Rattle.std.specs.Prelude.{◌≡◌, Bool, false, ◌||◌, cond, List, [], ◌∷◌, ◌++◌, map, ℕ, ◌+◌, ◌*◌, ◌/◌, ◌%◌, ◌^◌, ◌<◌, length, take, eqb}
+use Rattle.std.specs.Prelude as Std
 use Rattle.std.proofs.Math.Option.{Option, none, some}
 use Rattle.livelock.specs.Lists.{All}
 use Rattle.livelock.specs.Plants.{Row, TypeIn}
@@ -8,7 +9,6 @@ use Rattle.plant.specs.Limits.{rows_in}
 use Rattle.plant.specs.Twins.{has_twin}
 use Rattle.plant_rows.specs.Rows.{fields_row}
 use Rattle.plant_rows.specs.declared.RowFields.{RowFields}
-use Rattle.twins.specs.declared.Keeping.{Keeping}
 
 -- The number of a type, or 64.
 abbrev pub type_number : Option ℕ → ℕ
@@ -42,9 +42,10 @@ pub record RowsKept (m n : ℕ) (rows : List Row) (keys : List ℕ) (states : �
   pub leave : All (λ r. state_bit states r.left ≡ 1) (rows_in m rows)
   pub small : All Small (rows_in m rows)
 
--- What is told of the next row of a machine, whatever the machine and the rows: whether it is a twin; and if it is none, it is kept as well.
-pub record RowKept (n : ℕ) (row : RowFields) (states : ℕ) (before after : List ℕ) (k : Keeping) : Type 0 where
+-- What is told of the next row of a machine, whatever the machine and the rows: none if it is a twin; and if it is no twin, it is kept as well, with the
+-- states that the rows with it leave.
+pub record RowKept (n : ℕ) (row : RowFields) (states : ℕ) (before after : List ℕ) (k : Std.Option ℕ) : Type 0 where
   pub long : length after ≡ length before
-  pub told : (m : ℕ) (rows : List Row) → RowsKept m n rows before states → k.twin ≡ has_twin (fields_row m row) rows
-  pub kept : (m : ℕ) (rows : List Row) → RowsKept m n rows before states → k.twin ≡ false
-      → RowsKept m (n + 1) (rows ++ (fields_row m row ∷ [])) after k.states
+  pub told : (m : ℕ) (rows : List Row) → RowsKept m n rows before states → Std.is_none k ≡ has_twin (fields_row m row) rows
+  pub kept : (m : ℕ) (rows : List Row) → RowsKept m n rows before states → (more : ℕ) → k ≡ Std.Some more
+      → RowsKept m (n + 1) (rows ++ (fields_row m row ∷ [])) after more

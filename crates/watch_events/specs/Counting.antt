@@ -1,5 +1,7 @@
 -- What the private functions that count events give.
-use Rattle.std.specs.Prelude.{◌≡◌, Bool, true, false, List, ℕ, ◌+◌, ◌-◌, ◌≤◌, ◌<◌, get_or}
+use Rattle.std.specs.Prelude.{◌≡◌, Bool, true, false, List, Result, Ok, Err, ℕ, ◌+◌, ◌-◌, ◌≤◌, ◌<◌, get_or}
+use Rattle.plant.specs.declared.Fault.{Fault}
+use Rattle.plant.specs.declared.Refusal.TheVariants as Refusals
 use Rattle.watched_runs.specs.Keeping.{left_in, progress_in, doublings_in}
 use Rattle.watched_runs.specs.Inner.Counts.{capped, CountsAre}
 
@@ -9,12 +11,16 @@ pub record EventCounted (at more : ℕ) (before after : List ℕ) : Type 0 where
   pub own : get_or after at 0 ≡ get_or before at 0 + 1
   pub others : (j : ℕ) → (j ≡ 0 → ⊥) → (j ≡ at → ⊥) → get_or after j 0 ≡ get_or before j 0
 
+-- "29 a possible progress row … after 1,000,000 of its own sort", or doubling.
+abbrev pub event_limit : Fault
+event_limit = record { refusal = Refusals.EventLimit; place = 0 }
+
 -- "after 1,000,000 of its own sort" nothing is counted.
-pub data CountedUpTo (at most more : ℕ) (before after : List ℕ) (counted : Bool) : Type 0 where
-  at_most : most ≤ get_or before at 0 → after ≡ before → counted ≡ false → CountedUpTo at most more before after counted
-  one_more : get_or before at 0 < most → EventCounted at more before after → counted ≡ true → CountedUpTo at most more before after counted
+pub data CountedUpTo (at most more : ℕ) (before after : List ℕ) (counted : Result (Unit {0}) Fault) : Type 0 where
+  at_most : most ≤ get_or before at 0 → after ≡ before → counted ≡ Err event_limit → CountedUpTo at most more before after counted
+  one_more : get_or before at 0 < most → EventCounted at more before after → counted ≡ Ok tt → CountedUpTo at most more before after counted
 
 -- A row is counted by its mark.
-pub data RowCounted (progress : Bool) (more : ℕ) (before after : List ℕ) (counted : Bool) : Type 0 where
-  quiet_row : progress ≡ false → CountsAre (left_in before - 1) (progress_in before) (doublings_in before) after → counted ≡ true → RowCounted progress more before after counted
+pub data RowCounted (progress : Bool) (more : ℕ) (before after : List ℕ) (counted : Result (Unit {0}) Fault) : Type 0 where
+  quiet_row : progress ≡ false → CountsAre (left_in before - 1) (progress_in before) (doublings_in before) after → counted ≡ Ok tt → RowCounted progress more before after counted
   progress_row : progress ≡ true → CountedUpTo 1 1000000 more before after counted → RowCounted progress more before after counted

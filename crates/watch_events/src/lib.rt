@@ -1,15 +1,14 @@
 // The events of a watcher, over the lists that it lends. No entry point for Rattle: `watching` calls it, and `panel`, the C interface.
 #![tactic(auto)]
 
-ghost use Rattle.std.specs.Prelude.{◌≡◌, ◌≤◌, ◌<◌, length};
+ghost use Rattle.std.specs.Prelude.{◌≡◌, ◌≤◌, ◌<◌};
 ghost use Rattle.livelock.specs.Runs as Runs;
-ghost use Rattle.watched_runs.specs.Answers.{answer_of, refused};
+ghost use Rattle.watched_runs.specs.Answers.{answer_of};
 ghost use Rattle.watched_runs.specs.Owed.{LentSteps, LentMessageSteps};
 ghost use Rattle.watched_runs.specs.Inner.Counts.{row_held, message_held};
 ghost use Rattle.watch_events.specs.Counting.{CountedUpTo, RowCounted};
 
-use plant::Fault;
-use watched_runs::Watched;
+use plant::{Fault, Refusal};
 use watchers::Watcher;
 
 // The places of the sizes,
@@ -28,71 +27,61 @@ const PROGRESS: usize = 1;
 
 const DOUBLINGS: usize = 2;
 
-// A table has room for so many rows, and contents are kept of so many types.
+// A table has room for so many rows.
 const TABLE_ROWS: u32 = 1024;
 
-const CONTENTS: u32 = 64;
+// The refusals of an event, each at place 0.
+const ROW_IMPOSSIBLE: Fault = Fault {
+    refusal: Refusal::RowImpossible,
+    place: 0,
+};
 
-// The numbers of the refusals.
-const ROW_IMPOSSIBLE: u8 = 27;
+const MESSAGE_ABSENT: Fault = Fault {
+    refusal: Refusal::MessageAbsent,
+    place: 0,
+};
 
-const MESSAGE_ABSENT: u8 = 28;
-
-const EVENT_LIMIT: u8 = 29;
-
-// The refusal of an event.
-fn refusal(number: u8) -> Watched
-    ensures { answer_of result ≡ refused number 0 }
-{
-    Watched::Refused(Fault { number, place: 0 })
-}
+const EVENT_LIMIT: Fault = Fault {
+    refusal: Refusal::EventLimit,
+    place: 0,
+};
 
 // Whether there is such a row.
 fn has_row(sizes: &[u64; 5], k: u32) -> bool
     ensures { result ≡ row_held sizes.now k }
 {
-    if k as u64 >= sizes[ROWS] {
-        return false;
-    }
-    k < TABLE_ROWS
+    u64::from(k) < sizes[ROWS] && k < TABLE_ROWS
 }
 
 // Whether there is a message of such a type.
 fn has_message(sizes: &[u64; 5], contents: &[u64; 64], t: u32) -> bool
     ensures { result ≡ message_held sizes.now contents.now t }
 {
-    if t as u64 >= sizes[TYPES] {
-        return false;
-    }
-    if t >= CONTENTS {
-        return false;
-    }
-    contents[t as usize] > 0
+    u64::from(t) < sizes[TYPES] && contents.get(t as usize).is_some_and(|count| *count > 0)
 }
 
 // Counts an event of the sort that is counted at `at`, which adds so much to what is left, unless there were as many as there may be.
-fn count_event(counts: &mut [u64], at: usize, most: u64, more: u64) -> bool
-    requires { (length counts.old ≡ 3) × (1 ≤ at) × (at < 3) × (most ≤ 1000000) }
+fn count_event(counts: &mut [u64; 3], at: usize, most: u64, more: u64) -> Result<(), Fault>
+    requires { (1 ≤ at) × (at < 3) × (most ≤ 1000000) }
     ensures { CountedUpTo at most more counts.old counts.new result }
 {
     if counts[at] >= most {
-        return false;
+        return Err(EVENT_LIMIT);
     }
     counts[at] += 1;
-    counts[LEFT] = configurations::sum_of(counts[LEFT], more);
-    true
+    counts[LEFT] = counts[LEFT].saturating_add(more);
+    Ok(())
 }
 
 // Counts a row: a quiet one takes one away from what is left, and a progress row adds so much, unless there were as many as there may be.
-fn count_row(counts: &mut [u64], progress: bool, more: u64) -> bool
-    requires { length counts.old ≡ 3 }
+fn count_row(counts: &mut [u64; 3], progress: bool, more: u64) -> Result<(), Fault>
     ensures { RowCounted progress more counts.old counts.new result }
 {
     if progress {
         return count_event(counts, PROGRESS, Watcher::PROGRESS_ROWS, more);
     }
-    counts[LEFT] = configurations::less_one(counts[LEFT]);
-    true
+    counts[LEFT] = counts[LEFT].saturating_sub(1);
+    Ok(())
 }
 
 // Row k happens, or is refused with 27 or 29.
@@ -103,32 +92,35 @@ pub fn take_row(
     contents: &mut [u64; 64],
     counts: &mut [u64; 3],
     k: u32,
-) -> Watched
+) -> Result<u64, Fault>
     ensures { LentSteps table.now sizes.now states.old contents.old counts.old (Runs.row k) (answer_of result) states.new contents.new counts.new }
 {
     if !has_row(sizes, k) {
-        return refusal(ROW_IMPOSSIBLE);
+        return Err(ROW_IMPOSSIBLE);
     }
     let row = tables::row_in(table, k as usize);
     if !configurations::row_can(row, states, contents) {
-        return refusal(ROW_IMPOSSIBLE);
+        return Err(ROW_IMPOSSIBLE);
     }
-    if !count_row(counts, row.progress, sizes[PER_PROGRESS]) {
-        return refusal(EVENT_LIMIT);
-    }
+    count_row(counts, row.fields.progress, sizes[PER_PROGRESS])?;
     configurations::move_row(row, states, contents);
-    Watched::Remaining(counts[LEFT])
+    Ok(counts[LEFT])
 }
 
 // One message of a type is lost, or the loss is refused with 28.
-pub fn take_loss(sizes: &[u64; 5], contents: &mut [u64; 64], counts: &[u64; 3], t: u32) -> Watched
+pub fn take_loss(
+    sizes: &[u64; 5],
+    contents: &mut [u64; 64],
+    counts: &[u64; 3],
+    t: u32,
+) -> Result<u64, Fault>
     ensures { LentMessageSteps sizes.now contents.old counts.now (Runs.loss t) (answer_of result) contents.new counts.now }
 {
     if !has_message(sizes, contents, t) {
-        return refusal(MESSAGE_ABSENT);
+        return Err(MESSAGE_ABSENT);
     }
     configurations::remove(contents, t as u8);
-    Watched::Remaining(counts[LEFT])
+    Ok(counts[LEFT])
 }
 
 // One message of a type is delivered twice, or the doubling is refused with 28 or 29.
@@ -137,15 +129,13 @@ pub fn take_doubling(
     contents: &mut [u64; 64],
     counts: &mut [u64; 3],
     t: u32,
-) -> Watched
+) -> Result<u64, Fault>
     ensures { LentMessageSteps sizes.now contents.old counts.old (Runs.doubling t) (answer_of result) contents.new counts.new }
 {
     if !has_message(sizes, contents, t) {
-        return refusal(MESSAGE_ABSENT);
+        return Err(MESSAGE_ABSENT);
     }
-    if !count_event(counts, DOUBLINGS, Watcher::DOUBLINGS, sizes[PER_DOUBLING]) {
-        return refusal(EVENT_LIMIT);
-    }
+    count_event(counts, DOUBLINGS, Watcher::DOUBLINGS, sizes[PER_DOUBLING])?;
     configurations::add(contents, t as u8);
-    Watched::Remaining(counts[LEFT])
+    Ok(counts[LEFT])
 }

@@ -84,11 +84,11 @@ module _ (s : Kept) (k : ℕ) (l : k < rows_in s.sizes) where
       can_row b h = sym (test.same machine o.P k there row_same) ∙ h
 
       -- and the mark says whether it is a progress row.
-      marked : (b : Bool) → x.progress ≡ b → is_progress_row o.P (row k) ≡ b
+      marked : (b : Bool) → x.fields.progress ≡ b → is_progress_row o.P (row k) ≡ b
       unfolding is_progress_row
       marked b h = sym (ap has_progress row_same) ∙ (sym (row_progress x) ∙ h)
 
-      unmarked : (b : Bool) → x.progress ≡ b → is_quiet_row o.P (row k) ≡ not b
+      unmarked : (b : Bool) → x.fields.progress ≡ b → is_quiet_row o.P (row k) ≡ not b
       unfolding is_quiet_row
       unmarked b h = ap not (sym (ap has_progress row_same) ∙ (sym (row_progress x) ∙ h))
 
@@ -101,12 +101,12 @@ module _ (s : Kept) (k : ℕ) (l : k < rows_in s.sizes) where
     steps_cannot h = refuses s (row k) 27 (λ w holds. cannot_happen s w holds (o w holds) (row k) (can_row w holds false h))
 
     -- it is a progress row too many,
-    pub steps_late : can ≡ true → x.progress ≡ true → 1000000 ≤ progress_in s.counts → Steps s (row k) (refused 29 0) s
+    pub steps_late : can ≡ true → x.fields.progress ≡ true → 1000000 ≤ progress_in s.counts → Steps s (row k) (refused 29 0) s
     steps_late h p n = refuses s (row k) 29 (λ w holds. late_row s w holds (o w holds) (row k) (can_row w holds true h) (marked w holds true p) n)
 
     -- or it is accepted: with progress it adds G, and else it takes one away.
     module _ (h : can ≡ true) (states contents counts : List ℕ) (moves : RowMoves x s.states s.contents states contents) where
-      pub steps_progress : x.progress ≡ true → progress_in s.counts < 1000000
+      pub steps_progress : x.fields.progress ≡ true → progress_in s.counts < 1000000
           → CountsAre (capped (left_in s.counts + per_progress_in s.sizes)) (progress_in s.counts + 1) (doublings_in s.counts) counts
           → Steps s (row k) (remaining (left_in counts)) (moved s states contents counts)
       steps_progress p n c =
@@ -119,7 +119,7 @@ module _ (s : Kept) (k : ℕ) (l : k < rows_in s.sizes) where
           (omega (arith, c.progress_is))
           (omega (arith, c.doublings_is)))
 
-      pub steps_quiet : x.progress ≡ false
+      pub steps_quiet : x.fields.progress ≡ false
           → CountsAre (left_in s.counts - 1) (progress_in s.counts) (doublings_in s.counts) counts
           → Steps s (row k) (remaining (left_in counts)) (moved s states contents counts)
       steps_quiet p c =

@@ -2,7 +2,7 @@
 use mathlib.Core.Path.{◌≡◌, refl, sym, ap, ◌∙◌, subst}
 use mathlib.Core.Bool.{Bool, true, false, ◌&&◌, ◌||◌, cond, false≢true}
 use mathlib.Core.List.{List, [], ◌∷◌, ◌++◌}
-use Prim.Native.Nat.{ℕ, ◌+◌, ◌-◌}
+use Prim.Native.Nat.{ℕ, ◌-◌}
 use native.Mathlib.Omega.{arith}
 use lib.Dec.{leb}
 use borrow.Author.Tests.{leb-true, leb-false}
@@ -21,7 +21,7 @@ use Rattle.contents.proofs.AmountLaws.{contents_good}
 use Rattle.quoting.specs.Answers as Quoted
 use Rattle.quoting.specs.Quoting as Quoting
 use Rattle.watched_runs.specs.Answers.{Answer, remaining, refused}
-use Rattle.watched_runs.specs.WatchedRuns.{WatchedRun, stopped, unopened, ceiling_from, impossible, is_spent, judged_in, judged, stepped_to, answered_for}
+use Rattle.watched_runs.specs.WatchedRuns.{WatchedRun, stopped, unopened, ceiling_from, impossible, is_spent, judged_in, stepped_to, answered_for}
 use Rattle.watched_runs.specs.Keeping.{Kept, Holds}
 use Rattle.watched_runs.specs.Owed.{Opens, Steps, opening_answer, opening_run}
 use Rattle.watched_runs.specs.WholeList.{Calls, ended, called, Exact, Follows, at_end, accepts, cannot, late_progress, late_doubling}

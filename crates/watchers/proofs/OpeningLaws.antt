@@ -1,27 +1,21 @@
 -- Laws of opening: copies, figures and the table, and that the lists hold the run that opening owes.
 use mathlib.Core.Path.{◌≡◌, refl, sym, ap, ◌∙◌, subst}
-use mathlib.Core.Bool.{true, false, false≢true}
+use mathlib.Core.Bool.{false≢true}
 use mathlib.Core.List.{List, [], ◌∷◌}
-use Prim.Native.Nat.{ℕ, ◌+◌, ◌≤◌, ◌<◌}
+use Prim.Native.Nat.{ℕ, ◌≤◌, ◌<◌}
 use native.Mathlib.Nat.{mul-le-mul}
-use native.Mathlib.Decide.{ℕ_discrete, dec_lt}
+use native.Mathlib.Decide.{dec_lt}
 use native.Mathlib.Omega.{arith}
-use lib.ListN.{length, get_or, set, take, get_or-eq_default}
-use lib.Seq.{get_or-set_same, get_or-set_other, take-length}
+use lib.ListN.{length, get_or, take, get_or-eq_default}
 use Rattle.livelock.specs.Lists.{sum}
 use Rattle.livelock.specs.Plants.{Plant}
 use Rattle.livelock.specs.Runs.{after_all, run}
-use Rattle.livelock.specs.Weights.{Passes}
 use Rattle.livelock.specs.Figures.{figures_of}
 use Rattle.livelock.specs.Figures as Theory
 use Rattle.livelock.proofs.Ceiling.{ceiling}
 use Rattle.livelock.proofs.ListLaws.{get_d_replicate_default}
 use Rattle.plant.specs.Found.{found}
 use Rattle.plant.specs.Reading.{read_plant}
-use Rattle.plant.specs.Steps.{end_found}
-use Rattle.plant.specs.declared.Fault.{Fault}
-use Rattle.plant.specs.declared.End.{End}
-use Rattle.plant.specs.declared.End.TheVariants as Ends
 use Rattle.plant.proofs.FileBounds.{longest_file_lem}
 use Rattle.decoding.specs.Tables.{plant_of}
 use Rattle.decoding.specs.declared.Shape.{Shape}
@@ -31,15 +25,10 @@ use Rattle.figures.specs.declared.Figures.{Figures}
 use Rattle.figures.proofs.FigureLaws.{most_limit, base_limit, per_progress_limit, per_doubling_limit}
 use Rattle.weight_checks.specs.Checks.{judged_weights}
 use Rattle.weight_checks.proofs.CheckLaws.{then_found}
-use Rattle.weight_checks.proofs.CheckLaws as Checked
-use Rattle.weighing.specs.Answers as Weighed
-use Rattle.weighing.specs.Weighing.{OwedVerdict, verdict_for_plant}
-use Rattle.weighing.specs.declared.Verdict.{Verdict}
 use Rattle.contents.specs.Contents.{checked_contents}
 use Rattle.contents.proofs.AmountLaws.{contents_good, contents_limit}
 use Rattle.quoting.specs.Answers as QuotingAnswers
 use Rattle.quoting.specs.Quoting as Quoting
-use Rattle.quoting.specs.declared.Quoted.{Quoted}
 use Rattle.quoting.proofs.CeilingLaws.{Within, judged_within}
 use Rattle.quoting.proofs.OwedLaws.{Quotable, quoted_iff}
 use Rattle.watched_runs.specs.Answers.{remaining, refused}
@@ -49,33 +38,11 @@ use Rattle.watched_runs.specs.Owed.{blank, Opens}
 use Rattle.watched_runs.proofs.WholeListLaws.{empty_reads, reads_plant}
 use Rattle.watchers.specs.Inner.Openings.{Widened, FiguresFor, Tabled, Begun}
 
--- ---- the copy
-
--- All of it is copied.
-pub copied : (file copy : List ℕ) (i : ℕ) → i ≤ length file → length file ≤ i → take i copy ≡ take i file → take (length file) copy ≡ file
-copied file copy i h k e = let s : i ≡ length file = omega arith in (rw s at e) ∙ take-length file
-
 -- ---- contents in 64 bits
 
--- Nothing is stored yet,
+-- Nothing is stored yet.
 pub widened_start : (xs wide : List ℕ) → ((t : ℕ) → get_or wide t 0 ≡ 0) → Widened xs wide 0
 widened_start xs wide h = record { front = λ t l. absurd (omega arith); behind = λ t l. h t }
-
--- and one number more is stored.
-pub widened_step : (xs wide : List ℕ) (i : ℕ) → i < length wide → Widened xs wide i → Widened xs (set wide i (get_or xs i 0)) (i + 1)
-widened_step xs wide i h before =
-    record {
-      front = λ t l. go t l (ℕ_discrete t i);
-      behind = λ t l. (let n : t ≡ i → ⊥ = λ e. omega arith in get_or-set_other wide i t (get_or xs i 0) 0 n ∙ before.behind t (omega arith));
-    }
-  where
-    go : (t : ℕ) → t < i + 1 → Dec (t ≡ i) → get_or (set wide i (get_or xs i 0)) t 0 ≡ get_or xs t 0
-    go t l (yes e) = subst (λ (x : ℕ). get_or (set wide i (get_or xs i 0)) x 0 ≡ get_or xs x 0) (sym e) (get_or-set_same wide i (get_or xs i 0) 0 h)
-    go t l (no n) = let k : t < i = omega arith in get_or-set_other wide i t (get_or xs i 0) 0 n ∙ before.front t k
-
--- All are stored.
-pub widened_end : (xs wide : List ℕ) (i : ℕ) → i ≤ length xs → length xs ≤ i → Widened xs wide i → Widened xs wide (length xs)
-widened_end xs wide i h k v = let e : i ≡ length xs = omega arith in subst (Widened xs wide) e v
 
 -- The two lists say the same of every type.
 wide_is : (xs wide : List ℕ) → Widened xs wide (length xs) → (t : ℕ) → get_or wide t 0 ≡ get_or xs t 0
@@ -85,38 +52,15 @@ wide_is xs wide h t = go (dec_lt t (length xs))
     go (yes l) = h.front t l
     go (no l) = let k : length xs ≤ t = omega arith in h.behind t k ∙ sym (get_or-eq_default xs 0 {n = t} k)
 
--- ---- figures
-
-module _ (file ws : List ℕ) (v : Verdict) (owed : OwedVerdict ws (Weighed.judgement_of v) (judged_weights file ws)) where
-  owed_figures : (j : Weighed.Judgement) → Weighed.judgement_of v ≡ j → (P : Plant) (end : ℕ) → judged_weights file ws ≡ found P end → Passes P ws
-      → j ≡ Weighed.passing (figures_of P ws)
-  owed_figures j q P end good ok = sym q ∙ at_plant (subst (OwedVerdict ws (Weighed.judgement_of v)) good owed)
-    where
-      at_plant : OwedVerdict ws (Weighed.judgement_of v) (found P end) → Weighed.judgement_of v ≡ Weighed.passing (figures_of P ws)
-      at_plant (verdict_for_plant passing failing) = (passing ok).figures
-
-  -- The figures that weighing hands back are those of the plant,
-  pub figures_passing : (f : Figures) → Weighed.judgement_of v ≡ Weighed.passing (figures_in f) → FiguresFor file ws f
-  figures_passing f q P end good ok = let e = owed_figures (Weighed.passing (figures_in f)) q P end good ok in cc
-
-  -- and where it hands back none, the weights do not pass.
-  pub figures_failing : (f : Figures) → Weighed.judgement_of v ≡ Weighed.failing → FiguresFor file ws f
-  figures_failing f q P end good ok = let e = owed_figures Weighed.failing q P end good ok in absurd (false≢true cc)
-
-  pub figures_refused : (f : Figures) (number place : ℕ) → Weighed.judgement_of v ≡ Weighed.refusing number place → FiguresFor file ws f
-  figures_refused f number place q P end good ok = let e = owed_figures (Weighed.refusing number place) q P end good ok in absurd (false≢true cc)
-
 -- ---- the table
 
 -- What was decoded is the plant that the file reads as.
-pub decoded_plant : (end : End) (p : Plant) (P : Plant) (next : ℕ) → end_found end p ≡ found P next → p ≡ P
-decoded_plant (Ends.At n) p P next e = cc
-decoded_plant (Ends.Fault f) p P next e = Checked.no_plant f.number f.place P next e
-
-pub tabled : (file : List ℕ) (end : End) (shape : Shape) (s : Kept) → end_found end (plant_of shape s.table) ≡ read_plant file
+pub tabled : (file : List ℕ) (shape : Shape) (s : Kept) (end : ℕ) → found (plant_of shape s.table) end ≡ read_plant file
     → get_or s.sizes 1 0 ≡ shape.rows → get_or s.sizes 2 0 ≡ shape.types → (P : Plant) (next : ℕ) → read_plant file ≡ found P next → Tabled s P
-tabled file end shape s reads rows types P next e =
-    subst (Tabled s) (decoded_plant end (plant_of shape s.table) P next (reads ∙ e))
+tabled file shape s end reads rows types P next e =
+    let q = reads ∙ e in
+    let same : plant_of shape s.table ≡ P = cc in
+    subst (Tabled s) same
     (record {
       rows = rows ∙ sym (rows_counted shape s.table);
       each_row = λ k l. sym (plant_row_is shape s.table k (omega (arith, rows_counted shape s.table)));
@@ -242,8 +186,3 @@ module _ (file ws contents : List ℕ) (figure class : ℕ)
               };
           cleared = λ n p q. absurd (false≢true cc);
         }
-
--- What is owed for a call's result is owed for what the result is.
-pub quote_told : (file ws contents : List ℕ) {q q' : Quoted} → Quoting.Owed ws contents 0 0 (QuotingAnswers.answer_of q) (Quoting.judged file ws contents 0 0) → q ≡ q'
-    → Quoting.Owed ws contents 0 0 (QuotingAnswers.answer_of q') (Quoting.judged file ws contents 0 0)
-quote_told file ws contents owed e = subst (λ (x : Quoted). Quoting.Owed ws contents 0 0 (QuotingAnswers.answer_of x) (Quoting.judged file ws contents 0 0)) e owed

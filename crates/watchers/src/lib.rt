@@ -8,9 +8,7 @@ ghost use Rattle.watchers.specs.Watchers.{kept_in};
 ghost use Rattle.watchers.specs.Inner.Openings.{Widened, FiguresFor, Begun};
 
 use figures::Figures;
-use quoting::Quoted;
-use watched_runs::Watched;
-use weighing::Verdict;
+use plant::Fault;
 
 // What a watcher keeps: a copy of the file, and the table of its rows; the sizes, which are the file's length, the counts of rows and of types, G and
 // n × w; the states and the contents; and the counts, which are the quiet rows left, the progress rows so far and the doublings so far.
@@ -24,11 +22,12 @@ pub struct Watcher {
     pub counts: [u64; 3],
 }
 
-// A watcher, and the answer of the call that handed it back.
+// A watcher, and the answer of the call that handed it back: how many quiet rows are left. A refusal comes with a watcher too, so this is no plain
+// Result: a refused opening's is of zeros alone, and a refused event's is as it was.
 #[derive(Drop)]
 pub struct Opened {
     pub watcher: Watcher,
-    pub answer: Watched,
+    pub answer: Result<u64, Fault>,
 }
 
 // A watcher after a refused opening: zeros alone.
@@ -51,19 +50,8 @@ fn copy_of(file: &[u8]) -> [u8; 8192]
     ensures { take (length file.now) result ≡ file.now }
 {
     let mut copy = [0; 8192];
-    let mut i = 0;
-    while i < file.len() {
-        copy[i] = file[i];
-        i += 1;
-    }
+    copy[..file.len()].copy_from_slice(file);
     copy
-}
-
-// A content in 64 bits.
-fn wide(content: u32) -> u64
-    ensures { result ≡ content }
-{
-    content as u64
 }
 
 // The contents in 64 bits, and zeros behind them.
@@ -72,10 +60,8 @@ fn widened(contents: &[u32]) -> [u64; 64]
     ensures { Widened contents.now result (length contents.now) }
 {
     let mut all = [0; 64];
-    let mut i = 0;
-    while i < contents.len() {
-        all[i] = wide(contents[i]);
-        i += 1;
+    for (t, content) in contents.iter().enumerate() {
+        all[t] = u64::from(*content);
     }
     all
 }
@@ -84,17 +70,9 @@ fn widened(contents: &[u32]) -> [u64; 64]
 fn figures_for(file: &[u8], weights: &[u16]) -> Figures
     ensures { FiguresFor file.now weights.now result }
 {
-    let none = Figures {
-        base: 0,
-        most_states: 0,
-        per_progress: 0,
-        per_doubling: 0,
-    };
-    let verdict = weighing::judge(file, weights);
-    match verdict {
-        Verdict::Passes(figures) => figures,
-        Verdict::Fails => none,
-        Verdict::Refused(fault) => none,
+    match weighing::judge(file, weights) {
+        Ok(Some(figures)) => figures,
+        _ => Figures::default(),
     }
 }
 
@@ -104,10 +82,10 @@ fn begun(file: &[u8], contents: &[u32], ceiling: u64, figures: Figures) -> Watch
     ensures { Begun file.now contents.now ceiling figures (kept_in result) }
 {
     let mut table = [0; 8192];
-    let decoded = decoding::decode(file, &mut table);
-    let shape = decoded.shape;
-    let rows = shape.rows as u64;
-    let types = shape.types as u64;
+    let (rows, types) = match decoding::decode(file, &mut table) {
+        Ok(shape) => (shape.rows as u64, u64::from(shape.types)),
+        Err(_) => (0, 0),
+    };
     Watcher {
         copy: copy_of(file),
         table,
@@ -135,15 +113,14 @@ impl Watcher {
     pub fn open(file: &[u8], weights: &[u16], contents: &[u32]) -> Opened
         ensures { Opens file.now weights.now contents.now (answer_of result.answer) (kept_in result.watcher) }
     {
-        let quoted = quoting::quote(file, weights, contents, 0, 0);
-        match quoted {
-            Quoted::Refused(fault) => Opened {
+        match quoting::quote(file, weights, contents, 0, 0) {
+            Err(fault) => Opened {
                 watcher: unopened(),
-                answer: Watched::Refused(fault),
+                answer: Err(fault),
             },
-            Quoted::Ceiling { ceiling, class } => Opened {
-                watcher: begun(file, contents, ceiling, figures_for(file, weights)),
-                answer: Watched::Remaining(ceiling),
+            Ok(quoted) => Opened {
+                watcher: begun(file, contents, quoted.ceiling, figures_for(file, weights)),
+                answer: Ok(quoted.ceiling),
             },
         }
     }

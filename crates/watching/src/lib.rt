@@ -9,54 +9,37 @@ ghost use Rattle.watchers.specs.Watchers.{kept_in};
 use watchers::{Opened, Watcher};
 
 // Row k happens to a watcher, or is refused with 27 or 29.
-pub fn row(watcher: Watcher, k: u32) -> Opened
+pub fn row(mut watcher: Watcher, k: u32) -> Opened
     ensures { Steps (kept_in watcher) (Runs.row k) (answer_of result.answer) (kept_in result.watcher) }
 {
-    let table = watcher.table;
-    let sizes = watcher.sizes;
-    let mut states = watcher.states;
-    let mut contents = watcher.contents;
-    let mut counts = watcher.counts;
-    let answer = watch_events::take_row(&table, &sizes, &mut states, &mut contents, &mut counts, k);
-    let mut next = watcher;
-    next.states = states;
-    next.contents = contents;
-    next.counts = counts;
-    Opened {
-        watcher: next,
-        answer,
-    }
+    let answer = watch_events::take_row(
+        &watcher.table,
+        &watcher.sizes,
+        &mut watcher.states,
+        &mut watcher.contents,
+        &mut watcher.counts,
+        k,
+    );
+    Opened { watcher, answer }
 }
 
 // One message of type t is lost to a watcher, or the loss is refused with 28.
-pub fn loss(watcher: Watcher, t: u32) -> Opened
+pub fn loss(mut watcher: Watcher, t: u32) -> Opened
     ensures { Steps (kept_in watcher) (Runs.loss t) (answer_of result.answer) (kept_in result.watcher) }
 {
-    let sizes = watcher.sizes;
-    let mut contents = watcher.contents;
-    let counts = watcher.counts;
-    let answer = watch_events::take_loss(&sizes, &mut contents, &counts, t);
-    let mut next = watcher;
-    next.contents = contents;
-    Opened {
-        watcher: next,
-        answer,
-    }
+    let answer = watch_events::take_loss(&watcher.sizes, &mut watcher.contents, &watcher.counts, t);
+    Opened { watcher, answer }
 }
 
 // One message of type t is delivered twice to a watcher, or the doubling is refused with 28 or 29.
-pub fn doubling(watcher: Watcher, t: u32) -> Opened
+pub fn doubling(mut watcher: Watcher, t: u32) -> Opened
     ensures { Steps (kept_in watcher) (Runs.doubling t) (answer_of result.answer) (kept_in result.watcher) }
 {
-    let sizes = watcher.sizes;
-    let mut contents = watcher.contents;
-    let mut counts = watcher.counts;
-    let answer = watch_events::take_doubling(&sizes, &mut contents, &mut counts, t);
-    let mut next = watcher;
-    next.contents = contents;
-    next.counts = counts;
-    Opened {
-        watcher: next,
-        answer,
-    }
+    let answer = watch_events::take_doubling(
+        &watcher.sizes,
+        &mut watcher.contents,
+        &mut watcher.counts,
+        t,
+    );
+    Opened { watcher, answer }
 }

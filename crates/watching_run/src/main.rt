@@ -2,67 +2,43 @@
 // each call.
 #![tactic(auto)]
 
-use watched_runs::Watched;
-use watchers::Watcher;
+use std::fmt::Display;
+use watchers::{Opened, Watcher};
 
 const PLANT_A: [u8; 20] =
     *b"\x02\x02\x02\x02\x06\x01\x00\x1B\x01\x00\x01\x02\x02\x0A\x01\x00\x07\x01\x00\x01";
 
-fn say(rt: &impl Print, text: &[u8]) {
-    let _ = rt.write_all(text);
-}
-
-fn say_number(rt: &impl Print, before: &[u8], number: u64) {
-    say(rt, before);
-    let _ = rt.print(number);
-}
-
-// The line of a call.
-fn told(rt: &impl Print, call: &[u8], answer: Watched) {
-    say(rt, call);
-    match answer {
-        Watched::Remaining(left) => say_number(rt, b": ", left),
-        Watched::Refused(fault) => {
-            say_number(rt, b": refused with ", fault.number as u64);
-            say_number(rt, b" at ", fault.place as u64);
-        }
-    }
-    say(rt, b"\n");
+// Prints the line of a call, and hands on the watcher that it handed back.
+fn told(rt: &impl Print, call: impl Display + Drop, opened: Opened) -> Watcher {
+    let _ = match opened.answer {
+        Ok(left) => println!(rt; "{call}: {left}"),
+        Err(fault) => println!(rt; "{call}: {fault}"),
+    };
+    opened.watcher
 }
 
 fn row(rt: &impl Print, watcher: Watcher, k: u32) -> Watcher {
-    let opened = watching::row(watcher, k);
-    let answer = opened.answer;
-    say_number(rt, b"row ", k as u64);
-    told(rt, b"", answer);
-    opened.watcher
+    told(rt, format_args!("row {k}"), watching::row(watcher, k))
 }
 
 fn loss(rt: &impl Print, watcher: Watcher, t: u32) -> Watcher {
-    let opened = watching::loss(watcher, t);
-    let answer = opened.answer;
-    say_number(rt, b"loss ", t as u64);
-    told(rt, b"", answer);
-    opened.watcher
+    told(rt, format_args!("loss {t}"), watching::loss(watcher, t))
 }
 
 fn doubling(rt: &impl Print, watcher: Watcher, t: u32) -> Watcher {
-    let opened = watching::doubling(watcher, t);
-    let answer = opened.answer;
-    say_number(rt, b"doubling ", t as u64);
-    told(rt, b"", answer);
-    opened.watcher
+    told(
+        rt,
+        format_args!("doubling {t}"),
+        watching::doubling(watcher, t),
+    )
 }
 
-fn open(rt: &impl Print, title: &[u8], weights: &[u16]) -> Watcher {
-    let opened = Watcher::open(&PLANT_A, weights, &[3, 4]);
-    let answer = opened.answer;
-    told(rt, title, answer);
-    opened.watcher
+fn open(rt: &impl Print, title: &str, weights: &[u16]) -> Watcher {
+    told(rt, title, Watcher::open(&PLANT_A, weights, &[3, 4]))
 }
 
 fn main(rt: HostRuntime) {
-    let first = open(&rt, b"A, weights 2, 1, contents 3, 4", &[2, 1]);
+    let first = open(&rt, "A, weights 2, 1, contents 3, 4", &[2, 1]);
     let asked = row(&rt, first, 0);
     let again = row(&rt, asked, 0);
     let lost = loss(&rt, again, 1);
@@ -72,7 +48,7 @@ fn main(rt: HostRuntime) {
     let unknown = loss(&rt, absent, 2);
     let untold = doubling(&rt, unknown, 2);
     row(&rt, untold, 2);
-    let closed = open(&rt, b"A, weights 1, 1, contents 3, 4", &[1, 1]);
+    let closed = open(&rt, "A, weights 1, 1, contents 3, 4", &[1, 1]);
     let still = row(&rt, closed, 0);
     let gone = loss(&rt, still, 0);
     doubling(&rt, gone, 0);

@@ -6,7 +6,8 @@ use mathlib.Core.List.{List, ◌++◌}
 use Prim.Native.Nat.{ℕ, ◌≤◌, ◌<◌}
 use native.Mathlib.Omega.{arith}
 use lib.ListN.{length, take, drop}
-use lib.IntN.{ℤ}
+use Rattle.edge_lists.specs.declared.Edge.{Edge}
+use Rattle.machines.specs.declared.Failing.{Failing}
 use Rattle.livelock.specs.Plants.{Plant, WellFormed}
 use Rattle.livelock.specs.Weights.{Passes, FailingCycle}
 use Rattle.livelock.specs.Figures.{most_states, figures_of}
@@ -17,11 +18,12 @@ use Rattle.livelock.proofs.Ceiling.{ceiling}
 use Rattle.plant.specs.Found.{Found, found, fault, and_then}
 use Rattle.plant.specs.Reading.{read_plant}
 use Rattle.decoding.specs.Tables.{plant_of, Ready}
-use Rattle.plant.specs.Steps.{end_found}
-use Rattle.plant.specs.declared.End.{End}
+use Rattle.std.specs.Prelude.{Option, Some, None, Result, Ok, Err}
+use Rattle.plant.specs.Refusals.{number_of}
+use Rattle.plant.specs.declared.Fault.{Fault}
 use Rattle.decoding.specs.declared.Shape.{Shape}
 use Rattle.plant.proofs.OneToOne.{same_fault}
-use Rattle.weight_checks.specs.Checks.{checked_weights, judged_weights, checked_room, judged, WeightsChecked, RoomChecked}
+use Rattle.weight_checks.specs.Checks.{checked_weights, judged_weights, checked_room, judged, check_found, WeightsChecked, WeighingChecked}
 use Rattle.weight_checks.proofs.CheckLaws.{none_above, judged_weights_lem, judged_good, judged_limits}
 use Rattle.weighing.specs.Answers.{Answer, passed, cycle, refused, answer_of, HasFigures, Judgement, judgement_of}
 use Rattle.weighing.specs.Answers as Answers
@@ -34,8 +36,6 @@ use Rattle.shortest_cycles.specs.ShortestCycles.{ShownShortest}
 use Rattle.figures.specs.declared.Figures.{Figures}
 use Rattle.weighing.specs.declared.Weighed.{Weighed}
 use Rattle.weighing.specs.declared.Weighed.TheVariants as Variants
-use Rattle.weighing.specs.declared.Verdict.{Verdict}
-use Rattle.weighing.specs.declared.Verdict.TheVariants as Verdicts
 use Rattle.figures.proofs.FigureLaws.{same_figures}
 
 -- ---- the machines of a table
@@ -64,22 +64,21 @@ module _ (s : Shape) (table ws : List ℕ) (ok : Weighable s table ws) where
         (λ q. record { figures = ap passed figures_are; whole_kept = refl; bounded = ceiling (plant_of s table) ok.limits.formed ws p })
         (λ q. absurd (q p))
 
-  -- Machine m is the first that fails, and the first `size` edges are its.
-  module _ (m size : ℕ) (edges : List ℤ) (failing : FirstFailing s table ws 0 m size edges) where
-    -- Where there is none, the weights pass.
-    pub none_fails : s.machines ≤ m → Passes (plant_of s table) ws
-    none_fails h k rows c q =
-        failing.before
-        k
-        (omega (arith, cycle_machine (plant_of s table) ok.limits.formed k rows c, machines_are s table ws ok))
-        (omega arith)
-        rows
-        c
-        q
+  -- Where no machine fails, the weights pass.
+  pub none_fails : {edges : List Edge} → FirstFailing s table ws 0 None edges → Passes (plant_of s table) ws
+  none_fails failing k rows c q =
+      failing.before
+      k
+      (omega (arith, cycle_machine (plant_of s table) ok.limits.formed k rows c, machines_are s table ws ok))
+      (omega arith)
+      rows
+      c
+      q
 
-    -- Else the verdict that they do not is owed.
-    pub failing_verdict : m < s.machines → OwedTableVerdict s table ws Answers.failing
-    failing_verdict within end = verdict_for_plant (λ p. absurd (one_fails s table ws ok m within (failing.fails within) p)) (λ q. refl)
+  -- Where one does, the verdict that they do not is owed.
+  pub failing_verdict : {edges : List Edge} (f : Failing) → FirstFailing s table ws 0 (Some f) edges → OwedTableVerdict s table ws Answers.failing
+  failing_verdict f failing end =
+      verdict_for_plant (λ p. absurd (one_fails s table ws ok f.machine failing.fails.there failing.fails.rows p)) (λ q. refl)
 
   -- A shortest cycle that is shown is owed.
   pub shown_owed : {k : ℕ} {before after : List ℕ} → ShownShortest (plant_of s table) ws k before after → OwedTable s table ws before after (cycle k)
@@ -110,25 +109,25 @@ owed_same ws before after a x y e h = subst (Owed ws before after a) e h
 pub verdict_refusal : (ws : List ℕ) (number place : ℕ) (x : Found Plant) → fault number place ≡ x → OwedVerdict ws (Answers.refusing number place) x
 verdict_refusal ws number place x e = subst (OwedVerdict ws (Answers.refusing number place)) e (verdict_for_fault refl)
 
--- What a verdict owes, that which equals it owes.
-pub verdict_told : {ws : List ℕ} {v w : Verdict} {x : Found Plant} → v ≡ w → OwedVerdict ws (judgement_of v) x → OwedVerdict ws (judgement_of w) x
-verdict_told {ws} {x = x} e h = subst (λ (u : Verdict). OwedVerdict ws (judgement_of u) x) e h
+-- A fault of the file is that of the file and the weights,
+pub file_refused : (file ws : List ℕ) (number place : ℕ) → fault number place ≡ read_plant file → fault number place ≡ judged_weights file ws
+file_refused file ws number place e = ap (λ (x : Found Plant). and_then x (checked_weights ws)) e
 
--- A table that reading the file gave, and where the checks of the weights ended: so the file and the weights are judged,
-pub weights_judged : (s : Shape) (table file ws : List ℕ) (read : End) → end_found read (plant_of s table) ≡ read_plant file
-    → (end : End) (types : ℕ) → WeightsChecked types ws read end → s.types ≡ types
-    → (told-end : End) → end ≡ told-end → end_found told-end (plant_of s table) ≡ judged_weights file ws
-weights_judged s table file ws read reads end types weights types_are told-end e =
-    ap (λ (x : End). end_found x (plant_of s table)) (sym e) ∙ weights (plant_of s table) types_are ∙ ap (λ (x : Found Plant). and_then x (checked_weights ws)) reads
+-- and that of all that weighing checks.
+pub file_unweighed : (file ws : List ℕ) (room number place : ℕ) → fault number place ≡ read_plant file → fault number place ≡ judged file ws room
+file_unweighed file ws room number place e = ap (λ (x : Found Plant). and_then x (checked_room room)) (file_refused file ws number place e)
 
--- and where the check of the lent list ended, with its room.
-pub checks_judged : (s : Shape) (table file ws : List ℕ) (read : End) → end_found read (plant_of s table) ≡ read_plant file
-    → (weighed : End) (types : ℕ) → WeightsChecked types ws read weighed → s.types ≡ types
-    → (room : ℕ) (end : End) → RoomChecked room weighed end → (told-end : End) → end ≡ told-end → end_found told-end (plant_of s table) ≡ judged file ws room
-checks_judged s table file ws read reads weighed types weights types_are room end in-room told-end e =
-    ap (λ (x : End). end_found x (plant_of s table)) (sym e)
-    ∙ in-room (plant_of s table)
-    ∙ ap (λ (x : Found Plant). and_then x (checked_room room)) (weights_judged s table file ws read reads weighed types weights types_are weighed refl)
+-- A table that reading the file gave, and what the checks of the weights said: so the file and the weights are judged,
+pub weights_judged : (s : Shape) (table file ws : List ℕ) (end : ℕ) → found (plant_of s table) end ≡ read_plant file
+    → (r : Result (Unit {0}) Fault) (types : ℕ) → WeightsChecked types ws r → types ≡ s.types → check_found r (plant_of s table) end ≡ judged_weights file ws
+weights_judged s table file ws end reads r types weights types_are =
+    weights (plant_of s table) end (sym types_are) ∙ ap (λ (x : Found Plant). and_then x (checked_weights ws)) reads
+
+-- and what the checks of the weights and of the lent list said, with its room.
+pub checks_judged : (s : Shape) (table file ws : List ℕ) (room end : ℕ) → found (plant_of s table) end ≡ read_plant file
+    → (r : Result (Unit {0}) Fault) (types : ℕ) → WeighingChecked types ws room r → types ≡ s.types → check_found r (plant_of s table) end ≡ judged file ws room
+checks_judged s table file ws room end reads r types weights types_are =
+    weights (plant_of s table) end (sym types_are) ∙ ap (λ (x : Found Plant). and_then (and_then x (checked_weights ws)) (checked_room room)) reads
 
 -- Where that is a plant, the table can be weighed;
 pub weights_weighable : {s : Shape} {table : List ℕ} → Ready s table → (file ws : List ℕ) (end : ℕ) → found (plant_of s table) end ≡ judged_weights file ws → Weighable s table ws
@@ -201,21 +200,21 @@ answer_determined file ws before after after' a b =
     same_answer (judged file ws (length before)) (λ P end e. (judged_limits file ws (length before) P end e).formed)
 
 -- Different answers never mean the same.
-pub one_to_one : (a b : Weighed) → answer_of a ≡ answer_of b → a ≡ b
-one_to_one (Variants.Passed f) (Variants.Passed g) e =
+pub one_to_one : (a b : Result Weighed Fault) → answer_of a ≡ answer_of b → a ≡ b
+one_to_one (Ok (Variants.Passed f)) (Ok (Variants.Passed g)) e =
     let same : figures_in f ≡ figures_in g = cc in
-    ap Variants.Passed (same_figures f g same)
-one_to_one (Variants.Passed f) (Variants.Cycle k') e = cc
-one_to_one (Variants.Passed f) (Variants.Refused g) e = cc
-one_to_one (Variants.Cycle k) (Variants.Passed g) e = cc
-one_to_one (Variants.Cycle k) (Variants.Cycle k') e = cc
-one_to_one (Variants.Cycle k) (Variants.Refused g) e = cc
-one_to_one (Variants.Refused f) (Variants.Passed g) e = cc
-one_to_one (Variants.Refused f) (Variants.Cycle k') e = cc
-one_to_one (Variants.Refused f) (Variants.Refused g) e =
-    let n : f.number ≡ g.number = cc in
+    ap (λ (h : Figures). Ok (Variants.Passed h)) (same_figures f g same)
+one_to_one (Ok (Variants.Passed f)) (Ok (Variants.Cycle k')) e = cc
+one_to_one (Ok (Variants.Passed f)) (Err g) e = cc
+one_to_one (Ok (Variants.Cycle k)) (Ok (Variants.Passed g)) e = cc
+one_to_one (Ok (Variants.Cycle k)) (Ok (Variants.Cycle k')) e = cc
+one_to_one (Ok (Variants.Cycle k)) (Err g) e = cc
+one_to_one (Err f) (Ok (Variants.Passed g)) e = cc
+one_to_one (Err f) (Ok (Variants.Cycle k')) e = cc
+one_to_one (Err f) (Err g) e =
+    let n : number_of f.refusal ≡ number_of g.refusal = cc in
     let q : f.place ≡ g.place = cc in
-    ap Variants.Refused (same_fault f g n q)
+    ap Err (same_fault f g n q)
 
 -- ---- what a verdict says
 
@@ -273,18 +272,18 @@ verdict_owed before (found P end) (verdict_for_plant passes fails) =
     passing_is e = cc
 
 -- Different verdicts never mean the same.
-pub verdicts_differ : (a b : Verdict) → judgement_of a ≡ judgement_of b → a ≡ b
-verdicts_differ (Verdicts.Passes f) (Verdicts.Passes g) e =
+pub verdicts_differ : (a b : Result (Option Figures) Fault) → judgement_of a ≡ judgement_of b → a ≡ b
+verdicts_differ (Ok (Some f)) (Ok (Some g)) e =
     let same : figures_in f ≡ figures_in g = cc in
-    ap Verdicts.Passes (same_figures f g same)
-verdicts_differ (Verdicts.Passes f) Verdicts.Fails e = cc
-verdicts_differ (Verdicts.Passes f) (Verdicts.Refused g) e = cc
-verdicts_differ Verdicts.Fails (Verdicts.Passes g) e = cc
-verdicts_differ Verdicts.Fails Verdicts.Fails e = refl
-verdicts_differ Verdicts.Fails (Verdicts.Refused g) e = cc
-verdicts_differ (Verdicts.Refused f) (Verdicts.Passes g) e = cc
-verdicts_differ (Verdicts.Refused f) Verdicts.Fails e = cc
-verdicts_differ (Verdicts.Refused f) (Verdicts.Refused g) e =
-    let n : f.number ≡ g.number = cc in
+    ap (λ (h : Figures). Ok (Some h)) (same_figures f g same)
+verdicts_differ (Ok (Some f)) (Ok None) e = cc
+verdicts_differ (Ok (Some f)) (Err g) e = cc
+verdicts_differ (Ok None) (Ok (Some g)) e = cc
+verdicts_differ (Ok None) (Ok None) e = refl
+verdicts_differ (Ok None) (Err g) e = cc
+verdicts_differ (Err f) (Ok (Some g)) e = cc
+verdicts_differ (Err f) (Ok None) e = cc
+verdicts_differ (Err f) (Err g) e =
+    let n : number_of f.refusal ≡ number_of g.refusal = cc in
     let q : f.place ≡ g.place = cc in
-    ap Verdicts.Refused (same_fault f g n q)
+    ap Err (same_fault f g n q)

@@ -3,39 +3,40 @@ use mathlib.Core.Path.{◌≡◌, refl, sym, ap, ◌∙◌, subst}
 use mathlib.Core.Logic.{◌≢◌}
 use mathlib.Core.Bool.{Bool, true, false, cond, false≢true}
 use mathlib.Core.List.{List, [], ◌∷◌}
-use Prim.Native.Nat.{ℕ, zero, suc, ◌+◌, ◌≤◌, ◌<◌}
+use Prim.Native.Nat.{ℕ, zero, suc, ◌≤◌, ◌<◌}
 use native.Mathlib.Numerals.{add-one}
 use native.Mathlib.Omega.{arith}
-use lib.ListN.{length, get_or, drop, drop_of_length-le}
-use lib.Seq.{drop-cons}
+use lib.ListN.{length, get_or}
 use lib.Dec.{eqb, ltb}
 use borrow.Author.Tests.{eq-eqb, ne_eqb, lt-ltb, le-ltb, eqb-true, ltb-false}
+use Rattle.std.specs.Prelude.{Option, None, Some, MatchOption}
+use Rattle.std.specs.List.{AllWithin, HoldsAt}
+use Rattle.std.specs.Option.{unwrap_or}
+use Rattle.std.proofs.lemmas.Iterator.{index_from_first}
 use Rattle.livelock.specs.Plants.{Plant}
 use Rattle.plant.specs.Found.{Found, found, fault, and_then}
 use Rattle.plant.specs.Reading.{read_plant}
-use Rattle.plant.specs.Steps.{end_found}
 use Rattle.plant.specs.Limits.{WithinLimits}
-use Rattle.plant.specs.declared.End.{End}
 use Rattle.plant.proofs.FileBounds.{within_limits}
-use Rattle.weight_checks.specs.Checks.{first_above, checked_sizes, checked_weights, judged_weights, checked_room, judged}
+use Rattle.weight_checks.specs.Checks.{first_above, FirstAbove, checked_sizes, checked_weights, judged_weights, checked_room, judged}
 
 -- ---- the first number above a limit
 
-module _ (limit : ℕ) (ws : List ℕ) (i x : ℕ) (rest : i + first_above limit (drop i ws) ≡ x) where
-  -- A number above the limit is the first one,
-  pub above_stops : i < length ws → limit < get_or ws i 0 → i ≡ x
-  unfolding first_above
-  above_stops b a = omega (arith, rw (drop-cons ws i 0 b, lt-ltb limit (get_or ws i 0) a) at rest)
+-- What a search says of the numbers before the index that it gives, and of the number there; or of all, if it gives none.
+abbrev Searched : ℕ → List ℕ → Option ℕ → Type 0
+Searched limit xs r =
+    MatchOption r (AllWithin (λ x. x ≤ limit) xs 0 (length xs)) (λ i. (i < length xs) × HoldsAt (λ x. limit < x) xs i × AllWithin (λ x. x ≤ limit) xs 0 i)
 
-  -- one that is not is passed over,
-  pub above_goes_on : i < length ws → get_or ws i 0 ≤ limit → i + 1 + first_above limit (drop (i + 1) ws) ≡ x
-  unfolding first_above
-  above_goes_on b a = let e = rw (drop-cons ws i 0 b, le-ltb limit (get_or ws i 0) a) at rest in rw (add-one i) (omega (arith, e))
+-- So the index is that of the first number above the limit,
+first_is : (limit : ℕ) (xs : List ℕ) (r : Option ℕ) → Searched limit xs r → first_above limit xs ≡ unwrap_or r (length xs)
+unfolding first_above
+first_is limit xs r =
+    index_from_first (first_above limit) (λ x. limit < x) (λ x. x ≤ limit) refl (λ x xs above. rw (lt-ltb limit x above)) (λ x xs below. rw (le-ltb limit x below) (sym (add-one _))) xs r
 
-  -- and after the last there is none.
-  pub above_ends : length ws ≤ i → i ≡ x
-  unfolding first_above
-  above_ends b = omega (arith, rw (drop_of_length-le ws b) at rest)
+-- and it is given if there is such a number.
+pub first_found : (limit : ℕ) (xs : List ℕ) (r : Option ℕ) → Searched limit xs r → FirstAbove limit xs r
+first_found limit xs None h = omega (arith, first_is limit xs None h)
+first_found limit xs (Some i) h = (sym (first_is limit xs (Some i) h), h.0)
 
 -- Where the first above the limit is past the end, no number is above it.
 pub none_above : (limit : ℕ) (ws : List ℕ) → length ws ≤ first_above limit ws → (i : ℕ) → get_or ws i 0 ≤ limit
@@ -50,10 +51,6 @@ none_above limit (x ∷ xs) h i = go (ltb limit x) refl h i (none_above limit xs
     go false e l (suc i) rest = rest (omega arith) i
 
 -- ---- the checks
-
--- What follows where reading ended, for what `end` is.
-pub end_told : (P : Plant) (k : Plant → ℕ → Found Plant) (x : Found Plant) (end end' : End) → end ≡ end' → x ≡ and_then (end_found end' P) k → x ≡ and_then (end_found end P) k
-end_told P k x end end' e h = h ∙ ap (λ (y : End). and_then (end_found y P) k) (sym e)
 
 module _ (ws : List ℕ) (P : Plant) (end : ℕ) where
   -- Not one weight for each type: fault 9.
@@ -77,10 +74,14 @@ pub refuse_11 : (room : ℕ) (P : Plant) (end : ℕ) → room < 64 → fault 11 
 unfolding checked_room
 refuse_11 room P end l = rw (lt-ltb room 64 l)
 
--- Otherwise what was found stays.
-pub accept_room : (room : ℕ) (x : Found Plant) → 64 ≤ room → x ≡ and_then x (checked_room room)
+-- Otherwise the room is enough,
+pub enough_room : (room : ℕ) (P : Plant) (end : ℕ) → 64 ≤ room → found P end ≡ checked_room room P end
 unfolding checked_room
-accept_room room (found P end) l = rw (le-ltb room 64 l)
+enough_room room P end l = rw (le-ltb room 64 l)
+
+-- and what was found stays.
+pub accept_room : (room : ℕ) (x : Found Plant) → 64 ≤ room → x ≡ and_then x (checked_room room)
+accept_room room (found P end) l = enough_room room P end l
 accept_room room (fault number place) l = refl
 
 -- With good weights and room, the plant of a file is weighed.

@@ -1,15 +1,19 @@
 -- How the input of weighing is judged (document 01, "Where each fault is found", 9 to 11), and what the functions that check it give.
-use Rattle.std.specs.Prelude.{◌≡◌, cond, List, [], ◌∷◌, ℕ, suc, length, eqb, ltb}
+use Rattle.std.specs.Prelude.{◌≡◌, cond, List, [], ◌∷◌, ℕ, suc, ◌≤◌, ◌<◌, length, eqb, ltb, Option, MatchOption, Result, Ok, Err}
 use Rattle.livelock.specs.Plants.{Plant}
 use Rattle.plant.specs.Found.{Found, found, fault, and_then}
 use Rattle.plant.specs.Reading.{read_plant}
-use Rattle.plant.specs.Steps.{end_found}
-use Rattle.plant.specs.declared.End.{End}
+use Rattle.plant.specs.Steps.{fault_found}
+use Rattle.plant.specs.declared.Fault.{Fault}
 
 -- The index of the first number above a limit, or the length if none is.
 unfoldable pub first_above : ℕ → List ℕ → ℕ
 first_above limit [] = 0
 first_above limit (x ∷ xs) = cond (ltb limit x) 0 (suc (first_above limit xs))
+
+-- What a search for a number above a limit gives: the index of the first, or nothing if none is.
+abbrev pub FirstAbove : ℕ → List ℕ → Option ℕ → Type 0
+FirstAbove limit xs r = MatchOption r (length xs ≤ first_above limit xs) (λ i. (i ≡ first_above limit xs) × (i < length xs))
 
 -- "weights | 10 | above 1,000 | index".
 unfoldable pub checked_sizes : List ℕ → Plant → ℕ → Found Plant
@@ -31,10 +35,19 @@ checked_room room P end = cond (ltb room 64) (fault 11 0) (found P end)
 abbrev pub judged : List ℕ → List ℕ → ℕ → Found Plant
 judged file ws room = and_then (judged_weights file ws) (checked_room room)
 
--- For every plant with so many types: where reading ended, the checks 9 and 10 follow.
-abbrev pub WeightsChecked : ℕ → List ℕ → End → End → Type 0
-WeightsChecked types ws end r = (P : Plant) → P.types ≡ types → end_found r P ≡ and_then (end_found end P) (checked_weights ws)
+-- What a check says of a plant.
+abbrev pub check_found : Result (Unit {0}) Fault → Plant → ℕ → Found Plant
+check_found (Ok u) P end = found P end
+check_found (Err f) P end = fault_found f
 
--- For every plant: where no fault was found, check 11 follows.
-abbrev pub RoomChecked : ℕ → End → End → Type 0
-RoomChecked room end r = (P : Plant) → end_found r P ≡ and_then (end_found end P) (checked_room room)
+-- For every plant with so many types, wherever reading ended: the checks 9 and 10.
+abbrev pub WeightsChecked : ℕ → List ℕ → Result (Unit {0}) Fault → Type 0
+WeightsChecked types ws r = (P : Plant) (end : ℕ) → P.types ≡ types → check_found r P end ≡ checked_weights ws P end
+
+-- For every plant, wherever reading ended: check 11.
+abbrev pub RoomChecked : ℕ → Result (Unit {0}) Fault → Type 0
+RoomChecked room r = (P : Plant) (end : ℕ) → check_found r P end ≡ checked_room room P end
+
+-- For every plant with so many types, wherever reading ended: the checks 9, 10 and 11.
+abbrev pub WeighingChecked : ℕ → List ℕ → ℕ → Result (Unit {0}) Fault → Type 0
+WeighingChecked types ws room r = (P : Plant) (end : ℕ) → P.types ≡ types → check_found r P end ≡ and_then (checked_weights ws P end) (checked_room room)

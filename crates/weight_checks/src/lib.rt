@@ -1,62 +1,46 @@
 // The checks of the weights (9 and 10) and of the list that is lent for a cycle (11). No entry point: `weighing` calls it.
 #![tactic(auto)]
 
-ghost use Rattle.std.specs.Prelude.{◌≡◌};
-ghost use Rattle.weight_checks.specs.Checks.{first_above, WeightsChecked, RoomChecked};
+ghost use Rattle.weight_checks.specs.Checks.{WeightsChecked, RoomChecked, WeighingChecked};
 
-use plant::{End, Fault};
+use plant::{Fault, Refusal};
 
-// The index of the first weight above 1,000, or the length if none is.
-fn first_above(weights: &[u16]) -> usize
-    ensures { result ≡ first_above 1000 weights.now }
+// The first of the faults 9 and 10.
+pub fn check_weights(types: usize, weights: &[u16]) -> Result<(), Fault>
+    ensures { WeightsChecked types weights.now result }
 {
-    let mut i = 0;
-    while i < weights.len() {
-        if weights[i] > 1000 {
-            return i;
-        }
-        i += 1;
-    }
-    i
-}
-
-// Where reading ended, or the first fault: that of the file, 9 or 10.
-pub fn check_weights(end: End, types: usize, weights: &[u16]) -> End
-    ensures { WeightsChecked types weights.now end result }
-{
-    match end {
-        End::Fault(fault) => End::Fault(fault),
-        End::At(next) => {
-            if weights.len() != types {
-                return End::Fault(Fault {
-                    number: 9,
-                    place: 0,
-                });
-            }
-            let above = first_above(weights);
-            if above < weights.len() {
-                return End::Fault(Fault {
-                    number: 10,
-                    place: above,
-                });
-            }
-            End::At(next)
-        }
-    }
-}
-
-// Where reading ended, or the first fault: an earlier one, or 11.
-pub fn check_room(end: End, room: usize) -> End
-    ensures { RoomChecked room end result }
-{
-    if room >= 64 {
-        return end;
-    }
-    match end {
-        End::Fault(earlier) => End::Fault(earlier),
-        End::At(_) => End::Fault(Fault {
-            number: 11,
+    if weights.len() != types {
+        return Err(Fault {
+            refusal: Refusal::WeightCount,
             place: 0,
-        }),
+        });
     }
+    if let Some(place) = weights.iter().position(|weight| *weight > 1000) {
+        return Err(Fault {
+            refusal: Refusal::WeightLimit,
+            place,
+        });
+    }
+    Ok(())
+}
+
+// The fault 11, if there is not enough room.
+pub fn check_room(room: usize) -> Result<(), Fault>
+    ensures { RoomChecked room result }
+{
+    if room < 64 {
+        return Err(Fault {
+            refusal: Refusal::CycleRoom,
+            place: 0,
+        });
+    }
+    Ok(())
+}
+
+// The first of the faults 9, 10 and 11.
+pub fn check_weighing(types: usize, weights: &[u16], room: usize) -> Result<(), Fault>
+    ensures { WeighingChecked types weights.now room result }
+{
+    check_weights(types, weights)?;
+    check_room(room)
 }

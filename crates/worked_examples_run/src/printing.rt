@@ -1,64 +1,41 @@
-// Printing words, numbers and lists.
+// Printing the entries of lists.
 ghost use Rattle.std.specs.Prelude.{◌≤◌, length};
 
-use plant::Fault;
+use std::fmt;
 
-pub fn say(rt: &impl Print, text: &[u8]) {
-    let _ = rt.write_all(text);
-}
+// Entries of a list, each behind a space.
+#[derive(Clone, Copy)]
+pub struct Entries<'a>(pub &'a [u16]);
 
-pub fn number(rt: &impl Print, n: u64) {
-    let _ = rt.print(n);
-}
-
-// A number and the words before it.
-pub fn say_number(rt: &impl Print, text: &[u8], n: u64) {
-    say(rt, text);
-    number(rt, n);
-}
-
-// An entry of a list, behind a space.
-fn entry(rt: &impl Print, x: u16) {
-    say_number(rt, b" ", x as u64);
-}
-
-// The first entries of a list.
-pub fn entries(rt: &impl Print, list: &[u16], count: usize) {
-    let mut i = 0;
-    while i < count {
-        if i < list.len() {
-            entry(rt, list[i]);
+impl fmt::Display for Entries<'_> {
+    fn fmt<W: fmt::Write>(&self, f: &mut fmt::Formatter<W>) -> fmt::Result {
+        for entry in self.0 {
+            write!(f, " {entry}")?;
         }
-        i += 1;
+        Ok(())
     }
 }
 
-// Where the lowest of the first entries of a list stands.
-fn lowest(list: &[u16], count: usize) -> usize
-    requires { count ≤ length list.now }
-    ensures { result ≤ count }
+// Where the lowest of the rows of a cycle stands.
+fn lowest(rows: &[u16]) -> usize
+    ensures { result ≤ length rows.now }
 {
     let mut low = 0;
-    let mut i = 0;
-    while i < count {
-        if list[i] < list[low] {
+    for (i, row) in rows.iter().enumerate() {
+        if *row < rows[low] {
             low = i;
         }
-        i += 1;
     }
     low
 }
 
 // The rows of a cycle from the lowest on: it may be shown from any of them.
-pub fn cycle(rt: &impl Print, list: &[u16], count: usize) {
-    if count <= list.len() {
-        let low = lowest(list, count);
-        entries(rt, &list[low..], count - low);
-        entries(rt, list, low);
-    }
-}
+#[derive(Clone, Copy)]
+pub struct Cycle<'a>(pub &'a [u16]);
 
-pub fn refused(rt: &impl Print, fault: Fault) {
-    say_number(rt, b"refused with ", fault.number as u64);
-    say_number(rt, b" at ", fault.place as u64);
+impl fmt::Display for Cycle<'_> {
+    fn fmt<W: fmt::Write>(&self, f: &mut fmt::Formatter<W>) -> fmt::Result {
+        let (before, from_lowest) = self.0.split_at(lowest(self.0));
+        write!(f, "{}{}", Entries(from_lowest), Entries(before))
+    }
 }

@@ -1,4 +1,5 @@
 -- Laws for the functions that read machines from the list and store them.
+use Rattle.std.specs.Prelude.{Result, Ok, Err}
 use mathlib.Core.Path.{◌≡◌, refl, sym, ◌∙◌, ap, subst}
 use mathlib.Core.List.{List, [], ◌∷◌}
 use Prim.Native.Nat.{ℕ, suc, ◌+◌, ◌-◌, ◌≤◌, ◌<◌}
@@ -18,41 +19,46 @@ use Rattle.plant_lists.specs.Lists.{count_number, rows_number, listed_rows, list
 use Rattle.row_bytes.specs.Stores.{Stored}
 use Rattle.row_bytes.proofs.StoreLaws.{stored_none, stored_then}
 use Rattle.written_rows.specs.declared.Point.{Point}
-use Rattle.written_rows.specs.declared.Step.{Step}
-use Rattle.written_rows.specs.declared.Step.TheVariants as Steps
 use Rattle.written_rows.specs.Steps.{Near, RowsStored, rows_stored, rows_refused}
+use Rattle.writing.specs.declared.Walked.{Walked}
 use Rattle.writing.specs.Inner.Steps.{MachineStored, machine_stored, machine_refused}
 use Rattle.writing.specs.Inner.Steps.{MachinesGoing, MachinesStored, machines_stored, machines_refused}
 
 -- What ends at most at a limit ends at most at a further one.
-pub near_more : (s : List ℕ) (limit most : ℕ) (step : Step) → limit ≤ most → Near s limit step → Near s most step
-near_more s limit most (Steps.Fault f) l h = tt
-near_more s limit most (Steps.At point) l h = (h.0, h.1, omega (arith, h.2, l))
+pub near_more : (s : List ℕ) (limit most : ℕ) (step : Result Point Fault) → limit ≤ most → Near s limit step → Near s most step
+near_more s limit most (Err f) l h = tt
+near_more s limit most (Ok point) l h = (h.0, h.1, omega (arith, h.2, l))
 
 -- ---- one machine
 
-module _ (s : List ℕ) (at : ℕ) (p : Plant) (before after : List ℕ) (pos rows used : ℕ) (u : row_count p ≡ used) where
-  refuse : (f : Fault) → fault_found f ≡ listed_machine s at p → MachineStored p before after pos rows (listed_machine s at p) (Steps.Fault f)
-  refuse f e = subst (λ (x : Found Plant). MachineStored p before after pos rows x (Steps.Fault f)) e machine_refused
+-- Where a machine ends whose rows end so, with this count of rows.
+abbrev pub machine_end : ℕ → Result Point Fault → Result Walked Fault
+machine_end rows (Ok end) = Ok (record { end = end; rows = rows })
+machine_end rows (Err f) = Err f
 
-  pub no_states : (f : Fault) → count_number 1 64 s at ≡ fault_found f → MachineStored p before after pos rows (listed_machine s at p) (Steps.Fault f)
+module _ (s : List ℕ) (at : ℕ) (p : Plant) (before after : List ℕ) (pos used : ℕ) (u : row_count p ≡ used) where
+  refuse : (f : Fault) → fault_found f ≡ listed_machine s at p → MachineStored p before after pos (listed_machine s at p) (Err f)
+  refuse f e = subst (λ (x : Found Plant). MachineStored p before after pos x (Err f)) e machine_refused
+
+  pub no_states : (f : Fault) → count_number 1 64 s at ≡ fault_found f → MachineStored p before after pos (listed_machine s at p) (Err f)
   unfolding listed_machine
   no_states f e = refuse f (rw e)
 
   module _ (states a : ℕ) (e : count_number 1 64 s at ≡ found states a) where
-    pub no_rows : (f : Fault) → rows_number used s a ≡ fault_found f → MachineStored p before after pos rows (listed_machine s at p) (Steps.Fault f)
+    pub no_rows : (f : Fault) → rows_number used s a ≡ fault_found f → MachineStored p before after pos (listed_machine s at p) (Err f)
     unfolding listed_machine
     no_rows f g = refuse f (rw (e, u, g))
 
     -- Its two counts and its rows, stored one behind the other.
-    pub machine_is : (n b : ℕ) → rows_number used s a ≡ found n b → (b1 b2 : List ℕ) (e1 e2 : ℕ) (step : Step) → rows ≡ used + n
+    pub machine_is : (n b : ℕ) → rows_number used s a ≡ found n b → (b1 b2 : List ℕ) (e1 e2 rows : ℕ) (step : Result Point Fault) → rows ≡ used + n
         → Stored before b1 pos (states ∷ []) e1 → Stored b1 b2 e1 (n ∷ []) e2
         → RowsStored n (machine_count p) (with_machine p states) b2 after e2 (listed_rows n (machine_count p) states s b (with_machine p states)) step
-        → MachineStored p before after pos rows (listed_machine s at p) step
+        → MachineStored p before after pos (listed_machine s at p) (machine_end rows step)
     unfolding listed_machine
-    machine_is n b g b1 b2 e1 e2 step total one two h = rw (e, u, g) (go (listed_rows n (machine_count p) states s b (with_machine p states)) step h)
+    machine_is n b g b1 b2 e1 e2 rows step total one two h = rw (e, u, g) (go (listed_rows n (machine_count p) states s b (with_machine p states)) step h)
       where
-        go : (x : Found Plant) (step : Step) → RowsStored n (machine_count p) (with_machine p states) b2 after e2 x step → MachineStored p before after pos rows x step
+        go : (x : Found Plant) (step : Result Point Fault) → RowsStored n (machine_count p) (with_machine p states) b2 after e2 x step
+            → MachineStored p before after pos x (machine_end rows step)
         go x step (rows_stored rs {next} {end} count own stored) =
             machine_stored states rs {end = end} (omega (arith, total, u, count)) own
             (rw count
@@ -87,14 +93,13 @@ module _ (n from : ℕ) (s : List ℕ) (types : ℕ) (before : List ℕ) (pos : 
       found_then x e = sym (one_more ∙ ap (λ (y : Found Plant). and_then y (λ q next. listed_machines (n - (i + 1)) s next q)) e) ∙ g.rest
 
       -- after a machine that was read and stored,
-      pub machines_next : (step : Step) (point : Point) (file' : List ℕ) (rows' : ℕ) → step ≡ Steps.At point → MachineStored g.q file file' end rows' (listed_machine s at g.q) step
-          → MachinesGoing n from s types before pos (i + 1) point.at file' point.pos rows'
-      machines_next step point file' rows' is h =
-          go point.at point.pos (listed_machine s at g.q) (subst (λ (z : Step). MachineStored g.q file file' end rows' (listed_machine s at g.q) z) is h) refl
+      pub machines_next : (w : Walked) (file' : List ℕ) → MachineStored g.q file file' end (listed_machine s at g.q) (Ok w)
+          → MachinesGoing n from s types before pos (i + 1) w.end.at file' w.end.pos w.rows
+      machines_next w file' h = go w.end.at w.end.pos w.rows (listed_machine s at g.q) h refl
         where
-          go : (next end' : ℕ) (x : Found Plant) → MachineStored g.q file file' end rows' x (Steps.At (record { at = next; pos = end' })) → listed_machine s at g.q ≡ x
-              → MachinesGoing n from s types before pos (i + 1) next file' end' rows'
-          go next end' x (machine_stored states rs total own stored) e =
+          go : (next end' rows' : ℕ) (x : Found Plant) → MachineStored g.q file file' end x (Ok (record { end = record { at = next; pos = end' }; rows = rows' }))
+              → listed_machine s at g.q ≡ x → MachinesGoing n from s types before pos (i + 1) next file' end' rows'
+          go next end' rows' x (machine_stored states rs total own stored) e =
               record {
                 q = with_rows (with_machine g.q states) rs;
                 few = g.few;
@@ -110,20 +115,19 @@ module _ (n from : ℕ) (s : List ℕ) (types : ℕ) (before : List ℕ) (pos : 
               }
 
       -- at a fault,
-      pub machines_stop : (step : Step) (f : Fault) (file' : List ℕ) (rows' : ℕ) → step ≡ Steps.Fault f → MachineStored g.q file file' end rows' (listed_machine s at g.q) step
-          → MachinesStored n types before file' pos (listed_machines n s from (no_machines types)) (Steps.Fault f)
-      machines_stop step f file' rows' is h =
-          let fails = is_fault (listed_machine s at g.q) (subst (λ (z : Step). MachineStored g.q file file' end rows' (listed_machine s at g.q) z) is h) in
-          subst (λ (x : Found Plant). MachinesStored n types before file' pos x (Steps.Fault f)) (found_then (fault_found f) fails) machines_refused
+      pub machines_stop : (f : Fault) (file' : List ℕ) → MachineStored g.q file file' end (listed_machine s at g.q) (Err f)
+          → MachinesStored n types before file' pos (listed_machines n s from (no_machines types)) (Err f)
+      machines_stop f file' h =
+          subst (λ (x : Found Plant). MachinesStored n types before file' pos x (Err f)) (found_then (fault_found f) (is_fault (listed_machine s at g.q) h)) machines_refused
         where
-          is_fault : (x : Found Plant) → MachineStored g.q file file' end rows' x (Steps.Fault f) → x ≡ fault_found f
+          is_fault : (x : Found Plant) → MachineStored g.q file file' end x (Err f) → x ≡ fault_found f
           is_fault x machine_refused = refl
 
     -- and after the last machine.
-    pub machines_finish : i ≤ n → n ≤ i → MachinesStored n types before file pos (listed_machines n s from (no_machines types)) (Steps.At (record { at = at; pos = end }))
+    pub machines_finish : i ≤ n → n ≤ i → MachinesStored n types before file pos (listed_machines n s from (no_machines types)) (Ok (record { at = at; pos = end }))
     machines_finish l d =
         let same : i ≡ n = omega arith in
-        subst (λ (x : Found Plant). MachinesStored n types before file pos x (Steps.At (record { at = at; pos = end }))) done
+        subst (λ (x : Found Plant). MachinesStored n types before file pos x (Ok (record { at = at; pos = end }))) done
         (machines_stored g.q (g.count ∙ same) g.few (subst (λ (k : ℕ). Stored before file pos (machines_as (rows_bytes 0) k 0 g.q) end) same g.stored))
       where
         none_left : (k : ℕ) → k ≡ 0 → found g.q at ≡ listed_machines k s at g.q

@@ -1,16 +1,18 @@
 -- Different answers never mean the same.
 use mathlib.Core.Path.{◌≡◌, ap}
+use Prim.Native.Nat.{ℕ}
+use Rattle.std.specs.Prelude.{Result, Ok, Err}
 use Rattle.plant.proofs.OneToOne.{same_fault}
+use Rattle.plant.specs.Refusals.{number_of}
+use Rattle.plant.specs.declared.Fault.{Fault}
 use Rattle.writing.specs.Answers.{answer_of}
-use Rattle.writing.specs.declared.Writing.{Writing}
-use Rattle.writing.specs.declared.Writing.TheVariants as Variants
 
 -- Answers of writing that mean the same are the same.
-pub answers_differ : (a b : Writing) → answer_of a ≡ answer_of b → a ≡ b
-answers_differ (Variants.Wrote n) (Variants.Wrote n') e = cc
-answers_differ (Variants.Wrote n) (Variants.Refused g) e = cc
-answers_differ (Variants.Refused f) (Variants.Wrote n) e = cc
-answers_differ (Variants.Refused f) (Variants.Refused g) e =
-    let n : f.number ≡ g.number = cc in
+pub answers_differ : (a b : Result ℕ Fault) → answer_of a ≡ answer_of b → a ≡ b
+answers_differ (Ok n) (Ok n') e = cc
+answers_differ (Ok n) (Err g) e = cc
+answers_differ (Err f) (Ok n) e = cc
+answers_differ (Err f) (Err g) e =
+    let n : number_of f.refusal ≡ number_of g.refusal = cc in
     let q : f.place ≡ g.place = cc in
-    ap Variants.Refused (same_fault f g n q)
+    ap Err (same_fault f g n q)

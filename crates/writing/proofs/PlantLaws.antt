@@ -1,4 +1,5 @@
 -- Laws for the functions that read a whole list: the plant that it says, stored, and what the writer hands back.
+use Rattle.std.specs.Prelude.{Result, Ok, Err}
 use mathlib.Core.Path.{◌≡◌, refl, sym, ◌∙◌, ap, subst}
 use mathlib.Core.Bool.{Bool, true, false, cond}
 use mathlib.Core.List.{List, [], ◌∷◌, ◌++◌}
@@ -12,7 +13,9 @@ use Rattle.livelock.specs.Plants.{Plant}
 use Rattle.plant.specs.Found.{Found, found, fault, and_then}
 use Rattle.plant.specs.Reading.{no_machines}
 use Rattle.plant.specs.Steps.{fault_found}
+use Rattle.plant.specs.Refusals.{number_of}
 use Rattle.plant.specs.declared.Fault.{Fault}
+use Rattle.plant.specs.declared.Refusal.TheVariants as Refusals
 use Rattle.plant_files.specs.Files.{rows_bytes, machines_as, file_of}
 use Rattle.plant_lists.specs.Lists.{count_number, listed_machines, list_end, listed_plant}
 use Rattle.plant_lists.proofs.ListLengths.{listed_whole}
@@ -20,8 +23,6 @@ use Rattle.plant_lists.proofs.ListLaws.{said_shortest}
 use Rattle.row_bytes.specs.Stores.{Stored}
 use Rattle.row_bytes.proofs.StoreLaws.{stored_then}
 use Rattle.written_rows.specs.declared.Point.{Point}
-use Rattle.written_rows.specs.declared.Step.{Step}
-use Rattle.written_rows.specs.declared.Step.TheVariants as Steps
 use Rattle.writing.specs.Answers.{Answer, wrote, refused}
 use Rattle.writing.specs.Writing.{answer_for, buffer_for, SaysShortest, WritesShortest}
 use Rattle.written_rows.specs.Steps.{Near}
@@ -30,20 +31,20 @@ use Rattle.writing.specs.Inner.Steps.{MachinesStored, machines_stored, machines_
 -- ---- the list
 
 module _ (s : List ℕ) (before after : List ℕ) where
-  refuse : (f : Fault) → fault_found f ≡ listed_plant s → PlantStored before after (listed_plant s) (Steps.Fault f)
-  refuse f e = subst (λ (x : Found Plant). PlantStored before after x (Steps.Fault f)) e plant_refused
+  refuse : (f : Fault) → fault_found f ≡ listed_plant s → PlantStored before after (listed_plant s) (Err f)
+  refuse f e = subst (λ (x : Found Plant). PlantStored before after x (Err f)) e plant_refused
 
-  pub no_machine_count : (f : Fault) → count_number 1 16 s 0 ≡ fault_found f → PlantStored before after (listed_plant s) (Steps.Fault f)
+  pub no_machine_count : (f : Fault) → count_number 1 16 s 0 ≡ fault_found f → PlantStored before after (listed_plant s) (Err f)
   unfolding listed_plant
   no_machine_count f e = refuse f (rw e)
 
   module _ (n a : ℕ) (e : count_number 1 16 s 0 ≡ found n a) where
-    pub no_type_count : (f : Fault) → count_number 0 64 s a ≡ fault_found f → PlantStored before after (listed_plant s) (Steps.Fault f)
+    pub no_type_count : (f : Fault) → count_number 0 64 s a ≡ fault_found f → PlantStored before after (listed_plant s) (Err f)
     unfolding listed_plant
     no_type_count f g = refuse f (rw (e, g))
 
     -- Two counts and the machines, stored one behind the other, and the end of the list.
-    pub plant_is : (types c : ℕ) → count_number 0 64 s a ≡ found types c → (b1 b2 : List ℕ) (e1 e2 : ℕ) (step : Step)
+    pub plant_is : (types c : ℕ) → count_number 0 64 s a ≡ found types c → (b1 b2 : List ℕ) (e1 e2 : ℕ) (step : Result Point Fault)
         → Stored before b1 0 (n ∷ []) e1 → Stored b1 b2 e1 (types ∷ []) e2 → MachinesStored n types b2 after e2 (listed_machines n s c (no_machines types)) step
         → PlantStored before after (listed_plant s) (end_step s step)
     unfolding listed_plant
@@ -56,20 +57,20 @@ module _ (s : List ℕ) (before after : List ℕ) where
             (stored_then before b1 after 0 e1 end (n ∷ []) (types ∷ machines_as (rows_bytes 0) n 0 q) one
             (stored_then b1 b2 after e1 e2 end (types ∷ []) (machines_as (rows_bytes 0) n 0 q) two stored))
 
-        go : (x : Found Plant) (step : Step) → MachinesStored n types b2 after e2 x step → PlantStored before after (and_then x (list_end s)) (end_step s step)
+        go : (x : Found Plant) (step : Result Point Fault) → MachinesStored n types b2 after e2 x step → PlantStored before after (and_then x (list_end s)) (end_step s step)
         go x step machines_refused = plant_refused
         go x step (machines_stored q {next} {end} count few stored) = ended (ltb next (length s))
           where
-            ended : (more : Bool) → PlantStored before after (cond more (fault 23 next) (found q next)) (cond more (Steps.Fault (record { number = 23; place = next })) (Steps.At (record { at = next; pos = end })))
+            ended : (more : Bool) → PlantStored before after (cond more (fault 23 next) (found q next)) (cond more (Err (record { refusal = Refusals.ListLength; place = next })) (Ok (record { at = next; pos = end })))
             ended true = plant_refused
             ended false = plant_stored q (subst (λ (k : ℕ). Stored before after 0 (k ∷ (q.types ∷ machines_as (rows_bytes 0) k 0 q)) end) (sym count) (whole q end few stored))
 
 -- The end of the list moves no offset.
-pub end_near : (s : List ℕ) (limit : ℕ) (step : Step) → Near s limit step → Near s limit (end_step s step)
-end_near s limit (Steps.Fault f) h = tt
-end_near s limit (Steps.At point) h = go (ltb point.at (length s))
+pub end_near : (s : List ℕ) (limit : ℕ) (step : Result Point Fault) → Near s limit step → Near s limit (end_step s step)
+end_near s limit (Err f) h = tt
+end_near s limit (Ok point) h = go (ltb point.at (length s))
   where
-    go : (more : Bool) → Near s limit (cond more (Steps.Fault (record { number = 23; place = point.at })) (Steps.At point))
+    go : (more : Bool) → Near s limit (cond more (Err (record { refusal = Refusals.ListLength; place = point.at })) (Ok point))
     go true = tt
     go false = h
 
@@ -79,32 +80,29 @@ end_near s limit (Steps.At point) h = go (ltb point.at (length s))
 abbrev pub Owes : List ℕ → List ℕ → List ℕ → Answer → Type 0
 Owes s room after a = (a ≡ answer_for (listed_plant s) (length room)) × (after ≡ buffer_for (listed_plant s) room) × WritesShortest s after a
 
-module _ (s before file room : List ℕ) (step : Step) (made : PlantStored before file (listed_plant s) step) where
+module _ (s before file room : List ℕ) where
   -- With a fault nothing is written,
-  pub owes_fault : (f : Fault) → step ≡ Steps.Fault f → Owes s room room (refused f.number f.place)
-  owes_fault f e = go (listed_plant s) (subst (λ (st : Step). PlantStored before file (listed_plant s) st) e made)
+  pub owes_fault : (f : Fault) → PlantStored before file (listed_plant s) (Err f) → Owes s room room (refused (number_of f.refusal) f.place)
+  owes_fault f made = go (listed_plant s) made
     where
-      go : (x : Found Plant) → PlantStored before file x (Steps.Fault f) → (refused f.number f.place ≡ answer_for x (length room)) × (room ≡ buffer_for x room) × Unit {0}
+      go : (x : Found Plant) → PlantStored before file x (Err f) → (refused (number_of f.refusal) f.place ≡ answer_for x (length room)) × (room ≡ buffer_for x room) × Unit {0}
       go x plant_refused = (refl, refl, tt)
 
-  module _ (point : Point) (e : step ≡ Steps.At point) where
-    at_point : PlantStored before file (listed_plant s) (Steps.At point)
-    at_point = subst (λ (st : Step). PlantStored before file (listed_plant s) st) e made
-
+  module _ (point : Point) (made : PlantStored before file (listed_plant s) (Ok point)) where
     -- nor into a buffer that is too short,
     pub owes_room : length room < point.pos → Owes s room room (refused 25 0)
-    owes_room l = go (listed_plant s) at_point
+    owes_room l = go (listed_plant s) made
       where
-        go : (x : Found Plant) → PlantStored before file x (Steps.At point) → (refused 25 0 ≡ answer_for x (length room)) × (room ≡ buffer_for x room) × Unit {0}
+        go : (x : Found Plant) → PlantStored before file x (Ok point) → (refused 25 0 ≡ answer_for x (length room)) × (room ≡ buffer_for x room) × Unit {0}
         go x (plant_stored p stored) =
             let short : length room < length (file_of p) = omega (arith, stored.ends) in
             (rw (lt-ltb (length room) (length (file_of p)) short), rw (lt-ltb (length room) (length (file_of p)) short), tt)
 
     -- and into one that is long enough the file.
     pub owes_file : point.pos ≤ length room → (after : List ℕ) → after ≡ take point.pos file ++ drop point.pos room → Owes s room after (wrote point.pos)
-    owes_file l after is = go (listed_plant s) at_point refl
+    owes_file l after is = go (listed_plant s) made refl
       where
-        go : (x : Found Plant) → PlantStored before file x (Steps.At point) → listed_plant s ≡ x
+        go : (x : Found Plant) → PlantStored before file x (Ok point) → listed_plant s ≡ x
             → (wrote point.pos ≡ answer_for x (length room)) × (after ≡ buffer_for x room) × SaysShortest s (take point.pos after)
         go x (plant_stored p {next} {end} stored) says =
             let long : length (file_of p) ≤ length room = omega (arith, stored.ends, l) in

@@ -3,20 +3,20 @@
 // found.
 #![tactic(auto)]
 
-ghost use Rattle.std.specs.Prelude.{◌≡◌, ◌+◌, ◌-◌, ◌*◌, ◌≤◌, min, length};
+ghost use Rattle.std.specs.Prelude.{◌≡◌, ◌+◌, ◌-◌, ◌*◌, ◌≤◌, min, length, Ok};
 ghost use Rattle.livelock.specs.Plants.{Plant, row_count};
 ghost use Rattle.plant.specs.Reading.{no_machines};
 ghost use Rattle.plant.specs.Limits.{most_row_bytes, longest_file, Numbered};
 ghost use Rattle.plant_lists.specs.Lists.{listed_machine, listed_machines, listed_plant};
 ghost use Rattle.writing.specs.Answers.{answer_of};
 ghost use Rattle.writing.specs.Writing.{answer_for, buffer_for, WritesShortest};
-ghost use Rattle.writing.specs.Inner.Steps.{MachineStored, MachinesStored, PlantStored, end_step};
+ghost use Rattle.writing.specs.Inner.Steps.{MachineStored, MachineNear, MachinesStored, PlantStored, end_step};
 ghost use Rattle.written_rows.specs.Steps.{Room, ListKeyRoom, Near};
 
 use list_numbers::{number_in, rows_number};
-use plant::{Fault, FieldStep};
+use plant::{Fault, Refusal};
 use row_bytes::put;
-use written_rows::{Point, Step, write_rows};
+use written_rows::{Point, write_rows};
 
 // The bytes of the longest file.
 const LONGEST: usize = 5154;
@@ -29,169 +29,123 @@ const MOST_ROWS: usize = 255;
 
 const FEW_ROWS: usize = 32;
 
-// The answer of the writer: the length of the file, or a refusal.
-#[derive(Drop)]
-pub enum Writing {
-    Wrote(usize),
-    Refused(Fault),
+// Where the numbers and bytes of the machines so far end, and their count of rows.
+#[derive(Clone, Copy)]
+struct Walked {
+    end: Point,
+    rows: usize,
 }
 
-// Where a machine's numbers and bytes end, and the count of rows with its own.
-#[derive(Drop)]
-pub struct Walked {
-    pub step: Step,
-    pub rows: usize,
-}
-
-// The machine whose first number is at `from`, after so many rows of other machines.
+// The machine whose first number and byte are where those before it end.
 fn write_machine(
     numbers: &[u16],
-    from: usize,
+    before: Walked,
     types: u8,
-    used: usize,
     file: &mut [u8],
-    start: usize,
     keys: &mut [u32],
-) -> Walked
-    requires { (types ≤ 64) × (used ≤ 1024) × Room numbers.now file.old from start (2 + most_row_bytes * (1024 - used)) × ListKeyRoom numbers.now keys.old }
-    ensures machine_stored { (p : Plant) → p.types ≡ types → row_count p ≡ used → Numbered p → MachineStored p file.old file.new start result.rows (listed_machine numbers.now from p) result.step }
-    ensures used_le_rows { (used ≤ result.rows) × (result.rows ≤ 1024) × Near numbers.now (start + 2 + most_row_bytes * (result.rows - used)) result.step }
+) -> Result<Walked, Fault>
+    requires { (types ≤ 64) × (before.rows ≤ 1024) × Room numbers.now file.old before.end.at before.end.pos (2 + most_row_bytes * (1024 - before.rows)) × ListKeyRoom numbers.now keys.old }
+    ensures machine_stored { (p : Plant) → p.types ≡ types → row_count p ≡ before.rows → Numbered p → MachineStored p file.old file.new before.end.pos (listed_machine numbers.now before.end.at p) result }
+    ensures near { MachineNear numbers.now before.rows before.end.pos result }
 {
-    let states_step = number_in(numbers, from, 1, 65);
-    let states = match states_step {
-        FieldStep::Value(field) => field,
-        FieldStep::Fault(fault) => {
-            return Walked {
-                step: Step::Fault(fault),
-                rows: used,
-            };
-        }
-    };
-    let rows_step = rows_number(numbers, states.next, used);
-    let count = match rows_step {
-        FieldStep::Value(field) => field,
-        FieldStep::Fault(fault) => {
-            return Walked {
-                step: Step::Fault(fault),
-                rows: used,
-            };
-        }
-    };
-    let after_states = put(file, start, states.value, true);
+    let Point { at, pos } = before.end;
+    let states = number_in(numbers, at, 1, 65)?;
+    let count = rows_number(numbers, states.next, before.rows)?;
+    let after_states = put(file, pos, states.value, true);
     let after_count = put(file, after_states, count.value, true);
-    let n = count.value as usize;
-    let point = Point {
+    let n = usize::from(count.value);
+    let start = Point {
         at: count.next,
         pos: after_count,
     };
-    let step = write_rows(numbers, n, states.value, types, file, point, keys);
-    Walked {
-        step,
-        rows: used + n,
-    }
+    let end = write_rows(numbers, n, states.value, types, file, start, keys)?;
+    Ok(Walked {
+        end,
+        rows: before.rows + n,
+    })
 }
 
-// The `n` machines whose first number is at `from`.
+// The `n` machines whose first number and byte are at `start`.
 fn write_machines(
     numbers: &[u16],
-    from: usize,
+    start: Point,
     n: usize,
     types: u8,
     file: &mut [u8],
-    start: usize,
     keys: &mut [u32],
-) -> Step
-    requires { (types ≤ 64) × Room numbers.now file.old from start (2 * n + most_row_bytes * 1024) × ListKeyRoom numbers.now keys.old }
-    ensures machines_stored { MachinesStored n types file.old file.new start (listed_machines n numbers.now from (no_machines types)) result }
-    ensures near { Near numbers.now (start + (2 * n + most_row_bytes * 1024)) result }
+) -> Result<Point, Fault>
+    requires { (types ≤ 64) × Room numbers.now file.old start.at start.pos (2 * n + most_row_bytes * 1024) × ListKeyRoom numbers.now keys.old }
+    ensures machines_stored { MachinesStored n types file.old file.new start.pos (listed_machines n numbers.now start.at (no_machines types)) result }
+    ensures near { Near numbers.now (start.pos + (2 * n + most_row_bytes * 1024)) result }
 {
-    let mut at = from;
-    let mut pos = start;
-    let mut rows = 0;
-    let mut i = 0;
-    while i < n {
-        let walked = write_machine(numbers, at, types, rows, file, pos, keys);
-        rows = walked.rows;
-        let step = walked.step;
-        match step {
-            Step::Fault(fault) => return Step::Fault(fault),
-            Step::At(point) => {
-                at = point.at;
-                pos = point.pos;
-            }
-        }
-        i += 1;
+    let mut walked = Walked {
+        end: start,
+        rows: 0,
+    };
+    for _machine in 0..n {
+        walked = write_machine(numbers, walked, types, file, keys)?;
     }
-    Step::At(Point { at, pos })
+    Ok(walked.end)
 }
 
 // After the last row the list ends.
-fn list_end(numbers: &[u16], step: Step) -> Step
-    ensures { result ≡ end_step numbers.now step }
+fn list_end(numbers: &[u16], end: Point) -> Result<Point, Fault>
+    ensures { result ≡ end_step numbers.now (Ok end) }
 {
-    match step {
-        Step::Fault(fault) => Step::Fault(fault),
-        Step::At(point) => {
-            if point.at < numbers.len() {
-                return Step::Fault(Fault {
-                    number: 23,
-                    place: point.at,
-                });
-            }
-            Step::At(point)
-        }
+    if end.at < numbers.len() {
+        return Err(Fault {
+            refusal: Refusal::ListLength,
+            place: end.at,
+        });
     }
+    Ok(end)
 }
 
 // The plant that a list says, stored from the front of the buffer on.
-fn write_plant(numbers: &[u16], file: &mut [u8], keys: &mut [u32]) -> Step
+fn write_plant(numbers: &[u16], file: &mut [u8], keys: &mut [u32]) -> Result<Point, Fault>
     requires { (min longest_file (length numbers.now) ≤ length file.old) × ListKeyRoom numbers.now keys.old }
     ensures plant_stored { PlantStored file.old file.new (listed_plant numbers.now) result }
     ensures near { Near numbers.now longest_file result }
 {
-    let machines_step = number_in(numbers, 0, 1, 17);
-    let machines = match machines_step {
-        FieldStep::Value(field) => field,
-        FieldStep::Fault(fault) => return Step::Fault(fault),
-    };
-    let types_step = number_in(numbers, machines.next, 0, 65);
-    let types = match types_step {
-        FieldStep::Value(field) => field,
-        FieldStep::Fault(fault) => return Step::Fault(fault),
-    };
+    let machines = number_in(numbers, 0, 1, 17)?;
+    let types = number_in(numbers, machines.next, 0, 65)?;
     let after_machines = put(file, 0, machines.value, true);
     let after_types = put(file, after_machines, types.value, true);
-    let n = machines.value as usize;
-    let step = write_machines(numbers, types.next, n, types.value, file, after_types, keys);
-    list_end(numbers, step)
+    let n = usize::from(machines.value);
+    let start = Point {
+        at: types.next,
+        pos: after_types,
+    };
+    let end = write_machines(numbers, start, n, types.value, file, keys)?;
+    list_end(numbers, end)
 }
 
 // Writes by way of a buffer and a list of keys that are long enough.
-fn write_in(numbers: &[u16], file: &mut [u8], keys: &mut [u32], out: &mut [u8]) -> Writing
+fn write_in(
+    numbers: &[u16],
+    file: &mut [u8],
+    keys: &mut [u32],
+    out: &mut [u8],
+) -> Result<usize, Fault>
     requires { (min longest_file (length numbers.now) ≤ length file.old) × ListKeyRoom numbers.now keys.old }
     ensures result_value { answer_of result ≡ answer_for (listed_plant numbers.now) (length out.old) }
     ensures out_after { out.new ≡ buffer_for (listed_plant numbers.now) out.old }
     ensures writes_shortest { WritesShortest numbers.now out.new (answer_of result) }
 {
-    let step = write_plant(numbers, file, keys);
-    match step {
-        Step::Fault(fault) => Writing::Refused(fault),
-        Step::At(point) => {
-            let length = point.pos;
-            if out.len() < length {
-                return Writing::Refused(Fault {
-                    number: 25,
-                    place: 0,
-                });
-            }
-            out[..length].copy_from_slice(&file[..length]);
-            Writing::Wrote(length)
-        }
+    let end = write_plant(numbers, file, keys)?;
+    let length = end.pos;
+    if out.len() < length {
+        return Err(Fault {
+            refusal: Refusal::OutputRoom,
+            place: 0,
+        });
     }
+    out[..length].copy_from_slice(&file[..length]);
+    Ok(length)
 }
 
-// Writes the shortest file of the plant that a list says.
-pub fn write(numbers: &[u16], out: &mut [u8]) -> Writing
+// Writes the shortest file of the plant that a list says, and hands back its length.
+pub fn write(numbers: &[u16], out: &mut [u8]) -> Result<usize, Fault>
     ensures result_value { answer_of result ≡ answer_for (listed_plant numbers.now) (length out.old) }
     ensures out_after { out.new ≡ buffer_for (listed_plant numbers.now) out.old }
     ensures writes_shortest { WritesShortest numbers.now out.new (answer_of result) }

@@ -1,4 +1,5 @@
 -- Laws for the loop that reads the rows of a machine from the list and stores them.
+use Rattle.std.specs.Prelude.{Ok, Err, Some, None}
 use mathlib.Core.Path.{◌≡◌, refl, sym, ◌∙◌, ap, subst}
 use mathlib.Core.Bool.{true, false}
 use mathlib.Core.List.{List, [], ◌∷◌, ◌++◌, append_assoc, append-nil}
@@ -15,17 +16,16 @@ use Rattle.plant.specs.Limits.{rows_in}
 use Rattle.plant.specs.Reading.{with_row}
 use Rattle.plant.specs.Steps.{fault_found}
 use Rattle.plant.specs.declared.Fault.{Fault}
+use Rattle.plant.specs.declared.Refusal.TheVariants as Refusals
 use Rattle.plant_rows.specs.Rows.{fields_row}
 use Rattle.plant_rows.specs.declared.RowFields.{RowFields}
 use Rattle.twins.specs.Keys.{RowsKept, RowKept}
-use Rattle.twins.specs.declared.Keeping.{Keeping}
 use Rattle.twins.proofs.KeyLaws.{none_kept}
 use Rattle.plant_files.specs.Files.{row_bytes, rows_bytes}
 use Rattle.plant_files.specs.Inner.Parts.{with_rows}
 use Rattle.plant_lists.specs.Lists.{listed_row, listed_rows}
 use Rattle.row_bytes.specs.Stores.{Stored}
 use Rattle.row_bytes.proofs.StoreLaws.{stored_none, stored_then}
-use Rattle.written_rows.specs.declared.Step.TheVariants as Steps
 use Rattle.written_rows.specs.Steps.{last_left, RowsGoing, RowsStored, rows_stored, rows_refused}
 
 -- The bytes of rows and one row more, and the state that it leaves.
@@ -64,11 +64,11 @@ module _ (n m states from : ℕ) (s : List ℕ) (p : Plant) (before : List ℕ) 
       one_more = let e : n - i ≡ suc (n - (i + 1)) = omega arith in rw e
 
       -- after a row that was read, is told to be no twin, and was stored,
-      pub row_next : (f : RowFields) (r : Row) (next : ℕ) (file' : List ℕ) (end' : ℕ) (keys' : List ℕ) (k : Keeping) → r.machine ≡ m → fields_row m f ≡ r
-          → listed_row m states p.types s at ≡ found r next → RowKept i f leave keys keys' k → k.twin ≡ false
-          → Stored file file' end (row_bytes implied r) end' → RowsGoing n m states from s p before pos (i + 1) next file' end' r.left keys' k.states
+      pub row_next : (f : RowFields) (r : Row) (next : ℕ) (file' : List ℕ) (end' : ℕ) (keys' : List ℕ) (leave' : ℕ) → r.machine ≡ m → fields_row m f ≡ r
+          → listed_row m states p.types s at ≡ found r next → RowKept i f leave keys keys' (Some leave')
+          → Stored file file' end (row_bytes implied r) end' → RowsGoing n m states from s p before pos (i + 1) next file' end' r.left keys' leave'
       unfolding All
-      row_next f r next file' end' keys' k own is e h t stored =
+      row_next f r next file' end' keys' leave' own is e h stored =
           record {
             rs = g.rs ++ (r ∷ []);
             count = omega (arith, length-append g.rs (r ∷ []), g.count);
@@ -80,7 +80,7 @@ module _ (n m states from : ℕ) (s : List ℕ) (p : Plant) (before : List ℕ) 
                 (subst (λ (k : ℕ). Stored file file' end (row_bytes k r) end') g.left stored));
             rows_kept =
                 rw (← append_assoc p.rows g.rs (r ∷ []))
-                (subst (λ (q : Row). RowsKept m (i + 1) ((p.rows ++ g.rs) ++ (q ∷ [])) keys' k.states) is (h.kept m (p.rows ++ g.rs) g.rows_kept t));
+                (subst (λ (q : Row). RowsKept m (i + 1) ((p.rows ++ g.rs) ++ (q ∷ [])) keys' leave') is (h.kept m (p.rows ++ g.rs) g.rows_kept leave' refl));
             rest =
                 subst (λ (rows : List Row). listed_rows (n - (i + 1)) m states s next (record { types = p.types; states = p.states; rows = rows }) ≡ listed_rows n m states s from p)
                 (append_assoc p.rows g.rs (r ∷ []))
@@ -88,24 +88,24 @@ module _ (n m states from : ℕ) (s : List ℕ) (p : Plant) (before : List ℕ) 
           }
         where
           fresh : has_twin r (p.rows ++ g.rs) ≡ false
-          fresh = ap (λ (q : Row). has_twin q (p.rows ++ g.rs)) (sym is) ∙ (sym (h.told m (p.rows ++ g.rs) g.rows_kept) ∙ t)
+          fresh = ap (λ (q : Row). has_twin q (p.rows ++ g.rs)) (sym is) ∙ sym (h.told m (p.rows ++ g.rs) g.rows_kept)
 
       -- at a twin,
-      pub row_is_twin : (f : RowFields) (r : Row) (next : ℕ) (keys' : List ℕ) (k : Keeping) → fields_row m f ≡ r → listed_row m states p.types s at ≡ found r next
-          → RowKept i f leave keys keys' k → k.twin ≡ true
-          → RowsStored n m p before file pos (listed_rows n m states s from p) (Steps.Fault (record { number = 26; place = at }))
-      row_is_twin f r next keys' k is e h t =
-          let twin : has_twin r (p.rows ++ g.rs) ≡ true = ap (λ (q : Row). has_twin q (p.rows ++ g.rs)) (sym is) ∙ (sym (h.told m (p.rows ++ g.rs) g.rows_kept) ∙ t) in
-          subst (λ (x : Found Plant). RowsStored n m p before file pos x (Steps.Fault (record { number = 26; place = at }))) (sym (one_more ∙ rw (e, twin)) ∙ g.rest) rows_refused
+      pub row_is_twin : (f : RowFields) (r : Row) (next : ℕ) (keys' : List ℕ) → fields_row m f ≡ r → listed_row m states p.types s at ≡ found r next
+          → RowKept i f leave keys keys' None
+          → RowsStored n m p before file pos (listed_rows n m states s from p) (Err (record { refusal = Refusals.TwinRow; place = at }))
+      row_is_twin f r next keys' is e h =
+          let twin : has_twin r (p.rows ++ g.rs) ≡ true = ap (λ (q : Row). has_twin q (p.rows ++ g.rs)) (sym is) ∙ sym (h.told m (p.rows ++ g.rs) g.rows_kept) in
+          subst (λ (x : Found Plant). RowsStored n m p before file pos x (Err (record { refusal = Refusals.TwinRow; place = at }))) (sym (one_more ∙ rw (e, twin)) ∙ g.rest) rows_refused
 
       -- at a fault,
-      pub rows_stop : (f : Fault) → listed_row m states p.types s at ≡ fault_found f → RowsStored n m p before file pos (listed_rows n m states s from p) (Steps.Fault f)
-      rows_stop f e = subst (λ (x : Found Plant). RowsStored n m p before file pos x (Steps.Fault f)) (sym (one_more ∙ rw e) ∙ g.rest) rows_refused
+      pub rows_stop : (f : Fault) → listed_row m states p.types s at ≡ fault_found f → RowsStored n m p before file pos (listed_rows n m states s from p) (Err f)
+      rows_stop f e = subst (λ (x : Found Plant). RowsStored n m p before file pos x (Err f)) (sym (one_more ∙ rw e) ∙ g.rest) rows_refused
 
     -- and after the last row.
-    pub rows_finish : i ≤ n → n ≤ i → RowsStored n m p before file pos (listed_rows n m states s from p) (Steps.At (record { at = at; pos = end }))
+    pub rows_finish : i ≤ n → n ≤ i → RowsStored n m p before file pos (listed_rows n m states s from p) (Ok (record { at = at; pos = end }))
     rows_finish l d =
-        subst (λ (x : Found Plant). RowsStored n m p before file pos x (Steps.At (record { at = at; pos = end }))) done
+        subst (λ (x : Found Plant). RowsStored n m p before file pos x (Ok (record { at = at; pos = end }))) done
         (rows_stored g.rs (omega (arith, g.count)) g.machine g.stored)
       where
         none_left : (k : ℕ) → k ≡ 0 → found (with_rows p g.rs) at ≡ listed_rows k m states s at (with_rows p g.rs)

@@ -1,22 +1,14 @@
--- `hemtaluq_confirm_v1` meets its contract: each answer of `confirm` becomes its struct.
-use Rattle.cabinet.proofs.StructLaws.{confirm_told, negative_told, confirms_told, negative_means, refused_means}
+-- `hemtaluq_confirm_v1` meets its contract: the answer of `confirm` becomes its struct.
+use mathlib.Core.Path.{◌∙◌, ap}
+use Rattle.cycle_sets.specs.Answers as ConfirmingAnswers
+use Rattle.answer_structs.specs.Structs.{confirm_struct}
+use Rattle.cabinet.proofs.StructLaws.{confirms_told}
 use Rattle.cabinet.proofs.hemtaluq_confirm_v1.Goals as goal
 
-pub returns-in-Confirmed : goal.returns-in-Confirmed
-returns-in-Confirmed c =
+pub returns : goal.returns
+returns c =
     let f = c.confirm-answer.ensures in
-    let e = c.in-Confirmed.is in
-    record { value = confirm_told f.result_value e; variant = confirms_told f.variant e }
-
-pub returns-in-Negative : goal.returns-in-Negative
-returns-in-Negative c =
-    let a = c.args in
-    let f = c.confirm-answer.ensures in
-    let e = c.in-Negative.is in
-    record { value = negative_told a.file.now a.set.now _ _ f.result_value e; variant = negative_means _ _ f.variant e }
-
-pub returns-in-Refused : goal.returns-in-Refused
-returns-in-Refused c =
-    let f = c.confirm-answer.ensures in
-    let e = c.in-Refused.is in
-    record { value = confirm_told f.result_value e; variant = refused_means _ f.variant e }
+    record {
+      value = c.from.ensures ∙ ap confirm_struct f.result_value;
+      variant = confirms_told (ConfirmingAnswers.answer_of c.confirm-answer.result) c.from.result f.variant c.from.ensures;
+    }

@@ -8,4 +8,4 @@ pub returns : goal.returns
 returns c =
     let a = c.args in
     let l = c.list-answer.ensures in
-    record { value = c.list_answer.ensures ∙ ap list_struct l.result_value; out_after = l.out_after; lists = lists_told a.file.now _ a.machine _ _ l.means c.list_answer.ensures }
+    record { value = c.from.ensures ∙ ap list_struct l.result_value; out_after = l.out_after; lists = lists_told a.file.now _ a.machine _ _ l.means c.from.ensures }

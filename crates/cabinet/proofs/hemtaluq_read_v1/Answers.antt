@@ -4,4 +4,4 @@ use Rattle.answer_structs.specs.Structs.{read_struct}
 use Rattle.cabinet.proofs.hemtaluq_read_v1.Goals as goal
 
 pub returns : goal.returns
-returns c = c.read_answer.ensures ∙ ap read_struct c.read-answer.ensures
+returns c = c.from.ensures ∙ ap read_struct c.read-answer.ensures

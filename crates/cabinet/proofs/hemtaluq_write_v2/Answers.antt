@@ -9,4 +9,4 @@ pub returns : goal.returns
 returns c =
     let a = c.args in
     let l = c.write-answer.ensures in
-    record { value = c.write_answer.ensures ∙ ap write_struct l.result_value; out_after = l.out_after; writes = writes_told a.numbers.now c.write-answer.new.out (WritingAnswers.answer_of c.write-answer.result) c.write_answer.result l.writes_shortest c.write_answer.ensures }
+    record { value = c.from.ensures ∙ ap write_struct l.result_value; out_after = l.out_after; writes = writes_told a.numbers.now c.write-answer.new.out (WritingAnswers.answer_of c.write-answer.result) c.from.result l.writes_shortest c.from.ensures }

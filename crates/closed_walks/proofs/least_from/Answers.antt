@@ -1,100 +1,85 @@
-use Rattle.std.proofs.Common.{rules}
-use mathlib.Core.Path.{refl, sym, ◌∙◌}
-use Prim.Native.Nat.{◌+◌, ◌-◌, ◌<◌}
+use Rattle.std.proofs.Common.{rules, ◌≡◌, ℕ, List, ◌++◌, ◌+◌, length, get_or, drop, ap, sym, ◌∙◌, replicate}
+use Rattle.deciding.specs.Rounds.{edge_graph}
+use Rattle.closed_walks.specs.ClosedWalks.{heaviest}
+use denote.MutBor.{MutBor}
+use lib.ListN.{length-replicate}
+use lib.Seq.{take-length}
 use native.Mathlib.Omega.{arith}
-use Rattle.closed_walks.proofs.RoundLaws.{halves_in}
 use Rattle.closed_walks.proofs.WalkLaws.{edges_searchable}
-use Rattle.closed_walks.proofs.StartLaws.{searched_first, searched_low, searched_next, searched_worth, closed_zero_or_more, closed_below_zero, none_at_first, closes_now, not_yet, never}
+use Rattle.closed_walks.proofs.StartLaws.{Searched, lent_whole, filled, zeros_in, searched_first, searched_low, searched_next, none_at_first, weighs_zero_or_more, weighs_below_zero, closes_now, not_yet}
 use Rattle.closed_walks.proofs.least_from.Goals as goal
-use Rattle.closed_walks.proofs.least_from.Goals.{After-slice_known-in-loop-k-1}
-
-pub clear-requires : goal.clear-requires
-clear-requires c = let p = c.requires in (p.3, omega arith, p.0.states_in)
-
-pub offset_bounds-walks-start : goal.offset_bounds-walks-start
-offset_bounds-walks-start c = let p = c.requires in record { fits = omega (arith, p.1, p.0.states_in) }
-
-pub bounds-walks-start : goal.bounds-walks-start
-bounds-walks-start c = let p = c.requires in omega (arith, p.1, p.0.states_in, p.3, c.clear.ensures.same_length)
+use Rattle.closed_walks.proofs.least_from.Goals.{After-swap}
 
 pub loop-k-init : goal.loop-k-init
 loop-k-init c =
     let a = c.args in
     let p = c.requires in
-    (search rules, searched_first _ a.states a.start a.walks.now _ a.noted.now p.0.states_in p.1 p.3 c.clear.ensures p.4, none_at_first _ _, refl)
-
-pub clear-requires-in-loop-k : goal.clear-requires-in-loop-k
-clear-requires-in-loop-k c =
-    let h = c.loop-k.invariant.1 in
-    (h.room, (halves_in h.halves).1, c.requires.0.states_in)
+    let n = length a.shorter.now in
+    rw (filled a.shorter.now c.fill.new.self (c.fill.ensures.after (search rules)))
+    (searched_first _ n a.start (replicate n 0) a.longer.now a.noted.now p.1 (length-replicate n 0) (zeros_in n) p.3 p.4, none_at_first _ _)
 
 pub round-requires : goal.round-requires
 round-requires c =
     let p = c.requires in
     let l = c.loop-k in
-    let h = l.invariant.1 in
+    let h = l.invariant.0 in
     let there = c.loop-k-test.true in
-    let cleared = c.clear-in-loop-k.ensures in (
+    rw (take-length, take-length, filled l.longer.now c.fill-in-loop-k.new.self (c.fill-in-loop-k.ensures.after (search rules)), h.room) (
       p.0,
       record {
-        halves = h.halves;
-        low = searched_low (edges_searchable p.0) h cleared (omega (arith, there, p.2, p.0.states_in));
-        zeros = cleared.zeros;
-        few = omega (arith, there, p.2);
-        room = cleared.same_length ∙ h.room;
-        edge_room = h.edge_room;
+        low = searched_low (edges_searchable p.0) h (omega (arith, there, p.2, p.0.states_in));
+        zeros = zeros_in (length l.longer.now);
+        few = omega (arith, there, p.2, h.room);
+        room = length-replicate (length l.longer.now) 0 ∙ h.next_room ∙ sym h.room;
+        edge_room = omega (arith, h.edge_room, h.room);
       },
     )
 
--- The start has an entry in the table of the round.
-start_low : (c : goal.After-slice_known-in-loop-k-1) → c.loop-k.new + c.args.start < 128
-start_low c =
+-- After a round the tables have changed places, and the walks of one edge more were searched.
+record Swapped (c : goal.After-swap) : Type 0 where
+  longer_is : c.swap.new.x.now ≡ c.round.new.longer
+  shorter_is : c.swap.new.y.now ≡ c.loop-k.shorter.now
+  next : Searched (edge_graph c.args.edges.now) (length c.args.shorter.now) c.args.start (c.loop-k.k + 1) c.round.new.longer c.loop-k.shorter.now c.round.new.noted
+
+swapped : (c : goal.After-swap) → Swapped c
+swapped c =
+    let longer = c.loop-k.longer.now in
+    record {
+      longer_is = ap (λ (r : MutBor (List ℕ)). r.now) c.swap.ensures.x_after ∙ lent_whole (c.fill-in-loop-k.new.self ++ drop (length longer) longer) c.round.new.longer;
+      shorter_is = ap (λ (r : MutBor (List ℕ)). r.now) c.swap.ensures.y_after;
+      next = searched_next (edges_searchable c.requires.0) c.loop-k.invariant.0 (rw take-length at c.round.ensures);
+    }
+
+-- The number whose weight is tested is that of the heaviest closed walk from the start.
+closed_is : (c : goal.After-swap) → get_or c.swap.new.x.now c.args.start 0 ≡ heaviest (edge_graph c.args.edges.now) c.args.start (c.loop-k.k + 1) c.args.start
+closed_is c =
+    let s = swapped c in
+    rw s.longer_is (s.next.exact c.args.start (omega (arith, s.next.room, c.requires.1)))
+
+pub bounds-shorter-start-in-loop-k : goal.bounds-shorter-start-in-loop-k
+bounds-shorter-start-in-loop-k c =
+    let s = swapped (goal.at.bounds-shorter-start-in-loop-k c).After-swap in
+    rw s.longer_is (omega (arith, s.next.room, c.requires.1))
+
+pub walk_weight-requires : goal.walk_weight-requires
+walk_weight-requires c =
     let p = c.requires in
-    omega (arith, p.1, p.0.states_in, (halves_in c.loop-k.invariant.1.halves).1)
+    let here = (goal.at.walk_weight-requires c).After-swap in
+    let s = swapped here in
+    rw s.longer_is (searched_low (edges_searchable p.0) s.next (omega (arith, c.loop-k-test.true, p.2, p.0.states_in)) c.args.start (omega (arith, s.next.room, p.1)))
 
-pub overflow_add-old : goal.overflow_add-old
-overflow_add-old c = omega (arith, start_low c)
-
-pub offset_bounds-walks-old : goal.offset_bounds-walks-old
-offset_bounds-walks-old c = omega (arith, start_low c)
-
-pub bounds-walks-old : goal.bounds-walks-old
-bounds-walks-old c = omega (arith, start_low (goal.at.bounds-walks-old c).After-slice_known-in-loop-k-1, c.loop-k.invariant.1.room, c.clear-in-loop-k.ensures.same_length, c.round.ensures.same_length)
-
-pub walk_weight-closed-requires : goal.walk_weight-closed-requires
-walk_weight-closed-requires c =
-    let p = c.requires in
-    let l = c.loop-k in
-    let next = searched_next (edges_searchable p.0) l.invariant.1 c.clear-in-loop-k.ensures c.round.ensures in
-    omega (arith, searched_worth (edges_searchable p.0) next p.1 (omega (arith, c.loop-k-test.true, p.2, p.0.states_in)))
-
-pub shape_of-noted-then-zero_or_more : goal.shape_of-noted-then-zero_or_more
-shape_of-noted-then-zero_or_more c = c.round.ensures.same_edges ∙ c.loop-k.invariant.3
-
-pub returns-then-zero_or_more : goal.returns-then-zero_or_more
-returns-then-zero_or_more c =
-    let p = c.requires in
-    let l = c.loop-k in
-    let next = searched_next (edges_searchable p.0) l.invariant.1 c.clear-in-loop-k.ensures c.round.ensures in
-    let there = c.loop-k-test.true in
-    let w = closed_zero_or_more next p.1 _ (record { sfits = c.walk_weight-closed.type_inv }) c.walk_weight-closed.ensures (sym c.zero_or_more.ensures ∙ c.if-zero_or_more.true) in
-    record { least_from = closes_now _ _ _ l.invariant.2 _ there w; noted = record { first_edges = λ x. next.first_edges }; walks_len = next.room }
+pub returns-then-walk_weight-ge0 : goal.returns-then-walk_weight-ge0
+returns-then-walk_weight-ge0 c =
+    let here = (goal.at.returns-then-walk_weight-ge0 c).After-swap in
+    let weight = weighs_zero_or_more _ _ (record { sfits = c.walk_weight.type_inv }) c.walk_weight.ensures c.if-walk_weight-ge0.true in
+    record {
+      least_from = closes_now _ _ _ c.loop-k.invariant.1 _ c.loop-k-test.true (omega (arith, closed_is here, weight));
+      noted = (swapped here).next.first_edges;
+    }
 
 pub loop-k-preserved : goal.loop-k-preserved
 loop-k-preserved c =
-    let p = c.requires in
-    let l = c.loop-k in
-    let next = searched_next (edges_searchable p.0) l.invariant.1 c.clear-in-loop-k.ensures c.round.ensures in
-    let w = closed_below_zero next p.1 _ (record { sfits = c.walk_weight-closed.type_inv }) c.walk_weight-closed.ensures (sym c.zero_or_more.ensures ∙ c.if-zero_or_more.false) in
-    (omega (arith, c.loop-k-test.true), next, not_yet _ _ _ l.invariant.2 w, c.round.ensures.same_edges ∙ l.invariant.3)
-
-pub overflow_add-result : goal.overflow_add-result
-overflow_add-result c = omega (arith, c.requires.2, c.requires.0.states_in)
-
-pub shape_of-noted : goal.shape_of-noted
-shape_of-noted c = c.loop-k.invariant.3
-
-pub returns : goal.returns
-returns c =
-    let l = c.loop-k in
-    record { least_from = never _ _ _ l.invariant.2 _ c.loop-k-test.false; noted = record { first_edges = λ x. absurd (omega (arith, x)) }; walks_len = l.invariant.1.room }
+    let here = (goal.at.loop-k-preserved c).After-swap in
+    let s = swapped here in
+    let weight = weighs_below_zero _ _ (record { sfits = c.walk_weight.type_inv }) c.walk_weight.ensures c.if-walk_weight-ge0.false in
+    (rw (s.longer_is, s.shorter_is) s.next, not_yet _ _ _ c.loop-k.invariant.1 (omega (arith, closed_is here, weight)))

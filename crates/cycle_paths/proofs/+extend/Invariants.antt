@@ -11,11 +11,11 @@ use Rattle.cycle_paths.proofs.+extend.Given as goal
 -- calls is the number of states not yet left.
 abbrev pub invariant-loop-k : goal.invariant-loop-k
 invariant-loop-k l =
-    (l.low ≤ l.k) × PathKept l.depth l.initial.path l.path × Extending (entered_of l.graph) (next_of l.graph) (head_of l.graph) (into_of l.graph) (last_of l.graph) l.start (marks_of 24 l.marks) (take l.depth l.initial.path) l.low l.high (length l.initial.out) l.initial.out l.pos l.k l.used l.out
+    (l.rows.start ≤ l.k) × PathKept l.depth l.initial.path l.path × Extending (entered_of l.search.graph.now) (next_of l.search.graph.now) (head_of l.search.graph.now) (into_of l.search.graph.now) (last_of l.search.graph.now) l.search.start (marks_of 24 l.marks) (take l.depth l.initial.path) l.rows.start l.rows.end (length l.initial.out) l.initial.out l.pos l.k l.used l.out
 
 abbrev pub decreases-loop-k : goal.decreases-loop-k
 decreases-loop-k l =
-    l.high - l.k
+    l.rows.end - l.k
 
 -- Each call leaves one state more.
 abbrev pub decreases-extend : goal.decreases-extend

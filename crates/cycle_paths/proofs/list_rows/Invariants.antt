@@ -1,5 +1,4 @@
 use mathlib.Core.Path.{◌≡◌}
-use Prim.Native.Nat.{◌-◌, ◌≤◌}
 use lib.ListN.{length}
 use Rattle.graphs.specs.Graphs.{left_of, entered_of, last_of}
 use Rattle.cycle_paths.proofs.FillingLaws.{Adding}
@@ -9,8 +8,5 @@ use Rattle.cycle_paths.proofs.list_rows.Given as goal
 -- `list_rows` meets its contract: the cycles that begin with one of the rows from `row` on are left to be added.
 abbrev pub invariant-loop-row : goal.invariant-loop-row
 invariant-loop-row l =
-    (l.first ≤ l.row) × (l.row ≤ l.last) × (length l.path ≡ 24)
+    (length l.path ≡ 24)
     × Adding (length l.initial.out) l.initial.out 0 (entries_from (left_of l.graph) (entered_of l.graph) l.first (last_of l.graph) l.first) l.used l.out (entries_from (left_of l.graph) (entered_of l.graph) l.first (last_of l.graph) l.row)
-
-abbrev pub decreases-loop-row : goal.decreases-loop-row
-decreases-loop-row l = l.last - l.row

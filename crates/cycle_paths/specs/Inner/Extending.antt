@@ -1,5 +1,6 @@
 -- What `extend` asks and gives.
 use Rattle.std.specs.Prelude.{◌≡◌, List, ℕ, suc, ◌+◌, ◌-◌, ◌≤◌, ◌<◌, ◌^◌, length, take}
+use Rattle.graphs.specs.declared.Graph.{Graph}
 use Rattle.graphs.specs.Graphs.{entered_of, next_of, head_of, into_of, last_of}
 use Rattle.state_marks.specs.Marks.{column, RowsBelow, Sources}
 use Rattle.cycle_entries.specs.Entries.{Added}
@@ -37,6 +38,6 @@ Extended entered next head into last start marks rows low high limit before pos 
     → Added limit before pos (extensions left entered first last start marks rows (column left low) low (high - low)) used after
 
 -- The same of a graph, where the list's length is the limit.
-abbrev pub ExtendedIn : List ℕ → ℕ → List ℕ → List ℕ → ℕ → ℕ → List ℕ → ℕ → ℕ → List ℕ → Type 0
+abbrev pub ExtendedIn : Graph → ℕ → List ℕ → List ℕ → ℕ → ℕ → List ℕ → ℕ → ℕ → List ℕ → Type 0
 ExtendedIn graph start marks rows low high before pos used after =
     Extended (entered_of graph) (next_of graph) (head_of graph) (into_of graph) (last_of graph) start marks rows low high (length before) before pos used after

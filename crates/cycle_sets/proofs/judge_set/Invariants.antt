@@ -1,4 +1,4 @@
-use Prim.Native.Nat.{◌-◌}
+use Rattle.std.proofs.Common.{◌-◌}
 use Rattle.cycle_sets.proofs.SetLaws.{Going}
 use Rattle.cycle_sets.proofs.judge_set.Given as goal
 

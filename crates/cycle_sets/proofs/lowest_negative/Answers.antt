@@ -1,27 +1,16 @@
-use Prim.Native.Nat.{◌-◌}
-use native.Mathlib.Nat.{sub-zero}
-use native.Mathlib.Omega.{arith}
-use lib.ListN.{get_or}
-use lib.IntN.{pos}
-use mir.Syntax.{w64}
-use mir.Facts.{to_z-of_z}
+-- `lowest_negative` meets its contract: a negative sum is the lowest type's, another is passed over.
+use Rattle.std.proofs.Common.{get_or, pos, to_z, of_z, w64, rules}
 use Rattle.cycle_sets.proofs.LowestLaws.{type_stops, type_goes_on, types_end}
 use Rattle.cycle_sets.proofs.lowest_negative.Goals as goal
 
-pub loop-t-init : goal.loop-t-init
-loop-t-init c = (omega arith, rw sub-zero)
-
 pub returns-then-sum-lt0 : goal.returns-then-sum-lt0
 returns-then-sum-lt0 c =
-    let a = c.args in
-    type_stops (λ t. get_or a.sums.now t (pos 0)) _ a.types _ c.loop-t.invariant.1 c.loop-t-test.true _ (to_z-of_z {w = w64} (record { sfits = c.sum-1.given })) c.if-sum-lt0.true
+    type_stops (λ t. get_or c.args.sums.now t (pos 0)) c.loop-message.message _ _ c.loop-message.invariant c.loop-message-test.true _ (search rules) c.if-sum-lt0.true
 
-pub loop-t-preserved : goal.loop-t-preserved
-loop-t-preserved c =
-    let a = c.args in (
-      omega (arith, c.loop-t-test.true),
-      type_goes_on (λ t. get_or a.sums.now t (pos 0)) _ a.types _ c.loop-t.invariant.1 c.loop-t-test.true _ (to_z-of_z {w = w64} (record { sfits = c.sum-1.given })) c.if-sum-lt0.false,
-    )
+pub loop-message-preserved : goal.loop-message-preserved
+loop-message-preserved c =
+    let sum = get_or c.args.sums.now c.loop-message.message (pos 0) in
+    type_goes_on (λ t. get_or c.args.sums.now t (pos 0)) c.loop-message.message _ _ c.loop-message.invariant c.loop-message-test.true (to_z w64 (of_z w64 sum)) (search rules) c.if-sum-lt0.false
 
 pub returns : goal.returns
-returns c = let a = c.args in types_end (λ t. get_or a.sums.now t (pos 0)) _ a.types _ c.loop-t.invariant.1 c.loop-t-test.false
+returns c = types_end (λ t. get_or c.args.sums.now t (pos 0)) _ _ _ c.loop-message.invariant c.loop-message-test.false

@@ -1,4 +1,5 @@
-use Prim.Native.Nat.{ℕ, ◌+◌, ◌-◌, ◌<◌, zero-le}
+use Rattle.std.proofs.lemmas.Result.{err_from_is_err_and, IfOk-from_err}
+use Prim.Native.Nat.{ℕ, ◌+◌, ◌<◌, zero-le}
 use mathlib.Core.Path.{◌≡◌, refl, sym, ap, ◌∙◌, subst}
 use native.Mathlib.Nat.{sub-zero}
 use native.Mathlib.Omega.{arith}
@@ -30,29 +31,21 @@ loop-i-init c =
       first_rows = first_none _ _ refl refl refl;
     }
 
-pub read_machine-machine-requires : goal.read_machine-machine-requires
-read_machine-machine-requires c =
+pub read_machine-requires : goal.read_machine-requires
+read_machine-requires c =
     let h = c.loop-i.invariant in
     let p = c.requires in
     record { room_for = (omega (arith, h.long, p.0), h.few_rows, h.behind, p.1, omega (arith, c.loop-i-test.true, p.2)); rows_before = h.first_rows.numbered }
 
-pub shape_of-table-in-Fault : goal.shape_of-table-in-Fault
-shape_of-table-in-Fault c = c.read_machine-machine.ensures.long ∙ c.loop-i.invariant.long
-
-pub returns-in-Fault : goal.returns-in-Fault
-returns-in-Fault c =
-    let r = c.read_machine-machine.ensures in
+pub returns-in_err-machine : goal.returns-in_err-machine
+returns-in_err-machine c =
     let l = c.loop-i in
     let i : l.i < length l.states = omega (arith, c.loop-i-test.true, c.requires.2, l.invariant.states_room) in
+    let p = err_from_is_err_and c.from_residual.result c.from_residual.ensures.1 in
     record {
-      ready = c.refused.ensures.1 _;
-      holds =
-          c.refused.ensures.0 _
-          ∙ machine_stops _ _ _ l.i _ _ l.invariant.rest c.loop-i-test.true _ _ (machine_fault r l.states i _ c.in-Fault.is);
+      ready = IfOk-from_err _ _ c.from_residual.ensures.0;
+      holds = rw (p.1, p.2) (machine_stops _ _ _ l.i _ _ l.invariant.rest c.loop-i-test.true _ _ (machine_fault l.states i _ c.in_err-machine.ensures));
     }
-
-pub overflow_cast-first : goal.overflow_cast-first
-overflow_cast-first c = let r = c.read_machine-machine.ensures.few_rows in omega (arith, r)
 
 pub bounds-first-i : goal.bounds-first-i
 bounds-first-i c =
@@ -60,14 +53,14 @@ bounds-first-i c =
 
 pub loop-i-preserved : goal.loop-i-preserved
 loop-i-preserved c =
-    let r = c.read_machine-machine.ensures in
+    let r = c.in_ok-machine.ensures in
     let l = c.loop-i in
     let few : l.i < 16 = omega (arith, c.loop-i-test.true, c.requires.2) in
     let i : l.i < length l.states = omega (arith, few, l.invariant.states_room) in
-    let q = machine_found r l.states i _ c.in-At.is in
+    let q = machine_found l.states i _ r in
     let t = given_found _ _ (machine_takes _ _ (plant_in c.args.types (take l.i l.states) l.rows l.table) (rw (rows_in l.table l.rows) l.invariant.behind)) q in
     record {
-      within = omega arith;
+      within = omega (arith, c.loop-i-test.true);
       long = r.long ∙ l.invariant.long;
       states_room = length-set l.states l.i _ ∙ l.invariant.states_room;
       few_rows = r.few_rows;
@@ -77,30 +70,29 @@ loop-i-preserved c =
       first_rows = first_stored _ _ _ _ _ _ _ _ (length-take-le l.i l.states (omega (arith, i))) (rows_in _ _) few l.invariant.first_rows q;
     }
 
-pub shape_of-table : goal.shape_of-table
-shape_of-table c = c.loop-i.invariant.long
-
 pub returns : goal.returns
 returns c =
     let l = c.loop-i in
     let a = c.args in
     let p = c.requires in
     let h = l.invariant in
-    let e : l.i ≡ a.n = omega (arith, h.within) in
+    let e : l.i ≡ a.n = omega (arith, h.within, c.loop-i-test.false) in
     record {
-      ready =
-          record {
-            sound =
-                record {
-                  few_machines = p.2;
-                  few_rows = h.few_rows;
-                  few_types = p.1;
-                  states_room = h.states_room;
-                  room = omega (arith, p.0, h.long, h.few_rows, h.behind, h.inside);
-                };
-            first_row =
-                λ m g.
-                (subst (λ (j : ℕ). FirstRows l.first (j + 1) j (plant_in a.types (take j l.states) l.rows l.table)) e h.first_rows).at m (omega arith);
-          };
+      ready = (
+        record {
+          sound =
+              record {
+                few_machines = p.2;
+                few_rows = h.few_rows;
+                few_types = p.1;
+                states_room = h.states_room;
+                room = omega (arith, p.0, h.long, h.few_rows, h.behind, h.inside);
+              };
+          first_row =
+              λ m g.
+              (subst (λ (j : ℕ). FirstRows l.first (j + 1) j (plant_in a.types (take j l.states) l.rows l.table)) e h.first_rows).at m (omega arith);
+        },
+        h.inside,
+      );
       holds = ap (λ (j : ℕ). found (plant_in a.types (take j l.states) l.rows l.table) l.at) (sym e) ∙ machines_done _ _ a.n l.i _ _ h.rest c.loop-i-test.false;
     }

@@ -21,6 +21,3 @@ pub record Inv (file : List ℕ) (n from types : ℕ) (before now states first :
 
 abbrev pub invariant-loop-i : goal.invariant-loop-i
 invariant-loop-i l = Inv l.file l.n l.from l.types l.initial.table l.table l.states l.first l.at l.rows l.i
-
-abbrev pub decreases-loop-i : goal.decreases-loop-i
-decreases-loop-i l = l.n - l.i

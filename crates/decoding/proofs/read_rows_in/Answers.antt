@@ -1,11 +1,10 @@
 use Rattle.std.proofs.Common.{rules}
-use Prim.Native.Nat.{ℕ, ◌+◌, ◌-◌}
+use Rattle.std.proofs.lemmas.Result.{err_from_is_err_and}
+use Prim.Native.Nat.{ℕ, ◌+◌}
 use mathlib.Core.Path.{◌≡◌, refl, sym, ap, ◌∙◌}
 use native.Mathlib.Nat.{sub-zero, add-zero}
 use native.Mathlib.Omega.{arith}
 use Rattle.plant.specs.Found.{found}
-use Rattle.plant_rows.specs.Rows.{row_found}
-use Rattle.plant.proofs.Told.{told}
 use Rattle.plant.proofs.RowLaws.{row_stops, row_is_twin, row_goes_on, rows_done}
 use Rattle.plant.proofs.Gives.{given_found}
 use Rattle.plant.proofs.Takes.{row_takes}
@@ -26,73 +25,52 @@ loop-i-init c =
       rest = λ all. rw (sub-zero, add-zero);
     }
 
-pub row_at-step-requires : goal.row_at-step-requires
-row_at-step-requires c = c.requires.room_for.2
-
-pub shape_of-table-in-Fault : goal.shape_of-table-in-Fault
-shape_of-table-in-Fault c = c.loop-i.invariant.long
-
-pub shape_of-keys-in-Fault : goal.shape_of-keys-in-Fault
-shape_of-keys-in-Fault c = c.loop-i.invariant.keys_long
-
-pub returns-in-Fault : goal.returns-in-Fault
-returns-in-Fault c =
+pub returns-in_err-row : goal.returns-in_err-row
+returns-in_err-row c =
     let h = c.loop-i.invariant in
+    let p = err_from_is_err_and c.from_residual.result c.from_residual.ensures.1 in
     record {
       long = h.long;
-      holds = λ all. row_stops _ _ _ _ _ _ _ _ c.loop-i-test.true _ _ _ (told (row_found _) (c.row_at-step.ensures _) c.in-Fault.is) (h.rest all);
+      holds = λ all. rw (p.1, p.2) (row_stops _ _ _ _ _ _ _ _ c.loop-i-test.true _ _ _ (sym (c.in_err-row.ensures _)) (h.rest all));
     }
 
-pub keep_row-kept-requires : goal.keep_row-kept-requires
-keep_row-kept-requires c = omega (arith, c.loop-i.invariant.keys_long, c.requires.rows_before.1, c.loop-i-test.true)
+pub keep_row-requires : goal.keep_row-requires
+keep_row-requires c = omega (arith, c.loop-i.invariant.keys_long, c.requires.rows_before.1, c.loop-i-test.true)
 
-pub shape_of-table-then-kept : goal.shape_of-table-then-kept
-shape_of-table-then-kept c = c.loop-i.invariant.long
-
-pub shape_of-keys-then-kept : goal.shape_of-keys-then-kept
-shape_of-keys-then-kept c = c.keep_row-kept.ensures.long ∙ c.loop-i.invariant.keys_long
-
-pub returns-then-kept : goal.returns-then-kept
-returns-then-kept c =
+pub returns-in_default : goal.returns-in_default
+returns-in_default c =
     let h = c.loop-i.invariant in
-    let k = c.keep_row-kept.ensures in
     record {
       long = h.long;
       holds =
           λ all.
-          row_is_twin _ _ _ _ _ _ _ _ c.loop-i-test.true _ _ _ (told (row_found _) (c.row_at-step.ensures _) c.in-Value.is) (sym (k.told _ _ h.rows_kept) ∙ c.if-kept.true) (h.rest all);
+          row_is_twin _ _ _ _ _ _ _ _ c.loop-i-test.true _ _ _ (sym (c.in_ok-row.ensures _)) (sym (c.in_default.ensures.told _ _ h.rows_kept)) (h.rest all);
     }
 
 pub store_row-requires : goal.store_row-requires
 store_row-requires c =
     let h = c.loop-i.invariant in
-    let t = given_found _ _ (row_takes c.args.s.now 0 c.args.head.states c.args.types _ _) (told (row_found 0) (c.row_at-step.ensures 0) c.in-Value.is) in
+    let t = given_found _ _ (row_takes c.args.s.now 0 c.args.head.states c.args.types _ _) (sym (c.in_ok-row.ensures 0)) in
     omega (arith, t.0, t.1, h.behind, h.long, c.requires.room_for.0, c.requires.room_for.1, c.loop-i-test.true)
 
 pub loop-i-preserved : goal.loop-i-preserved
 loop-i-preserved c =
     let a = c.args in
     let l = c.loop-i in
-    let r = (told (row_found a.head.machine) (c.row_at-step.ensures a.head.machine) c.in-Value.is) in
+    let r = sym (c.in_ok-row.ensures a.head.machine) in
     let t = given_found _ _ (row_takes a.s.now a.head.machine a.head.states a.types _ _) r in
     let e : a.used + (l.i + 1) ≡ a.used + l.i + 1 = omega arith in
-    let k = c.keep_row-kept.ensures in
+    let k = c.in-Some.ensures in
     record {
       within = omega (arith, c.loop-i-test.true);
       long = c.store_row.ensures.long ∙ l.invariant.long;
       keys_long = k.long ∙ l.invariant.keys_long;
       behind = omega (arith, t.0, l.invariant.behind);
-      rows_kept = rw e (kept_stored c.store_row.ensures (k.kept _ _ l.invariant.rows_kept (search rules)));
+      rows_kept = rw e (kept_stored c.store_row.ensures (k.kept _ _ l.invariant.rows_kept _ refl));
       rest =
           λ all.
-          rw e (row_goes_on _ _ _ _ _ _ _ _ c.loop-i-test.true (plant_in a.types all (a.used + l.i) l.table) _ _ _ r (sym (k.told _ _ l.invariant.rows_kept) ∙ (search rules)) (with_row_lem c.store_row.ensures a.types all) (l.invariant.rest all));
+          rw e (row_goes_on _ _ _ _ _ _ _ _ c.loop-i-test.true (plant_in a.types all (a.used + l.i) l.table) _ _ _ r (sym (k.told _ _ l.invariant.rows_kept)) (with_row_lem c.store_row.ensures a.types all) (l.invariant.rest all));
     }
-
-pub shape_of-table : goal.shape_of-table
-shape_of-table c = c.loop-i.invariant.long
-
-pub shape_of-keys : goal.shape_of-keys
-shape_of-keys c = c.loop-i.invariant.keys_long
 
 pub returns : goal.returns
 returns c =

@@ -21,6 +21,3 @@ pub record Inv (s : List ℕ) (n m states types used : ℕ) (before table keys�
 abbrev pub invariant-loop-i : goal.invariant-loop-i
 invariant-loop-i l =
     Inv l.s l.head.rows l.head.machine l.head.states l.types l.used l.initial.table l.table l.initial.keys l.keys l.at l.implied l.left l.i
-
-abbrev pub decreases-loop-i : goal.decreases-loop-i
-decreases-loop-i l = l.head.rows - l.i

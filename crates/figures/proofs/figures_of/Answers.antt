@@ -7,13 +7,12 @@ use Rattle.figures.proofs.FigureLaws.{figures_are}
 use Rattle.figures.proofs.figures_of.Goals as goal
 use Rattle.figures.proofs.figures_of.Goals.{After-largest_weight-w}
 
--- `figures_of` meets its contract: the figures are made of n, S and w, which the three loops find, and no product overflows.
+-- `figures_of` meets its contract: the figures are made of n, S and w, which the three functions find, and no product overflows.
 -- n is at most 255, being a byte,
 most : (c : goal.After-largest_weight-w) → c.most_states-n.result ≤ 255
 most c =
     let states = c.args.states.now in
-    let bytes = c.shared_slice_known-1.given in
-    omega (arith, c.most_states-n.ensures, greatest_limit (λ m. get_or states m 0) 255 (length states) (λ m l. omega (arith, (bytes m).fits)))
+    omega (arith, c.most_states-n.ensures, greatest_limit (λ m. get_or states m 0) 255 (length states) (λ m l. omega (arith, c.type_inv.states m)))
 
 -- and at least 1,
 some_state : (c : goal.After-largest_weight-w) → 1 ≤ c.most_states-n.result
@@ -26,20 +25,18 @@ some_state c =
 total : (c : goal.After-largest_weight-w) → c.states_less_one-less.result ≤ 4080
 total c =
     let states = c.args.states.now in
-    let bytes = c.shared_slice_known-1.given in
     omega (
       arith,
       c.states_less_one-less.ensures,
       c.requires.1,
-      sum_limit (λ m. get_or states m 0 - 1) 255 (length states) (λ m l. omega (arith, (bytes m).fits)),
+      sum_limit (λ m. get_or states m 0 - 1) 255 (length states) (λ m l. omega (arith, c.type_inv.states m)),
     )
 
 -- and w at most 65,535, being two bytes.
 largest : (c : goal.After-largest_weight-w) → c.largest_weight-w.result ≤ 65535
 largest c =
     let weights = c.args.weights.now in
-    let words = c.shared_slice_known-2-1.given in
-    omega (arith, c.largest_weight-w.ensures, greatest_limit (λ t. get_or weights t 0) 65535 (length weights) (λ t l. omega (arith, (words t).fits)))
+    omega (arith, c.largest_weight-w.ensures, greatest_limit (λ t. get_or weights t 0) 65535 (length weights) (λ t l. omega (arith, c.type_inv.weights t)))
 
 pub overflow_mul-per_doubling : goal.overflow_mul-per_doubling
 overflow_mul-per_doubling c = omega (arith, mul-le-mul (most c) (largest c))

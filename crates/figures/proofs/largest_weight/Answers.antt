@@ -1,22 +1,14 @@
-use mathlib.Core.Path.{◌≡◌, sym, ap, ◌∙◌}
-use Prim.Native.Nat.{ℕ, ◌-◌, zero-le}
 use native.Mathlib.Omega.{arith}
 use lib.ListN.{length, get_or}
-use Rattle.livelock.specs.Lists.{below, greatest}
-use Rattle.livelock.proofs.SumLaws.{greatest_none, greatest_turn}
+use Rattle.std.proofs.Common.{rules}
+use Rattle.std.proofs.lemmas.Grind.{common_steps}
+use Rattle.livelock.proofs.SumLaws.{greatest_below, greatest_limit}
 use Rattle.figures.proofs.largest_weight.Goals as goal
 
-pub loop-t-init : goal.loop-t-init
-loop-t-init c = (zero-le, sym (greatest_none _))
-
-pub loop-t-preserved : goal.loop-t-preserved
-loop-t-preserved c =
-    let l = c.loop-t in
-    let weights = c.args.weights.now in
-    (omega arith, omega (arith, c.larger-largest.ensures, c.figure_u16.ensures.0, l.invariant.1, greatest_turn (λ i. get_or weights i 0) l.t))
-
+-- `largest_weight` meets its contract: the largest weight is at least each weight, and one of them.
 pub returns : goal.returns
 returns c =
     let weights = c.args.weights.now in
-    let e : c.loop-t.t ≡ length weights = omega arith in
-    c.loop-t.invariant.1 ∙ ap (λ (n : ℕ). greatest (λ i. get_or weights i 0) (below n)) e
+    let bounds = greatest_below (λ i. get_or weights i 0) (length weights) in
+    let least = greatest_limit (λ i. get_or weights i 0) c.from.result (length weights) (search rules) in
+    grind (arith, common_steps, bounds, least)

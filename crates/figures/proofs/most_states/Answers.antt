@@ -1,22 +1,14 @@
-use mathlib.Core.Path.{◌≡◌, sym, ap, ◌∙◌}
-use Prim.Native.Nat.{ℕ, ◌-◌, zero-le}
 use native.Mathlib.Omega.{arith}
 use lib.ListN.{length, get_or}
-use Rattle.livelock.specs.Lists.{below, greatest}
-use Rattle.livelock.proofs.SumLaws.{greatest_none, greatest_turn}
+use Rattle.std.proofs.Common.{rules}
+use Rattle.std.proofs.lemmas.Grind.{common_steps}
+use Rattle.livelock.proofs.SumLaws.{greatest_below, greatest_limit}
 use Rattle.figures.proofs.most_states.Goals as goal
 
-pub loop-m-init : goal.loop-m-init
-loop-m-init c = (zero-le, sym (greatest_none _))
-
-pub loop-m-preserved : goal.loop-m-preserved
-loop-m-preserved c =
-    let l = c.loop-m in
-    let states = c.args.states.now in
-    (omega arith, omega (arith, c.larger-most.ensures, c.figure_u8.ensures, l.invariant.1, greatest_turn (λ i. get_or states i 0) l.m))
-
+-- `most_states` meets its contract: the largest count is at least each count, and one of them.
 pub returns : goal.returns
 returns c =
     let states = c.args.states.now in
-    let e : c.loop-m.m ≡ length states = omega arith in
-    c.loop-m.invariant.1 ∙ ap (λ (n : ℕ). greatest (λ i. get_or states i 0) (below n)) e
+    let bounds = greatest_below (λ i. get_or states i 0) (length states) in
+    let least = greatest_limit (λ i. get_or states i 0) c.from.result (length states) (search rules) in
+    grind (arith, common_steps, bounds, least)

@@ -5,13 +5,13 @@ use Rattle.plant.specs.Steps.{offset_of}
 use Rattle.file_ends.proofs.moved.Goals as goal
 
 pub overflow_add-result : goal.overflow_add-result
-overflow_add-result c = let e = ap offset_of c.in-At.is in omega arith
+overflow_add-result c = let e = ap offset_of c.in-Ok.is in omega arith
 
-pub overflow_add-result-in-Fault : goal.overflow_add-result-in-Fault
-overflow_add-result-in-Fault c = let e = ap offset_of c.in-Fault.is in omega arith
+pub overflow_add-result-in-Err : goal.overflow_add-result-in-Err
+overflow_add-result-in-Err c = let e = ap offset_of c.in-Err.is in omega arith
 
-pub returns-in-At : goal.returns-in-At
-returns-in-At c = λ p. rw c.in-At.is
+pub returns-in-Ok : goal.returns-in-Ok
+returns-in-Ok c = λ p. rw c.in-Ok.is
 
-pub returns-in-Fault : goal.returns-in-Fault
-returns-in-Fault c = λ p. rw c.in-Fault.is
+pub returns-in-Err : goal.returns-in-Err
+returns-in-Err c = λ p. rw c.in-Err.is

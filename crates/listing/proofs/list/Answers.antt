@@ -2,8 +2,8 @@
 use Rattle.listing.proofs.AnswerLaws.{owed}
 use Rattle.listing.proofs.list.Goals as goal
 
-pub returns-then-file-le64 : goal.returns-then-file-le64
-returns-then-file-le64 c =
+pub returns-then-file-le-SHORT_FILE : goal.returns-then-file-le-SHORT_FILE
+returns-then-file-le-SHORT_FILE c =
     let a = c.args in
     let all = owed a.file.now a.machine a.out.now _ _ c.list_in.ensures in
     record { result_value = all.0; out_after = all.1.0; means = all.1.1 }

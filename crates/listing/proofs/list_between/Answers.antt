@@ -21,7 +21,7 @@ returns-then-needed-room c =
     let a = c.args in
     let graph = c.add_rows.ensures in
     let pass = c.count_rows-needed in
-    λ end. too_short _ (entries_between a.table.now a.first a.last) a.out.now (entries_are a.table.now a.first a.last c.requires _ _ graph.copied) pass.result pass.ensures end (omega (arith, c.if-needed-room.true)) c.refused.result c.refused.ensures
+    λ end. too_short _ (entries_between a.table.now a.first a.last) a.out.now (entries_are a.table.now a.first a.last c.requires _ _ graph.copied) pass.result pass.ensures end (omega (arith, c.if-needed-room.true)) _ refl
 
 pub list_rows-used-requires : goal.list_rows-used-requires
 list_rows-used-requires c = (c.add_rows.ensures.search, search rules)

@@ -1,11 +1,11 @@
 -- What it is to add a row to a graph.
-use Rattle.std.specs.Prelude.{◌≡◌, List, ℕ, ◌+◌, ◌*◌, ◌<◌, length, get_or, set}
+use Rattle.std.specs.Prelude.{◌≡◌, ℕ, ◌+◌, ◌*◌, ◌<◌, get_or, set}
+use Rattle.graphs.specs.declared.Graph.{Graph}
 use Rattle.graphs.specs.Graphs.{left_of, entered_of, next_of, head_of, into_of, between_of, last_of}
 use Rattle.state_marks.specs.Marks.{marks_of}
 
 -- Row k is added before the rows of a graph; the 63 rows after it are kept.
-pub record RowAdded (k left entered : ℕ) (before after : List ℕ) : Type 0 where
-  pub long : length after ≡ 1056
+pub record RowAdded (k left entered : ℕ) (before after : Graph) : Type 0 where
   pub left_at : get_or (left_of after) k 0 ≡ left
   pub entered_at : get_or (entered_of after) k 0 ≡ entered
   pub next_at : get_or (next_of after) k 0 ≡ get_or (head_of before) left 0

@@ -1,6 +1,4 @@
-use mathlib.Core.Path.{◌≡◌}
-use Prim.Native.Nat.{ℕ, ◌-◌, ◌≤◌, ◌<◌}
-use lib.ListN.{length}
+use Prim.Native.Nat.{ℕ, ◌≤◌, ◌<◌}
 use Rattle.decoding.specs.Tables.{plant_of}
 use Rattle.machines.specs.Machines.{MachinePasses}
 use Rattle.machines.proofs.first_failing.Given as goal
@@ -8,7 +6,4 @@ use Rattle.machines.proofs.first_failing.Given as goal
 -- `first_failing` meets its contract: the machines so far pass; the first for which deciding says no ends the loop.
 abbrev pub invariant-loop-m : goal.invariant-loop-m
 invariant-loop-m l =
-    (l.m ≤ l.shape.machines) × ((j : ℕ) → j < l.m → l.from ≤ j → MachinePasses (plant_of l.shape l.table) l.weights j) × (length l.edges ≡ length l.initial.edges) × (l.from ≤ l.m)
-
-abbrev pub decreases-loop-m : goal.decreases-loop-m
-decreases-loop-m l = l.shape.machines - l.m
+    (l.m ≤ l.shape.machines) × ((j : ℕ) → j < l.m → l.from ≤ j → MachinePasses (plant_of l.shape l.table) l.weights j) × (l.from ≤ l.m)

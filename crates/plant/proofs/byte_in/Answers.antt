@@ -1,19 +1,27 @@
--- `byte_in` meets its contract: what `byte_at` found, and what `in_range` says of it.
-use mathlib.Core.Path.{sym, ◌∙◌}
+-- `byte_in` meets its contract: what `byte_at` found, and its two tests.
+use Rattle.std.proofs.Common.{sym}
+use Rattle.std.proofs.lemmas.Result.{err_from_is_err_and}
+use borrow.Author.Tests.{le-leb, lt-leb, lt-ltb, le-ltb}
 use Rattle.plant.specs.Reading.{byte_in}
-use Rattle.plant.specs.Steps.{field_found}
-use Rattle.plant.proofs.Told.{told}
 use Rattle.plant.proofs.ByteLaws.{byte_missing, byte_passes, byte_fails}
 use Rattle.plant.proofs.byte_in.Goals as goal
+use Rattle.plant.proofs.byte_in.Goals.{else-low-byte-via-then-low-byte+else-byte-end, else-low-byte-via-else-low-byte}
 
-pub returns-in-Fault : goal.returns-in-Fault
+pub returns-in_err-byte : goal.returns-in_err-byte
 unfolding byte_in
-returns-in-Fault c = byte_missing _ _ _ _ _ _ (told field_found c.byte_at-step.ensures c.in-Fault.is)
+returns-in_err-byte c =
+    let p = err_from_is_err_and c.from_residual.result c.from_residual.ensures.1 in
+    rw (p.1, p.2) (byte_missing _ _ _ _ _ _ (sym c.in_err-byte.ensures))
 
-pub returns-then-in_range : goal.returns-then-in_range
+pub returns-then-byte-end : goal.returns-then-byte-end
 unfolding byte_in
-returns-then-in_range c = byte_passes _ _ _ _ _ _ (told field_found c.byte_at-step.ensures c.in-Value.is) (sym c.in_range.ensures ∙ c.if-in_range.true)
+returns-then-byte-end c = byte_passes _ _ _ _ _ _ (sym c.in_ok-byte.ensures) (rw (le-leb _ _ c.if-low-byte.true, lt-ltb _ _ c.if-byte-end.true))
 
 pub returns : goal.returns
 unfolding byte_in
-returns c = byte_fails _ _ _ _ _ _ (told field_found c.byte_at-step.ensures c.in-Value.is) (sym c.in_range.ensures ∙ c.if-in_range.false)
+returns c =
+    byte_fails _ _ _ _ _ _ (sym c.in_ok-byte.ensures)
+    (elim c.else-low-byte.branch [
+      | else-low-byte-via-then-low-byte+else-byte-end w ↦ rw (le-leb _ _ w.if-low-byte.true, le-ltb _ _ w.if-byte-end.false)
+      | else-low-byte-via-else-low-byte w ↦ rw (lt-leb _ _ w.if-low-byte.false)
+    ])

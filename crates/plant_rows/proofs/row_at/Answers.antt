@@ -1,61 +1,76 @@
 -- `row_at` meets its contract: each return is `read_row`, rewritten by what the calls before it found.
+use Rattle.std.proofs.Common.{sym}
+use Rattle.std.proofs.lemmas.Result.{err_from_is_err_and}
 use Rattle.plant.specs.Reading.{read_row}
-use Rattle.plant.specs.Steps.{field_found}
-use Rattle.plant.proofs.Told.{told}
-use Rattle.row_fields.specs.Fields.{type_found}
 use Rattle.plant_rows.proofs.row_at.Goals as goal
 
-pub returns-in-Fault : goal.returns-in-Fault
+pub returns-in_err-map : goal.returns-in_err-map
 unfolding read_row
-returns-in-Fault c = λ m. rw (told field_found c.map_byte-map_step.ensures c.in-Fault.is)
+returns-in_err-map c = λ m.
+    let p = err_from_is_err_and c.from_residual.result c.from_residual.ensures.1 in
+    rw (
+      p.1,
+      p.2,
+      sym c.in_err-map.ensures,
+    )
 
-pub returns-in-Fault-left_step : goal.returns-in-Fault-left_step
+pub returns-in_err-left : goal.returns-in_err-left
 unfolding read_row
-returns-in-Fault-left_step c = λ m. rw (
-  told field_found c.map_byte-map_step.ensures c.in-Value.is,
-  rw c.has_bit.ensures at (told field_found c.state_field-left_step.ensures c.in-Fault-left_step.is),
-)
+returns-in_err-left c = λ m.
+    let p = err_from_is_err_and c.from_residual-in_err-left.result c.from_residual-in_err-left.ensures.1 in
+    rw (
+      p.1,
+      p.2,
+      sym c.in_ok-map.ensures,
+      rw c.has_bit.ensures at (sym c.in_err-left.ensures),
+    )
 
-pub returns-in-Fault-entered_step : goal.returns-in-Fault-entered_step
+pub returns-in_err-entered : goal.returns-in_err-entered
 unfolding read_row
-returns-in-Fault-entered_step c = λ m. rw (
-  told field_found c.map_byte-map_step.ensures c.in-Value.is,
-  rw c.has_bit.ensures at (told field_found c.state_field-left_step.ensures c.in-Value-left_step.is),
-  rw c.has_bit-2.ensures at (told field_found c.state_field-entered_step.ensures c.in-Fault-entered_step.is),
-)
+returns-in_err-entered c = λ m.
+    let p = err_from_is_err_and c.from_residual-in_err-entered.result c.from_residual-in_err-entered.ensures.1 in
+    rw (
+      p.1,
+      p.2,
+      sym c.in_ok-map.ensures,
+      rw c.has_bit.ensures at (sym c.in_ok-left.ensures),
+      rw c.has_bit-2.ensures at (sym c.in_err-entered.ensures),
+    )
 
-pub type_field-sent_step-requires : goal.type_field-sent_step-requires
-type_field-sent_step-requires c = c.requires
-
-pub returns-in-Fault-sent_step : goal.returns-in-Fault-sent_step
+pub returns-in_err-sent : goal.returns-in_err-sent
 unfolding read_row
-returns-in-Fault-sent_step c = λ m. rw (
-  told field_found c.map_byte-map_step.ensures c.in-Value.is,
-  rw c.has_bit.ensures at (told field_found c.state_field-left_step.ensures c.in-Value-left_step.is),
-  rw c.has_bit-2.ensures at (told field_found c.state_field-entered_step.ensures c.in-Value-entered_step.is),
-  rw c.has_bit-3.ensures at (told type_found c.type_field-sent_step.ensures c.in-Fault-sent_step.is),
-)
+returns-in_err-sent c = λ m.
+    let p = err_from_is_err_and c.from_residual-in_err-sent.result c.from_residual-in_err-sent.ensures.1 in
+    rw (
+      p.1,
+      p.2,
+      sym c.in_ok-map.ensures,
+      rw c.has_bit.ensures at (sym c.in_ok-left.ensures),
+      rw c.has_bit-2.ensures at (sym c.in_ok-entered.ensures),
+      rw c.has_bit-3.ensures at (sym c.in_err-sent.ensures),
+    )
 
-pub type_field-taken_step-requires : goal.type_field-taken_step-requires
-type_field-taken_step-requires c = c.requires
-
-pub returns-in-Fault-taken_step : goal.returns-in-Fault-taken_step
+pub returns-in_err-taken : goal.returns-in_err-taken
 unfolding read_row
-returns-in-Fault-taken_step c = λ m. rw (
-  told field_found c.map_byte-map_step.ensures c.in-Value.is,
-  rw c.has_bit.ensures at (told field_found c.state_field-left_step.ensures c.in-Value-left_step.is),
-  rw c.has_bit-2.ensures at (told field_found c.state_field-entered_step.ensures c.in-Value-entered_step.is),
-  rw c.has_bit-3.ensures at (told type_found c.type_field-sent_step.ensures c.in-Value-sent_step.is),
-  rw c.has_bit-4.ensures at (told type_found c.type_field-taken_step.ensures c.in-Fault-taken_step.is),
-)
+returns-in_err-taken c = λ m.
+    let p = err_from_is_err_and c.from_residual-in_err-taken.result c.from_residual-in_err-taken.ensures.1 in
+    rw (
+      p.1,
+      p.2,
+      sym c.in_ok-map.ensures,
+      rw c.has_bit.ensures at (sym c.in_ok-left.ensures),
+      rw c.has_bit-2.ensures at (sym c.in_ok-entered.ensures),
+      rw c.has_bit-3.ensures at (sym c.in_ok-sent.ensures),
+      rw c.has_bit-4.ensures at (sym c.in_err-taken.ensures),
+    )
 
 pub returns : goal.returns
 unfolding read_row
 returns c = λ m. rw (
-  told field_found c.map_byte-map_step.ensures c.in-Value.is,
-  rw c.has_bit.ensures at (told field_found c.state_field-left_step.ensures c.in-Value-left_step.is),
-  rw c.has_bit-2.ensures at (told field_found c.state_field-entered_step.ensures c.in-Value-entered_step.is),
-  rw c.has_bit-3.ensures at (told type_found c.type_field-sent_step.ensures c.in-Value-sent_step.is),
-  rw c.has_bit-4.ensures at (told type_found c.type_field-taken_step.ensures c.in-Value-taken_step.is),
+  sym c.in_ok-map.ensures,
+  rw c.has_bit.ensures at (sym c.in_ok-left.ensures),
+  rw c.has_bit-2.ensures at (sym c.in_ok-entered.ensures),
+  rw c.has_bit-3.ensures at (sym c.in_ok-sent.ensures),
+  rw c.has_bit-4.ensures at (sym c.in_ok-taken.ensures),
   c.has_bit-5.ensures,
 )

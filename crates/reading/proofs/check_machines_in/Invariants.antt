@@ -1,4 +1,4 @@
-use Prim.Native.Nat.{ℕ, ◌-◌, ◌≤◌}
+use Prim.Native.Nat.{ℕ, ◌≤◌}
 use mathlib.Core.Path.{◌≡◌}
 use mathlib.Core.List.{List}
 use lib.ListN.{length}
@@ -12,8 +12,5 @@ pub record Inv (file : List ℕ) (n from types : ℕ) (before keys : List ℕ) (
   pub long : length keys ≡ length before
   pub left : MachinesLeft n from types file at rows i
 
-abbrev pub invariant-loop-i : goal.invariant-loop-i
-invariant-loop-i l = Inv l.file l.n l.from l.types l.initial.keys l.keys l.at l.rows l.i
-
-abbrev pub decreases-loop-i : goal.decreases-loop-i
-decreases-loop-i l = l.n - l.i
+abbrev pub invariant-loop : goal.invariant-loop
+invariant-loop l = Inv l.file l.n l.from l.types l.initial.keys l.keys l.at l.rows l.counter

@@ -9,23 +9,23 @@ returns-then-not-number_passes c =
     let a = c.args in
     λ m.
     wrong_first m a.states a.types a.numbers.now a.at
-    (sym c.number_passes.ensures ∙ c.if-not-number_passes.true)
+    ((rw c.from-states.ensures at (sym c.number_passes.ensures)) ∙ c.if-not-number_passes.true)
 
 pub returns-then-not-number_passes-2 : goal.returns-then-not-number_passes-2
 returns-then-not-number_passes-2 c =
     let a = c.args in
     λ m.
     wrong_second m a.states a.types a.numbers.now a.at
-    (sym c.number_passes.ensures ∙ c.if-not-number_passes.false)
-    (sym c.number_passes-2.ensures ∙ c.if-not-number_passes-2.true)
+    ((rw c.from-states.ensures at (sym c.number_passes.ensures)) ∙ c.if-not-number_passes.false)
+    ((rw c.from-states.ensures at (sym c.number_passes-2.ensures)) ∙ c.if-not-number_passes-2.true)
 
 pub returns-then-not-number_passes-3 : goal.returns-then-not-number_passes-3
 returns-then-not-number_passes-3 c =
     let a = c.args in
     λ m.
     wrong_third m a.states a.types a.numbers.now a.at
-    (sym c.number_passes.ensures ∙ c.if-not-number_passes.false)
-    (sym c.number_passes-2.ensures ∙ c.if-not-number_passes-2.false)
+    ((rw c.from-states.ensures at (sym c.number_passes.ensures)) ∙ c.if-not-number_passes.false)
+    ((rw c.from-states.ensures at (sym c.number_passes-2.ensures)) ∙ c.if-not-number_passes-2.false)
     (sym c.number_passes-3.ensures ∙ c.if-not-number_passes-3.true)
 
 pub bounds-numbers-at : goal.bounds-numbers-at
@@ -36,8 +36,8 @@ returns-then-not-number_passes-4 c =
     let a = c.args in
     λ m.
     wrong_fourth m a.states a.types a.numbers.now a.at
-    (sym c.number_passes.ensures ∙ c.if-not-number_passes.false)
-    (sym c.number_passes-2.ensures ∙ c.if-not-number_passes-2.false)
+    ((rw c.from-states.ensures at (sym c.number_passes.ensures)) ∙ c.if-not-number_passes.false)
+    ((rw c.from-states.ensures at (sym c.number_passes-2.ensures)) ∙ c.if-not-number_passes-2.false)
     (sym c.number_passes-3.ensures ∙ c.if-not-number_passes-3.false)
     ((rw c.type_end.ensures at (sym c.number_passes-4.ensures)) ∙ c.if-not-number_passes-4.true)
 
@@ -46,8 +46,8 @@ returns-then-not-number_passes-5 c =
     let a = c.args in
     λ m.
     wrong_fifth m a.states a.types a.numbers.now a.at
-    (sym c.number_passes.ensures ∙ c.if-not-number_passes.false)
-    (sym c.number_passes-2.ensures ∙ c.if-not-number_passes-2.false)
+    ((rw c.from-states.ensures at (sym c.number_passes.ensures)) ∙ c.if-not-number_passes.false)
+    ((rw c.from-states.ensures at (sym c.number_passes-2.ensures)) ∙ c.if-not-number_passes-2.false)
     (sym c.number_passes-3.ensures ∙ c.if-not-number_passes-3.false)
     ((rw c.type_end.ensures at (sym c.number_passes-4.ensures)) ∙ c.if-not-number_passes-4.false)
     (sym c.number_passes-5.ensures ∙ c.if-not-number_passes-5.true)
@@ -57,8 +57,8 @@ returns c =
     let a = c.args in
     λ m.
     wrong_sixth m a.states a.types a.numbers.now a.at
-    (sym c.number_passes.ensures ∙ c.if-not-number_passes.false)
-    (sym c.number_passes-2.ensures ∙ c.if-not-number_passes-2.false)
+    ((rw c.from-states.ensures at (sym c.number_passes.ensures)) ∙ c.if-not-number_passes.false)
+    ((rw c.from-states.ensures at (sym c.number_passes-2.ensures)) ∙ c.if-not-number_passes-2.false)
     (sym c.number_passes-3.ensures ∙ c.if-not-number_passes-3.false)
     ((rw c.type_end.ensures at (sym c.number_passes-4.ensures)) ∙ c.if-not-number_passes-4.false)
     (sym c.number_passes-5.ensures ∙ c.if-not-number_passes-5.false)

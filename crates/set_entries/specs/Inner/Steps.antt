@@ -1,8 +1,8 @@
 -- What the private functions that judge an entry give.
-use Rattle.std.specs.Prelude.{◌≡◌, Bool, true, false, ◌&&◌, not, List, [], ◌∷◌, ℕ, ◌+◌, eqb, get_or}
+use Rattle.std.specs.Prelude.{◌≡◌, Bool, true, false, ◌&&◌, not, List, [], ◌∷◌, ℕ, ◌+◌, eqb, get_or, Result}
 use Rattle.std.proofs.Math.ListN as Cells
 use Rattle.livelock.specs.Plants.{Row, Plant, is_quiet}
-use Rattle.plant.specs.declared.End.{End}
+use Rattle.plant.specs.declared.Fault.{Fault}
 use Rattle.set_numbers.specs.Numbers.{value_found}
 use Rattle.set_entries.specs.Sets.{entry_ends}
 use Rattle.tables.specs.Tables.{row_in}
@@ -18,6 +18,6 @@ leads table m end s seen [] = eqb s end
 leads table m end s seen (k ∷ ks) = goes_on (row_in table k) m s seen && leads table m end (row_in table k).entered (Cells.set seen s true) ks
 
 -- The end r is what is judged where that entry ends, in every plant with this table that has its rows.
-abbrev pub JudgedEnd : List ℕ → List ℕ → (at end : ℕ) → End → Type 0
+abbrev pub JudgedEnd : List ℕ → List ℕ → (at end : ℕ) → Result ℕ Fault → Type 0
 JudgedEnd c set at end r =
     (P : Plant) (rows : ℕ) → TableOf P rows c → NumbersBelow rows set (at + 3) end → value_found (entry_up_to set at end) r ≡ entry_ends P at (entry_up_to set at end) end

@@ -1,13 +1,13 @@
-use native.Mathlib.Omega.{arith}
-use Rattle.set_numbers.proofs.NumberLaws.{list_ended, entries_full, entry_comes}
+-- `entry_begins` meets its contract: by its two tests.
+use Rattle.std.proofs.Common.{arith}
+use Rattle.std.proofs.lemmas.Bool.Decides.{nat_tests}
+use Rattle.set_numbers.specs.Numbers.{entry_begins}
 use Rattle.set_numbers.proofs.entry_begins.Goals as goal
 
--- `entry_begins` meets its contract: each return is one case of the definition.
-pub returns-then-at-set : goal.returns-then-at-set
-returns-then-at-set c = let a = c.args in list_ended _ a.set.now a.at c.if-at-set.true
-
-pub returns-then-before-ge256 : goal.returns-then-before-ge256
-returns-then-before-ge256 c = let a = c.args in entries_full _ a.set.now a.at c.if-at-set.false (omega (arith, c.if-before-ge256.true))
+pub returns-then-before-lt256 : goal.returns-then-before-lt256
+unfolding entry_begins
+returns-then-before-lt256 c = grind (arith, nat_tests)
 
 pub returns : goal.returns
-returns c = let a = c.args in entry_comes _ a.set.now a.at c.if-at-set.false (omega (arith, c.if-before-ge256.false))
+unfolding entry_begins
+returns c = grind (arith, nat_tests)

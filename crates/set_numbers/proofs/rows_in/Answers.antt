@@ -1,55 +1,33 @@
-use mathlib.Core.Path.{sym}
-use Prim.Native.Nat.{◌-◌, ◌<◌}
-use native.Mathlib.Nat.{le_refl}
-use native.Mathlib.Omega.{arith}
-use lib.ListN.{get_or}
-use Rattle.plant.proofs.Told.{told}
-use Rattle.set_numbers.specs.Numbers.{value_found}
-use Rattle.set_numbers.proofs.NumberLaws.{number_missing, NumberRead, number_read, rows_begin, row_stops, row_goes_on, rows_end}
+-- `rows_in` meets its contract: each return is one case of the definition, behind the row numbers read so far.
+use Rattle.std.proofs.Common.{sym, arith}
+use Rattle.set_numbers.proofs.NumberLaws.{number_missing, rows_begin, row_stops, row_goes_on, rows_end}
 use Rattle.set_numbers.proofs.rows_in.Goals as goal
-use Rattle.set_numbers.proofs.rows_in.Goals.{Else-i-stop, In-At}
+use Rattle.set_numbers.proofs.rows_in.Goals.{else-at-end-via-then-at-end+else-stop-end, else-at-end-via-else-at-end}
 
--- While a row comes, the end is not reached.
-row_comes : (c : goal.Else-i-stop) → c.rows.i < c.args.end
-row_comes c = omega (arith, c.if-i-stop.false, c.lesser-stop.ensures)
+pub loop-i-init : goal.loop-i-init
+loop-i-init c = let a = c.args in (omega arith, rows_begin a.rows a.set.now a.at a.end)
 
--- The row number that was read.
-next_row : (c : goal.In-At) → NumberRead 0 c.args.rows c.args.set.now c.rows.i (get_or c.args.set.now c.rows.i 0) c.in-At.next
-next_row c =
+pub returns-in-Err : goal.returns-in-Err
+returns-in-Err c =
     let a = c.args in
-    let i = c.rows in
-    number_read 0 a.rows a.set.now i.i _ _ (told (value_found (get_or a.set.now i.i 0)) c.number_in-step.ensures c.in-At.is)
+    row_stops a.rows a.set.now a.at a.end c.loop-i.i (omega arith) c.loop-i.invariant.1 (omega arith) _ _ (sym c.in-Err.ensures)
 
-pub rows-init : goal.rows-init
-rows-init c = let a = c.args in (le_refl _, c.requires, rows_begin a.rows a.set.now a.at a.end)
-
-pub rows-smaller : goal.rows-smaller
-rows-smaller c = let r = next_row c in omega (arith, r.next_is, row_comes (goal.at.rows-smaller c).Else-i-stop)
-
-pub rows-preserved : goal.rows-preserved
-rows-preserved c =
+pub loop-i-preserved : goal.loop-i-preserved
+loop-i-preserved c =
     let a = c.args in
-    let i = c.rows in
-    let r = next_row c in (
-      omega (arith, r.next_is, i.invariant.0),
-      omega (arith, r.next_is, row_comes (goal.at.rows-preserved c).Else-i-stop),
-      row_goes_on a.rows a.set.now a.at a.end i.i i.invariant.0 i.invariant.2 (row_comes (goal.at.rows-preserved c).Else-i-stop) _ (told (value_found (get_or a.set.now i.i 0)) c.number_in-step.ensures c.in-At.is),
-    )
+    (omega arith, row_goes_on a.rows a.set.now a.at a.end c.loop-i.i (omega arith) c.loop-i.invariant.1 (omega arith) _ (sym c.in_default.ensures))
 
-pub returns-then-i-end : goal.returns-then-i-end
-returns-then-i-end c =
+pub returns-then-stop-end : goal.returns-then-stop-end
+returns-then-stop-end c =
     let a = c.args in
-    let i = c.rows in
-    row_stops a.rows a.set.now a.at a.end i.i i.invariant.0 i.invariant.2 (omega (arith, c.if-i-end.true)) _ _ (sym (number_missing 0 a.rows a.set.now i.i (omega (arith, c.if-i-end.true, c.if-i-stop.true, c.lesser-stop.ensures))))
+    let i = c.loop-i.i in
+    row_stops a.rows a.set.now a.at a.end i (omega arith) c.loop-i.invariant.1 (omega arith) _ _ (sym (number_missing 0 a.rows a.set.now i (omega arith)))
 
-pub returns-else-i-end : goal.returns-else-i-end
-returns-else-i-end c =
+pub returns-else-at-end : goal.returns-else-at-end
+returns-else-at-end c =
     let a = c.args in
-    let i = c.rows in
-    rows_end a.rows a.set.now a.at a.end i.i i.invariant.0 i.invariant.2 (omega (arith, i.invariant.1, c.if-i-end.false))
-
-pub returns-in-Fault : goal.returns-in-Fault
-returns-in-Fault c =
-    let a = c.args in
-    let i = c.rows in
-    row_stops a.rows a.set.now a.at a.end i.i i.invariant.0 i.invariant.2 (row_comes (goal.at.returns-in-Fault c).Else-i-stop) _ _ (told (value_found (get_or a.set.now i.i 0)) c.number_in-step.ensures c.in-Fault.is)
+    rows_end a.rows a.set.now a.at a.end c.loop-i.i (omega arith) c.loop-i.invariant.1
+    (elim c.else-at-end.branch [
+      | else-at-end-via-then-at-end+else-stop-end w ↦ omega arith
+      | else-at-end-via-else-at-end w ↦ omega arith
+    ])

@@ -1,56 +1,50 @@
-use Rattle.std.proofs.Common.{rules}
-use mathlib.Core.Path.{refl, ◌∙◌}
-use Prim.Native.Nat.{◌-◌}
+use mathlib.Core.Path.{refl}
 use native.Mathlib.Omega.{arith}
+use lib.ListN.{take}
+use Rattle.std.specs.Prelude.{None}
+use Rattle.deciding.specs.Rounds.{EdgesIn}
 use Rattle.machines.proofs.TurnLaws.{turn_edges}
-use Rattle.shortest_cycles.proofs.ShortestLaws.{first_searched, turn_searched, all_searched}
+use Rattle.shortest_cycles.proofs.ShortestLaws.{search_some, first_searched, turn_searched, passing_skipped}
 use Rattle.shortest_cycles.proofs.shortest.Goals as goal
+use Rattle.shortest_cycles.proofs.shortest.Goals.{After-from-states}
 
-pub bounds-shape-begin : goal.bounds-shape-begin
-bounds-shape-begin c = let few = c.requires.0.weighable.ready.sound.few_machines in let within = c.requires.0.within in search rules
+-- The edges of the first machine are between its states.
+first_edges : (c : After-from-states) → EdgesIn c.from-states.result (take c.args.first.count c.args.edges.now)
+first_edges c =
+    let p = c.requires.0 in
+    turn_edges _ _ _ p.weighable _ p.failing.fails.there _ _ refl refl _ p.failing.fails.rows.listed _ c.from-states.ensures
 
-pub show-least-requires : goal.show-least-requires
-show-least-requires c =
-    let p = c.requires in
-    (turn_edges _ _ _ p.0.weighable _ p.0.within _ _ refl refl _ _ (p.0.failing.fails p.0.within).listed _ c.index_u8-states.ensures, search rules, p.1)
+pub show-requires : goal.show-requires
+show-requires c = (first_edges (goal.at.show-requires c).After-from-states, omega arith, c.requires.1)
 
-pub overflow_add-m : goal.overflow_add-m
-overflow_add-m c = let p = c.requires in record { fits = omega (arith, p.0.within, p.0.weighable.ready.sound.few_machines) }
+pub unwrap-least-requires : goal.unwrap-least-requires
+unwrap-least-requires c =
+    search_some (first_edges (goal.at.unwrap-least-requires c).After-from-states) c.requires.0.failing.fails.rows.zero_or_more c.show.result c.show.ensures
 
-pub loop-m-init : goal.loop-m-init
-loop-m-init c =
-    let p = c.requires in
-    let in-edges = turn_edges _ _ _ p.0.weighable _ p.0.within _ _ refl refl _ _ (p.0.failing.fails p.0.within).listed _ c.index_u8-states.ensures in
-    (first_searched _ _ _ p.0.weighable _ p.0.within (p.0.failing.fails p.0.within) p.0.failing in-edges c.show-least.ensures, refl, refl)
+pub loop-next-init : goal.loop-next-init
+loop-next-init c =
+    let p = c.requires.0 in (
+      first_searched _ _ _ p.weighable c.args.first p.failing (first_edges (goal.at.loop-next-init c).After-from-states) (rw c.unwrap-least.ensures at c.show.ensures),
+      omega (arith, p.failing.fails.there),
+    )
 
-pub first_failing-next-requires : goal.first_failing-next-requires
-first_failing-next-requires c =
-    let p = c.requires in
-    (p.0.weighable, omega (arith, c.loop-m-test.true), p.0.most, omega (arith, c.loop-m.invariant.1, p.0.room))
+pub shorter-requires : goal.shorter-requires
+shorter-requires c =
+    let p = c.requires.0 in
+    let l = c.loop-next in
+    let next = c.in-Some.ensures.fails in (
+      turn_edges _ _ _ p.weighable _ next.there _ _ refl refl _ next.rows.listed _ c.from-states-in-Some.ensures,
+      l.invariant.0.some_row,
+      omega (arith, l.auto.rows, c.requires.1),
+    )
 
-pub shorter-least-requires : goal.shorter-least-requires
-shorter-least-requires c =
-    let p = c.requires in
-    let l = c.loop-m in
-    let next = c.first_failing-next.ensures in
-    ((next.within, p.0.weighable.ready.sound.few_machines, λ within. turn_edges _ _ _ p.0.weighable _ within _ _ refl refl _ _ (next.fails within).listed _ refl), l.invariant.0.some_row, omega (arith, l.invariant.2, c.rows-1.given, p.1))
-
-pub overflow_add-m-in-loop-m : goal.overflow_add-m-in-loop-m
-overflow_add-m-in-loop-m c = omega (arith, c.first_failing-next.ensures.within, c.requires.0.weighable.ready.sound.few_machines)
-
-pub loop-m-smaller : goal.loop-m-smaller
-loop-m-smaller c = omega (arith, c.first_failing-next.ensures.from_there, c.loop-m-test.true)
-
-pub loop-m-preserved : goal.loop-m-preserved
-loop-m-preserved c =
-    let l = c.loop-m in
-    (turn_searched _ _ _ c.requires.0.weighable c.first_failing-next.ensures l.invariant.0 c.shorter-least.ensures, c.edges-1.given ∙ l.invariant.1, c.rows-in-loop-m-1.given ∙ l.invariant.2)
-
-pub shape_of-edges : goal.shape_of-edges
-shape_of-edges c = c.loop-m.invariant.1
-
-pub shape_of-rows : goal.shape_of-rows
-shape_of-rows c = c.loop-m.invariant.2 ∙ c.rows-1.given
+pub loop-next-preserved : goal.loop-next-preserved
+loop-next-preserved c =
+    let next = c.in-Some.ensures in (
+      rw c.unwrap_or-least.ensures
+          (turn_searched _ _ _ c.requires.0.weighable c.in-Some.next c.shorter.result next c.loop-next.invariant.0 c.shorter.ensures),
+      omega (arith, next.fails.there),
+    )
 
 pub returns : goal.returns
-returns c = all_searched (omega (arith, c.loop-m-test.false)) c.loop-m.invariant.0
+returns c = passing_skipped _ _ _ c.requires.0.weighable None c.in_default.ensures c.loop-next.invariant.0

@@ -21,4 +21,4 @@ bounds-table-at-6 c = simp length-set (omega (arith, c.requires))
 
 pub returns : goal.returns
 returns c =
-    six_stored c.args.table.now c.args.k c.args.machine c.args.row c.bit.result c.bit.ensures c.requires
+    six_stored c.args.table.now c.args.k c.args.machine c.args.row c.from.result c.from.ensures c.requires

@@ -1,4 +1,3 @@
-use Rattle.std.proofs.Common.{rules}
 use mathlib.Core.Path.{sym}
 use native.Mathlib.Omega.{arith}
 use Rattle.figures.proofs.FigureLaws.{states_limit}
@@ -8,7 +7,7 @@ use Rattle.weighing.proofs.judge_table.Goals as goal
 
 -- `judge_table` meets its contract: the weights pass exactly where no machine fails.
 pub slice_bounds-states-end : goal.slice_bounds-states-end
-slice_bounds-states-end c = let few = c.requires.0.ready.sound.few_machines in search rules
+slice_bounds-states-end c = let few = c.requires.0.ready.sound.few_machines in omega (arith, few)
 
 pub slice_bounds-figures_of-end : goal.slice_bounds-figures_of-end
 slice_bounds-figures_of-end c = sym (machines_are _ _ _ c.requires.0)
@@ -16,18 +15,16 @@ slice_bounds-figures_of-end c = sym (machines_are _ _ _ c.requires.0)
 pub figures_of-figures-requires : goal.figures_of-figures-requires
 figures_of-figures-requires c = let limits = c.requires.0.limits in (limits.some_machine, limits.few_machines, λ m l. (states_limit _ limits m l).0)
 
-pub first_failing-failing-requires : goal.first_failing-failing-requires
-first_failing-failing-requires c =
+pub first_failing-first-requires : goal.first_failing-first-requires
+first_failing-first-requires c =
     let p = c.requires in
     (p.0, omega arith, most_is _ _ _ p.0 c.figures_of-figures.result c.figures_of-figures.ensures, p.1)
 
-pub returns-then-failing-shape : goal.returns-then-failing-shape
-returns-then-failing-shape c =
+pub returns-in-None : goal.returns-in-None
+returns-in-None c =
     let ok = c.requires.0 in
     let figures = c.figures_of-figures in
-    passing_verdict _ _ _ ok figures.result figures.ensures (none_fails _ _ _ ok _ _ _ c.first_failing-failing.ensures (omega (arith, c.if-failing-shape.true)))
+    passing_verdict _ _ _ ok figures.result figures.ensures (none_fails _ _ _ ok c.in-None.ensures)
 
-pub returns : goal.returns
-returns c =
-    let failing = c.first_failing-failing.ensures in
-    failing_verdict _ _ _ c.requires.0 _ _ _ failing (omega (arith, failing.within, c.if-failing-shape.false))
+pub returns-in-Some : goal.returns-in-Some
+returns-in-Some c = failing_verdict _ _ _ c.requires.0 _ c.in-Some.ensures

@@ -1,25 +1,31 @@
--- `check_weights` meets its contract: a fault of the file is handed on, and else each refusal is the first of the checks 9 and 10 that fails.
-use mathlib.Core.Path.{refl}
+-- `check_weights` meets its contract: each refusal is the first of the checks 9 and 10 that fails.
+use Rattle.std.proofs.Common.{rules}
+use Rattle.std.proofs.lemmas.Iterator.{IsFirst-from_position, YieldsList-from_slice}
+use borrow.Author.Tests.{tests}
 use native.Mathlib.Omega.{arith}
-use Rattle.weight_checks.specs.Checks.{checked_weights}
-use Rattle.weight_checks.proofs.CheckLaws.{end_told, refuse_9, refuse_10, accept_weights}
+use Prim.Native.Nat.{◌≤◌, ◌<◌}
+use Rattle.weight_checks.specs.Checks.{FirstAbove}
+use Rattle.weight_checks.proofs.CheckLaws.{first_found, refuse_9, refuse_10, accept_weights}
 use Rattle.weight_checks.proofs.check_weights.Goals as goal
+use Rattle.weight_checks.proofs.check_weights.Goals.{After-position}
+
+-- The search gives the first weight above 1,000.
+first : (c : After-position) → FirstAbove 1000 c.args.weights.now c.position.result
+first c =
+    first_found _ _ _
+    (IsFirst-from_position _ _ _ (λ x. 1000 < x) (λ x. x ≤ 1000) c.position.ensures.ran (YieldsList-from_slice c.args.weights.now cc)
+    (λ x q k. search (rules, tests))
+    (λ x q k. search (rules, tests)))
 
 pub returns-then-weights-types : goal.returns-then-weights-types
-returns-then-weights-types c =
-    let ws = c.args.weights.now in
-    λ P t. end_told P (checked_weights ws) _ _ _ c.in-At.is (refuse_9 ws P _ (λ e. omega (arith, c.if-weights-types.true, e, t)))
+returns-then-weights-types c = λ P end t. refuse_9 _ P end (λ e. omega (arith, c.if-weights-types.true, e, t))
 
-pub returns-then-above-weights : goal.returns-then-above-weights
-returns-then-above-weights c =
-    let ws = c.args.weights.now in
-    let i = c.first_above-above in
-    λ P t. end_told P (checked_weights ws) _ _ _ c.in-At.is (refuse_10 ws P _ (omega (arith, c.if-weights-types.false, t)) i.result i.ensures (omega (arith, c.if-above-weights.true)))
+pub returns-in-Some : goal.returns-in-Some
+returns-in-Some c =
+    let above = rw c.in-Some.is at (first (goal.at.returns-in-Some c).After-position) in
+    λ P end t. refuse_10 _ P end (omega (arith, c.if-weights-types.false, t)) _ above.0 above.1
 
-pub returns-in-Fault : goal.returns-in-Fault
-returns-in-Fault c = λ P t. end_told P (checked_weights c.args.weights.now) _ _ _ c.in-Fault.is refl
-
-pub returns-else-above-weights : goal.returns-else-above-weights
-returns-else-above-weights c =
-    let ws = c.args.weights.now in
-    λ P t. end_told P (checked_weights ws) _ _ _ c.in-At.is (accept_weights ws P _ (omega (arith, c.if-weights-types.false, t)) (omega (arith, c.first_above-above.ensures, c.if-above-weights.false)))
+pub returns : goal.returns
+returns c =
+    let none = rw c.in_default.is at (first (goal.at.returns c).After-position) in
+    λ P end t. accept_weights _ P end (omega (arith, c.if-weights-types.false, t)) none

@@ -1,76 +1,61 @@
-use mathlib.Core.Path.{refl, ◌∙◌, subst}
-use Prim.Native.Nat.{◌+◌, ◌-◌, ◌*◌, zero-le}
+use mathlib.Core.Path.{refl}
+use Prim.Native.Nat.{zero-le}
 use native.Mathlib.Omega.{arith}
-use Rattle.plant.specs.Limits.{most_row_bytes}
-use Rattle.written_rows.specs.declared.Step.{Step}
-use Rattle.written_rows.specs.Steps.{Near}
+use Rattle.std.proofs.lemmas.Result.{err_from_is_err_and}
 use Rattle.writing.proofs.MachineLaws.{machines_begin, machines_next, machines_stop, machines_finish}
 use Rattle.writing.proofs.write_machines.Goals as goal
 
-pub loop-i-init : goal.loop-i-init
-loop-i-init c = (machines_begin _ _ _ _ _ _, zero-le, zero-le, c.requires.1.inside, c.requires.1.behind, omega arith, refl, refl)
+pub loop-machine-init : goal.loop-machine-init
+loop-machine-init c =
+    let room = c.requires.1 in
+    record { going = machines_begin _ _ _ _ _ _; few = zero-le; inside = room.inside; behind = room.behind; near = omega arith; long = refl; keys_long = refl }
 
-pub write_machine-walked-requires : goal.write_machine-walked-requires
-write_machine-walked-requires c =
-    let l = c.loop-i in (
+pub write_machine-requires : goal.write_machine-requires
+write_machine-requires c =
+    let l = c.loop-machine in (
       c.requires.0,
-      l.invariant.2,
+      l.invariant.few,
       record {
-        space = omega (arith, c.requires.1.space, l.invariant.6);
-        inside = l.invariant.3;
-        behind = l.invariant.4;
-        within = omega (arith, c.loop-i-test.true, l.invariant.5, c.requires.1.within);
+        space = omega (arith, c.requires.1.space, l.invariant.long);
+        inside = l.invariant.inside;
+        behind = l.invariant.behind;
+        within = omega (arith, c.loop-machine-test.true, l.invariant.near, c.requires.1.within);
       },
-      omega (arith, c.requires.2, l.invariant.7),
+      omega (arith, c.requires.2, l.invariant.keys_long),
     )
 
-pub shape_of-file-in-Fault : goal.shape_of-file-in-Fault
-shape_of-file-in-Fault c = c.file-1.given ∙ c.loop-i.invariant.6
-
-pub shape_of-keys-in-Fault : goal.shape_of-keys-in-Fault
-shape_of-keys-in-Fault c = c.keys-1.given ∙ c.loop-i.invariant.7
-
-pub returns-in-Fault : goal.returns-in-Fault
-returns-in-Fault c =
+pub returns-in_err-walked : goal.returns-in_err-walked
+returns-in_err-walked c =
     let a = c.args in
-    let l = c.loop-i in
-    let g = l.invariant.0 in record {
-      machines_stored = machines_stop a.n a.from a.numbers.now a.types a.file.now a.start l.i l.at l.file l.pos l.rows g
-          (omega (arith, c.loop-i-test.true)) _ _ _ _ c.in-Fault.is (c.write_machine-walked.ensures.machine_stored g.q g.few g.total g.numbered);
+    let l = c.loop-machine in
+    let g = l.invariant.going in
+    let p = err_from_is_err_and c.from_residual.result c.from_residual.ensures.1 in
+    rw (p.1, p.2) (record {
+      machines_stored = machines_stop a.n a.start.at a.numbers.now a.types a.file.now a.start.pos l._machine _ l.file _ _ g (omega (arith, c.loop-machine-test.true)) _ _
+          (c.in_err-walked.ensures.machine_stored g.q g.few g.total g.numbered);
       near = tt;
-    }
+    })
 
-pub loop-i-smaller : goal.loop-i-smaller
-loop-i-smaller c = omega (arith, c.loop-i-test.true)
-
-pub loop-i-preserved : goal.loop-i-preserved
-loop-i-preserved c =
+pub loop-machine-preserved : goal.loop-machine-preserved
+loop-machine-preserved c =
     let a = c.args in
-    let l = c.loop-i in
-    let g = l.invariant.0 in
-    let near = subst (λ (z : Step). Near a.numbers.now (l.pos + 2 + most_row_bytes * (c.write_machine-walked.result.rows - l.rows)) z) c.in-At.is c.write_machine-walked.ensures.used_le_rows.2 in (
-      machines_next a.n a.from a.numbers.now a.types a.file.now a.start l.i l.at l.file l.pos l.rows g
-          (omega (arith, c.loop-i-test.true)) _ _ _ _ c.in-At.is (c.write_machine-walked.ensures.machine_stored g.q g.few g.total g.numbered),
-      omega (arith, c.loop-i-test.true),
-      c.write_machine-walked.ensures.used_le_rows.1,
-      near.0,
-      near.1,
-      omega (arith, near.2, l.invariant.5, c.write_machine-walked.ensures.used_le_rows.0, c.write_machine-walked.ensures.used_le_rows.1),
-      c.file-1.given ∙ l.invariant.6,
-      c.keys-1.given ∙ l.invariant.7,
-    )
-
-pub shape_of-file : goal.shape_of-file
-shape_of-file c = c.loop-i.invariant.6
-
-pub shape_of-keys : goal.shape_of-keys
-shape_of-keys c = c.loop-i.invariant.7
+    let l = c.loop-machine in
+    let g = l.invariant.going in
+    let near = c.in_ok-walked.ensures.near in record {
+      going = machines_next a.n a.start.at a.numbers.now a.types a.file.now a.start.pos l._machine _ l.file _ _ g (omega (arith, c.loop-machine-test.true)) c.in_ok-walked.walked _
+          (c.in_ok-walked.ensures.machine_stored g.q g.few g.total g.numbered);
+      few = near.1;
+      inside = near.2.0;
+      behind = near.2.1;
+      near = omega (arith, near, l.invariant.near);
+      long = omega (arith, l.invariant.long);
+      keys_long = omega (arith, l.invariant.keys_long);
+    }
 
 pub returns : goal.returns
 returns c =
     let a = c.args in
-    let l = c.loop-i in record {
-      machines_stored = machines_finish a.n a.from a.numbers.now a.types a.file.now a.start l.i l.at l.file l.pos l.rows l.invariant.0 l.invariant.1
-          (omega (arith, c.loop-i-test.false));
-      near = (l.invariant.3, l.invariant.4, omega (arith, l.invariant.1, l.invariant.5));
+    let l = c.loop-machine in record {
+      machines_stored = machines_finish a.n a.start.at a.numbers.now a.types a.file.now a.start.pos l._machine _ l.file _ _ l.invariant.going (omega arith) (omega (arith, c.loop-machine-test.false));
+      near = (l.invariant.inside, l.invariant.behind, omega (arith, l.invariant.near, c.loop-machine-test.false));
     }

@@ -1,6 +1,5 @@
-use Rattle.std.proofs.Common.{rules}
 use mathlib.Core.Path.{refl, sym, ◌∙◌}
-use Prim.Native.Nat.{◌+◌, ◌-◌, zero-le}
+use Prim.Native.Nat.{◌+◌, zero-le}
 use native.Mathlib.Omega.{arith}
 use Rattle.plant_lists.proofs.RowLaws.{row_right, row_there}
 use Rattle.written_rows.proofs.RowsLaws.{rows_begin, row_next, row_is_twin, rows_finish, rows_stop}
@@ -20,48 +19,33 @@ loop-i-init c =
       keys_long = refl;
     }
 
-pub row_passes-requires : goal.row_passes-requires
-row_passes-requires c = c.loop-i.invariant.inside
-
 pub row_fault-requires : goal.row_fault-requires
 row_fault-requires c = (c.loop-i.invariant.inside, sym c.row_passes.ensures ∙ c.if-not-row_passes.true)
-
-pub shape_of-file-then-not-row_passes : goal.shape_of-file-then-not-row_passes
-shape_of-file-then-not-row_passes c = c.loop-i.invariant.long
-
-pub shape_of-keys-then-not-row_passes : goal.shape_of-keys-then-not-row_passes
-shape_of-keys-then-not-row_passes c = c.loop-i.invariant.keys_long
 
 pub returns-then-not-row_passes : goal.returns-then-not-row_passes
 returns-then-not-row_passes c =
     let a = c.args in
     let l = c.loop-i in record { by_index = λ m p t none. rows_stop a.n m a.states a.start.at a.numbers.now p a.file.now a.start.pos l.i l.at l.file l.pos l.implied l.keys l.left (l.invariant.going m p t none) (omega (arith, c.loop-i-test.true)) _ (rw t (c.row_fault.ensures m)); near = tt }
 
-pub listed_row-requires : goal.listed_row-requires
-listed_row-requires c =
+pub listed_row-row-requires : goal.listed_row-row-requires
+listed_row-row-requires c =
     let a = c.args in
     let l = c.loop-i in
     row_there a.states a.types a.numbers.now l.at (sym c.row_passes.ensures ∙ c.if-not-row_passes.false) c.requires.0 c.requires.1
 
-pub keep_row-kept-requires : goal.keep_row-kept-requires
-keep_row-kept-requires c =
+pub keep_row-requires : goal.keep_row-requires
+keep_row-requires c =
     let a = c.args in
     let l = c.loop-i in
     let there = row_there a.states a.types a.numbers.now l.at (sym c.row_passes.ensures ∙ c.if-not-row_passes.false) c.requires.0 c.requires.1 in
     omega (arith, there.inside, l.invariant.reached, l.invariant.keys_long, c.requires.3, c.requires.4, c.loop-i-test.true)
 
-pub shape_of-file-then-kept : goal.shape_of-file-then-kept
-shape_of-file-then-kept c = c.loop-i.invariant.long
-
-pub shape_of-keys-then-kept : goal.shape_of-keys-then-kept
-shape_of-keys-then-kept c = c.keep_row-kept.ensures.long ∙ c.loop-i.invariant.keys_long
-
-pub returns-then-kept : goal.returns-then-kept
-returns-then-kept c =
+pub returns-in_default : goal.returns-in_default
+returns-in_default c =
     let a = c.args in
     let l = c.loop-i in record {
-      by_index = λ m p t none. row_is_twin a.n m a.states a.start.at a.numbers.now p a.file.now a.start.pos l.i l.at l.file l.pos l.implied l.keys l.left (l.invariant.going m p t none) (omega (arith, c.loop-i-test.true)) _ _ (l.at + 6) _ _ (c.listed_row.ensures.0 m)
-          (rw t (row_right a.states a.types a.numbers.now l.at (sym c.row_passes.ensures ∙ c.if-not-row_passes.false) m)) c.keep_row-kept.ensures c.if-kept.true;
+      by_index = λ m p t none. row_is_twin a.n m a.states a.start.at a.numbers.now p a.file.now a.start.pos l.i l.at l.file l.pos l.implied l.keys l.left (l.invariant.going m p t none) (omega (arith, c.loop-i-test.true)) _ _ (l.at + 6) _ (c.listed_row-row.ensures.0 m)
+          (rw t (row_right a.states a.types a.numbers.now l.at (sym c.row_passes.ensures ∙ c.if-not-row_passes.false) m)) c.in_default.ensures;
       near = tt;
     }
 
@@ -73,41 +57,26 @@ put_row-pos-requires c =
     let there = row_there a.states a.types a.numbers.now l.at (sym c.row_passes.ensures ∙ c.if-not-row_passes.false) c.requires.0 c.requires.1 in
     (there, omega (arith, there.inside, c.loop-i-test.true, l.invariant.behind, l.invariant.near, l.invariant.long, room.space, room.within))
 
-pub bounds-numbers-at : goal.bounds-numbers-at
-bounds-numbers-at c =
-    let a = c.args in
-    let l = c.loop-i in
-    let there = row_there a.states a.types a.numbers.now l.at (sym c.row_passes.ensures ∙ c.if-not-row_passes.false) c.requires.0 c.requires.1 in
-    omega (arith, there.inside)
-
-pub loop-i-smaller : goal.loop-i-smaller
-loop-i-smaller c = let i = c.loop-i.i in omega (arith, c.loop-i-test.true)
-
 pub loop-i-preserved : goal.loop-i-preserved
 loop-i-preserved c =
     let a = c.args in
     let l = c.loop-i in
     let passed = (sym c.row_passes.ensures ∙ c.if-not-row_passes.false) in
     let there = row_there a.states a.types a.numbers.now l.at passed c.requires.0 c.requires.1 in
+    let next = c.listed_row-row.ensures.1 in
     record {
       going =
           λ m p t none.
-          row_next a.n m a.states a.start.at a.numbers.now p a.file.now a.start.pos l.i l.at l.file l.pos l.implied l.keys l.left (l.invariant.going m p t none) (omega (arith, c.loop-i-test.true)) _ _ _ _ _ _ _ refl (c.listed_row.ensures.0 m)
-          (rw t (row_right a.states a.types a.numbers.now l.at passed m)) c.keep_row-kept.ensures (search rules) (c.put_row-pos.ensures.by_index m);
+          row_next a.n m a.states a.start.at a.numbers.now p a.file.now a.start.pos l.i l.at l.file l.pos l.implied l.keys l.left (l.invariant.going m p t none) (omega (arith, c.loop-i-test.true)) _ _ _ _ _ _ _ refl (c.listed_row-row.ensures.0 m)
+          (rw (t, next) (row_right a.states a.types a.numbers.now l.at passed m)) c.in-Some.ensures (c.put_row-pos.ensures.by_index m);
       within = omega (arith, c.loop-i-test.true);
-      reached = omega (arith, l.invariant.reached);
-      inside = there.inside;
-      behind = omega (arith, c.put_row-pos.ensures.upper_bound, l.invariant.behind);
+      reached = omega (arith, next, l.invariant.reached);
+      inside = omega (arith, next, there.inside);
+      behind = omega (arith, next, c.put_row-pos.ensures.upper_bound, l.invariant.behind);
       near = omega (arith, c.put_row-pos.ensures.upper_bound, l.invariant.near);
-      long = c.file-1.given ∙ l.invariant.long;
-      keys_long = c.keep_row-kept.ensures.long ∙ l.invariant.keys_long;
+      long = omega (arith, l.invariant.long);
+      keys_long = c.keep_row.ensures.long ∙ l.invariant.keys_long;
     }
-
-pub shape_of-file : goal.shape_of-file
-shape_of-file c = c.loop-i.invariant.long
-
-pub shape_of-keys : goal.shape_of-keys
-shape_of-keys c = c.loop-i.invariant.keys_long
 
 pub returns : goal.returns
 returns c =

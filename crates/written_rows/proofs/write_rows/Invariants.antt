@@ -1,6 +1,6 @@
 use mathlib.Core.Path.{◌≡◌}
 use mathlib.Core.List.{List, []}
-use Prim.Native.Nat.{ℕ, ◌+◌, ◌-◌, ◌*◌, ◌≤◌}
+use Prim.Native.Nat.{ℕ, ◌+◌, ◌*◌, ◌≤◌}
 use lib.ListN.{length}
 use Rattle.livelock.specs.Plants.{Plant}
 use Rattle.plant.specs.Limits.{most_row_bytes, rows_in}
@@ -21,6 +21,3 @@ pub record Inv (numbers : List ℕ) (n states types : ℕ) (file₀ keys₀ : Li
 abbrev pub invariant-loop-i : goal.invariant-loop-i
 invariant-loop-i l =
     Inv l.numbers l.n l.states l.types l.initial.file l.initial.keys l.initial.at l.initial.pos l.file l.keys l.at l.pos l.implied l.left l.i
-
-abbrev pub decreases-loop-i : goal.decreases-loop-i
-decreases-loop-i l = l.n - l.i

@@ -1,13 +1,7 @@
-use mathlib.Core.Path.{◌≡◌, ◌∙◌}
-use mathlib.Core.Bool.{true, false}
-use Prim.Native.Nat.{◌+◌}
 use native.Mathlib.Omega.{arith}
-use lib.IntN.{pos, ◌+ℤ◌}
-use lib.Signed.{le_z}
 use mir.Syntax.{w64}
 use mir.Facts.{to_z_pos, to_z-of_z}
-use Rattle.deciding.specs.Signs.{rise, fall}
-use Rattle.deciding.proofs.SignLaws.{difference_at_most, difference_above, difference_natural, difference_sum_of, along_fits, along_is}
+use Rattle.deciding.proofs.SignLaws.{along_fits, greater}
 use Rattle.deciding.proofs.relaxing.raised.Goals as goal
 
 -- `raised` meets its contract: the sum fits 64 bits, and the greater number is taken.
@@ -25,24 +19,12 @@ overflow_cast-at c = record { sfits = omega (arith, c.requires.0) }
 pub overflow_cast-result : goal.overflow_cast-result
 overflow_cast-result c =
     let a = c.args in
-    let e = along_is a.next a.length c.requires.1 c.requires.2 c.requires.3 c.ranges.length in
-    let over : le_z (pos a.next +ℤ a.length) (pos a.at) ≡ false = rw (e, to_z_pos w64 {n = a.at} (omega (arith, c.requires.0))) at c.if-along-at.false in
-    let above = difference_above (pos a.next +ℤ a.length) (rise a.length + a.next) (fall a.length) a.at (difference_sum_of a.next a.length) over in
-    let natural = difference_natural (pos a.next +ℤ a.length) (rise a.length + a.next) (fall a.length) (difference_sum_of a.next a.length) (omega arith) in
-    rw e (natural.0, record { fits = omega (arith, natural.1, c.requires.1, c.requires.2) })
+    let p = c.requires in
+    let m = greater a.next a.length p.1 p.2 p.3 a.at p.0 c.ranges.length _ (record { sfits = c.max.type_inv }) c.max.ensures.value in
+    (m.0, record { fits = omega (arith, m.1, p.0, p.1, p.2) })
 
-pub returns-then-along-at : goal.returns-then-along-at
-returns-then-along-at c =
+pub returns : goal.returns
+returns c =
     let a = c.args in
-    let e = along_is a.next a.length c.requires.1 c.requires.2 c.requires.3 c.ranges.length in
-    let under : le_z (pos a.next +ℤ a.length) (pos a.at) ≡ true = rw (e, to_z_pos w64 {n = a.at} (omega (arith, c.requires.0))) at c.if-along-at.true in
-    omega (arith, difference_at_most (pos a.next +ℤ a.length) (rise a.length + a.next) (fall a.length) a.at (difference_sum_of a.next a.length) under)
-
-pub returns-else-along-at : goal.returns-else-along-at
-returns-else-along-at c =
-    let a = c.args in
-    let e = along_is a.next a.length c.requires.1 c.requires.2 c.requires.3 c.ranges.length in
-    let over : le_z (pos a.next +ℤ a.length) (pos a.at) ≡ false = rw (e, to_z_pos w64 {n = a.at} (omega (arith, c.requires.0))) at c.if-along-at.false in
-    let above = difference_above (pos a.next +ℤ a.length) (rise a.length + a.next) (fall a.length) a.at (difference_sum_of a.next a.length) over in
-    let natural = difference_natural (pos a.next +ℤ a.length) (rise a.length + a.next) (fall a.length) (difference_sum_of a.next a.length) (omega arith) in
-    rw e (natural.1 ∙ omega arith)
+    let p = c.requires in
+    (greater a.next a.length p.1 p.2 p.3 a.at p.0 c.ranges.length _ (record { sfits = c.max.type_inv }) c.max.ensures.value).1

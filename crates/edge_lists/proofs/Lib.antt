@@ -1,3 +1,0 @@
--- Laws of an edge list.
-pub mod StoreLaws
-pub mod WordLaws

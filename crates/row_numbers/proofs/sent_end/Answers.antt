@@ -1,9 +1,0 @@
-use borrow.Author.Tests.{eq-eqb, ne_eqb}
-use Rattle.row_numbers.proofs.sent_end.Goals as goal
-
--- `sent_end` meets its contract: by its test.
-pub returns-then-kind-eq3 : goal.returns-then-kind-eq3
-returns-then-kind-eq3 c = rw (eq-eqb _ _ c.if-kind-eq3.true)
-
-pub returns : goal.returns
-returns c = rw (ne_eqb _ _ c.if-kind-eq3.false)
