@@ -165,7 +165,7 @@ def signed(z):
 
 
 def option(x):
-    return 'none' if x is None else '(some %d)' % x
+    return 'None' if x is None else '(Some %d)' % x
 
 
 def truth(b):
@@ -185,7 +185,7 @@ def entry_text(entry):
 
 HEADER = '''use mathlib.Core.Path.{◌≡◌, refl}
 use mathlib.Core.Bool.{Bool, true, false}
-use mathlib.Core.Option.{Option, none, some}
+use Rattle.std.specs.Prelude.{Option, None, Some}
 use mathlib.Core.List.{List, [], ◌∷◌}
 use Prim.Native.Nat.{ℕ}
 use lib.ListN.{get_or}

@@ -272,7 +272,7 @@ def proved_bytes(path, name, argument=None):
 
 
 def hold_examples():
-    run, proved = 'crates/worked_examples_run/src/plants.rt', 'crates/worked_examples/specs/Files.antt'
+    run, proved = 'crates/example_plants/src/lib.rt', 'crates/worked_examples/specs/Files.antt'
     for folder, const, name in (('plant_a', 'PLANT_A', 'file_a'), ('plant_b', 'PLANT_B', 'file_b'), ('two_clients', 'TWO_CLIENTS', 'two_clients_file'),
                                 ('two_clients_in_turn', 'TWO_CLIENTS_IN_TURN', 'two_clients_in_turn_file'), ('detour', 'DETOUR', 'detour')):
         with open(os.path.join(ROOT, 'examples', folder, 'plant.bin'), 'rb') as source:

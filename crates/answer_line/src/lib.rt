@@ -62,8 +62,8 @@ fn write_refused(fault: Fault, line: &mut [u8]) -> usize
 }
 
 // The line of an answer and of the list after weighing.
-fn write_answer(answer: Result<Weighed, Fault>, cycle: &[u16], line: &mut [u8]) -> usize
-    requires { FewRows (answer_of answer) × (64 ≤ length cycle.now) × (512 ≤ length line.old) }
+fn write_answer(answer: Result<Weighed, Fault>, cycle: &[u16; 64], line: &mut [u8]) -> usize
+    requires { FewRows (answer_of answer) × (512 ≤ length line.old) }
     ensures { WroteLine line.old line.new result (line_of (answer_of answer) cycle.now) }
 {
     match answer {

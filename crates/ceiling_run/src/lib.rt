@@ -48,12 +48,12 @@ fn read_named(rt: &impl Files, path: &str, buf: &mut [u8]) -> usize
 struct Held<'a> {
     buffer: &'a [u8],
     count: usize,
+    ghost at_start: { IsPrefixLen count buffer.now },
 }
 
 impl Held<'_> {
     // The bytes of the file.
     fn bytes(&self) -> &[u8]
-        requires { IsPrefixLen self.now.count self.now.buffer.now }
         ensures { result.now ≡ take self.now.count self.now.buffer.now }
     {
         &self.buffer[..self.count]
@@ -74,8 +74,7 @@ fn write_owed<R: Print + Eprint>(rt: &R, plant: Held, weights: Held, line: &[u8]
 // Prints the line for the two files. A plant has at most `longest_file` bytes and its weights at most 128:
 // longer files are refused by what the buffers hold of them, if that is one byte more than a plant has, and two more than its weights.
 fn print_line<R: Print + Eprint>(rt: &R, plant: Held, weights: Held)
-    requires { IsPrefixLen plant.count plant.buffer.now × IsPrefixLen weights.count weights.buffer.now
-        × (longest_file < length plant.buffer.now) × (130 ≤ length weights.buffer.now) }
+    requires { (longest_file < length plant.buffer.now) × (130 ≤ length weights.buffer.now) }
 {
     let mut line = [0u8; 512];
     let end = answer_line::write_line(plant.bytes(), weights.bytes(), &mut line);

@@ -1,14 +1,14 @@
 -- Laws of one round of the search: from the walks of k edges to those of k + 1, edge after edge.
-use mathlib.Core.Path.{◌≡◌, refl, sym, ◌∙◌}
+use mathlib.Core.Path.{◌≡◌, refl, sym, ◌∙◌, subst}
 use mathlib.Core.Logic.{◌≢◌}
 use mathlib.Core.Bool.{true, false}
-use mathlib.Core.List.{List}
-use Prim.Native.Nat.{ℕ, ◌+◌, ◌-◌, ◌*◌, ◌≤◌, ◌<◌, max}
+use mathlib.Core.List.{List, []}
+use Prim.Native.Nat.{ℕ, ◌+◌, ◌-◌, ◌≤◌, ◌<◌, max}
 use native.Mathlib.Decide.{ℕ_discrete}
 use native.Mathlib.Numerals.{add-one}
 use native.Mathlib.Omega.{arith}
 use lib.Dec.{ltb}
-use lib.ListN.{length, length-set, set}
+use lib.ListN.{length, get_or, length-set, set}
 use lib.Seq.{get_or-set_same, get_or-set_other}
 use borrow.Author.Tests.{ne_eqb, ltb-true, ltb-false}
 use Rattle.livelock.specs.Lists.{below, greatest}
@@ -17,32 +17,63 @@ use Rattle.livelock.proofs.SumLaws.{greatest_next, greatest_bound}
 use Rattle.livelock.specs.Graphs.{Graph, via}
 use Rattle.livelock.proofs.Graphs.{via_edge, via_bound}
 use Rattle.edge_lists.specs.declared.Edge.{Edge}
-use Rattle.edge_lists.specs.EdgeLists.{edge_in}
-use Rattle.deciding.specs.Signs.{rise, fall}
-use Rattle.deciding.specs.Rounds.{edge_graph, EdgesIn}
-use Rattle.closed_walks.specs.ClosedWalks.{entry, NotedRoom}
-use Rattle.closed_walks.specs.Inner.Rounds.{number, Low, Zeros, Round}
+use Rattle.edge_lists.specs.EdgeLists.{edge_in, EdgesIn}
+use Rattle.edge_lists.specs.Signs.{rise, fall}
+use Rattle.deciding.specs.Rounds.{edge_graph}
+use Rattle.closed_walks.specs.ClosedWalks.{entry}
+use Rattle.closed_walks.specs.Inner.Rounds.{number, Low, Zeros, Square, Round}
+
+-- ---- the rows of first edges
+
+-- One byte stored in a row.
+abbrev pub noted_at : List (List ℕ) → ℕ → ℕ → ℕ → List (List ℕ)
+noted_at noted k a v = set noted k (set (get_or noted k []) a v)
+
+module _ {size : ℕ} {noted : List (List ℕ)} (square : Square size noted) (k a v : ℕ) (row_in : k < size) where
+  -- The rows stay as long as they are.
+  pub square_noted : Square size (noted_at noted k a v)
+  square_noted = record { rows = length-set noted k _ ∙ square.rows; long = λ j l. go j l (ℕ_discrete j k) }
+    where
+      go : (j : ℕ) → j < size → Dec (j ≡ k) → length (get_or (noted_at noted k a v) j []) ≡ size
+      go j l (yes e) = rw (e, get_or-set_same noted k (set (get_or noted k []) a v) [] (omega (arith, square.rows))) (length-set (get_or noted k []) a v ∙ square.long k row_in)
+      go j l (no e) = rw (get_or-set_other noted k j (set (get_or noted k []) a v) [] e) (square.long j l)
+
+  -- The row has it at its place,
+  pub entry_here : a < size → entry (noted_at noted k a v) k a ≡ v
+  entry_here l =
+      rw (get_or-set_same noted k (set (get_or noted k []) a v) [] (omega (arith, square.rows)))
+      (get_or-set_same (get_or noted k []) a v 0 (omega (arith, square.long k row_in)))
+
+  -- and elsewhere what it had.
+  pub entry_elsewhere : (s : ℕ) → s ≢ a → entry (noted_at noted k a v) k s ≡ entry noted k s
+  entry_elsewhere s e =
+      rw (get_or-set_same noted k (set (get_or noted k []) a v) [] (omega (arith, square.rows))) (get_or-set_other (get_or noted k []) a s v 0 e)
 
 -- ---- one round
 
-module _ (list : List Edge) (k : ℕ) (shorter : List ℕ) (ok : EdgesIn (length shorter) list) (edges-before : List ℕ) where
+-- The edges between so many states, which are as many as the table has numbers.
+pub edges_between : {states count : ℕ} {list : List Edge} → count ≡ states → EdgesIn states list → EdgesIn count list
+edges_between {list = list} same ok = subst (λ (n : ℕ). EdgesIn n list) (sym same) ok
+
+module _ (list : List Edge) (size k : ℕ) (shorter : List ℕ) (ok : EdgesIn (length shorter) list) (before : List (List ℕ)) where
   abbrev g : Graph
   g = edge_graph list
 
   -- With no edge gone along yet.
-  pub round_starts : (longer : List ℕ) → length longer ≡ length shorter → Zeros longer → Round (edge_graph list) 0 k shorter longer edges-before edges-before
+  pub round_starts : (longer : List ℕ) → length longer ≡ length shorter → Zeros longer → Square size before
+      → Round (edge_graph list) size 0 k shorter longer before before
   unfolding greatest below
-  round_starts longer room zeros =
+  round_starts longer room zeros square =
       record {
         same_length = room;
-        same_edges = refl;
+        square = square;
         relaxed = λ s l. zeros s;
         noted_in = λ s l m. absurd (omega (arith, zeros s));
         attained = λ s l m. absurd (omega (arith, zeros s));
-        edges_kept = λ j l. refl;
+        rows_kept = λ j l. refl;
       }
 
-  module _ {i : ℕ} {longer edges : List ℕ} (r : Round (edge_graph list) i k shorter longer edges-before edges) (there : i < length list) where
+  module _ {i : ℕ} {longer : List ℕ} {edges : List (List ℕ)} (r : Round (edge_graph list) size i k shorter longer before edges) (there : i < length list) where
     -- The state that edge i leaves, and the weight along it and on.
     abbrev a : ℕ
     a = (edge_in list i).from
@@ -71,15 +102,15 @@ module _ (list : List Edge) (k : ℕ) (shorter : List ℕ) (ok : EdgesIn (length
 
     -- The edge does not lead to more,
     pub edge_keeps : ltb (number longer (edge_in list i).from) ((rise (edge_in list i).weight + number shorter (edge_in list i).to) - fall (edge_in list i).weight) ≡ false
-        → Round (edge_graph list) (i + 1) k shorter longer edges-before edges
+        → Round (edge_graph list) size (i + 1) k shorter longer before edges
     edge_keeps test =
         record {
           same_length = r.same_length;
-          same_edges = r.same_edges;
+          square = r.square;
           relaxed = λ s l. go s l (ℕ_discrete s a);
           noted_in = λ s l m. omega (arith, r.noted_in s l m);
           attained = r.attained;
-          edges_kept = r.edges_kept;
+          rows_kept = r.rows_kept;
         }
       where
         go : (s : ℕ) → s < length shorter → Dec (s ≡ a) → number longer s ≡ greatest (via g (number shorter) s) (below (i + 1))
@@ -90,12 +121,15 @@ module _ (list : List Edge) (k : ℕ) (shorter : List ℕ) (ok : EdgesIn (length
     -- note, and from there this edge leads nowhere. At a the number of this edge is now the greatest, for it is above that of the edges before.
     module _ (v : ℕ) (is-raised : v ≡ max (number longer (edge_in list i).from) ((rise (edge_in list i).weight + number shorter (edge_in list i).to) - fall (edge_in list i).weight))
         (test : ltb (number longer (edge_in list i).from) ((rise (edge_in list i).weight + number shorter (edge_in list i).to) - fall (edge_in list i).weight) ≡ true)
-        (edge_room : NotedRoom (length shorter) edges-before) (few : k < length shorter) where
+        (within : length shorter ≤ size) (few : k < length shorter) where
       abbrev walks : List ℕ
       walks = set longer a v
 
-      abbrev noted : List ℕ
-      noted = set edges (k * 64 + a) i
+      abbrev noted : List (List ℕ)
+      noted = noted_at edges k a i
+
+      row_in : k < size
+      row_in = omega arith
 
       -- The state has a number,
       a_in : a < length shorter
@@ -106,37 +140,37 @@ module _ (list : List Edge) (k : ℕ) (shorter : List ℕ) (ok : EdgesIn (length
       at_a = get_or-set_same longer a v 0 (omega (arith, r.same_length, a_in)) ∙ omega (arith, is-raised, ltb-true (number longer a) along test)
 
       -- and the edge is noted.
-      edge_at_a : entry noted (k * 64) a ≡ i
-      edge_at_a = get_or-set_same edges (k * 64 + a) i 0 (omega (arith, edge_room, few, r.same_edges, a_in, ok.states_in))
+      edge_at_a : entry noted k a ≡ i
+      edge_at_a = entry_here r.square k a i row_in (omega (arith, a_in))
 
       -- Another state keeps its number
       elsewhere : (s : ℕ) → s ≢ a → number walks s ≡ number longer s
       elsewhere s e = get_or-set_other longer a s v 0 e
 
       -- and its note.
-      edge_elsewhere : (s : ℕ) → s ≢ a → entry noted (k * 64) s ≡ entry edges (k * 64) s
-      edge_elsewhere s e = get_or-set_other edges (k * 64 + a) (k * 64 + s) i 0 (λ q. e (omega arith))
+      edge_elsewhere : (s : ℕ) → s ≢ a → entry noted k s ≡ entry edges k s
+      edge_elsewhere s e = entry_elsewhere r.square k a i row_in s e
 
       -- So the first i + 1 edges were gone along.
-      pub edge_raises : Round (edge_graph list) (i + 1) k shorter (set longer (edge_in list i).from v) edges-before (set edges (k * 64 + (edge_in list i).from) i)
+      pub edge_raises : Round (edge_graph list) size (i + 1) k shorter (set longer (edge_in list i).from v) before (noted_at edges k (edge_in list i).from i)
       edge_raises =
           record {
             same_length = length-set longer a v ∙ r.same_length;
-            same_edges = length-set edges (k * 64 + a) i ∙ r.same_edges;
+            square = square_noted r.square k a i row_in;
             relaxed = λ s l. relaxed_at s l (ℕ_discrete s a);
-            noted_in = λ s l m. noted_at s l m (ℕ_discrete s a);
+            noted_in = λ s l m. edge_in_at s l m (ℕ_discrete s a);
             attained = λ s l m. attained_at s l m (ℕ_discrete s a);
-            edges_kept = λ j l. get_or-set_other edges (k * 64 + a) j i 0 (λ q. omega arith) ∙ r.edges_kept j l;
+            rows_kept = λ j l. get_or-set_other edges k j _ [] (λ q. omega arith) ∙ r.rows_kept j l;
           }
         where
           relaxed_at : (s : ℕ) → s < length shorter → Dec (s ≡ a) → number walks s ≡ greatest (via g (number shorter) s) (below (i + 1))
           relaxed_at s l (yes e) = rw e (omega (arith, at_a, r.relaxed a a_in, more a, via_here, ltb-true (number longer a) along test))
           relaxed_at s l (no e) = omega (arith, elsewhere s e, r.relaxed s l, more s, via_elsewhere s e)
 
-          noted_at : (s : ℕ) → s < length shorter → 0 < number walks s → Dec (s ≡ a) → entry noted (k * 64) s < i + 1
-          noted_at s l m (yes e) = rw e (omega (arith, edge_at_a))
-          noted_at s l m (no e) = omega (arith, edge_elsewhere s e, r.noted_in s l (omega (arith, elsewhere s e)))
+          edge_in_at : (s : ℕ) → s < length shorter → 0 < number walks s → Dec (s ≡ a) → entry noted k s < i + 1
+          edge_in_at s l m (yes e) = rw e (omega (arith, edge_at_a))
+          edge_in_at s l m (no e) = omega (arith, edge_elsewhere s e, r.noted_in s l (omega (arith, elsewhere s e)))
 
-          attained_at : (s : ℕ) → s < length shorter → 0 < number walks s → Dec (s ≡ a) → number walks s ≡ via g (number shorter) s (entry noted (k * 64) s)
+          attained_at : (s : ℕ) → s < length shorter → 0 < number walks s → Dec (s ≡ a) → number walks s ≡ via g (number shorter) s (entry noted k s)
           attained_at s l m (yes e) = rw (e, edge_at_a) (at_a ∙ sym via_here)
           attained_at s l m (no e) = rw (edge_elsewhere s e) (elsewhere s e ∙ r.attained s l (omega (arith, elsewhere s e)))

@@ -1,49 +1,32 @@
 -- Laws of the rounds from one start: from the walks without edges on, up to the least number of edges with which one closes.
-use mathlib.Core.Path.{◌≡◌, refl, sym, ◌∙◌, subst}
+use mathlib.Core.Path.{◌≡◌, sym, ◌∙◌, subst}
 use mathlib.Core.Logic.{◌⊎◌, inl, inr}
 use mathlib.Core.Bool.{true, false, cond}
-use mathlib.Core.List.{List, ◌++◌, append-nil}
-use Prim.Native.Nat.{ℕ, suc, ◌+◌, ◌*◌, ◌≤◌, ◌<◌}
+use mathlib.Core.List.{List}
+use Prim.Native.Nat.{ℕ, suc, ◌+◌, ◌≤◌, ◌<◌}
 use native.Mathlib.Nat.{not-suc-le-zero}
-use native.Mathlib.Decide.{ℕ_discrete, dec_lt}
+use native.Mathlib.Decide.{ℕ_discrete}
 use native.Mathlib.Numerals.{add-one}
 use native.Mathlib.Omega.{arith}
 use Rattle.std.specs.Prelude.{Some, None}
-use lib.ListN.{length, take, drop, replicate, length-set, set}
-use lib.Seq.{take-length, drop-length, get_or-set_same, get_or-set_other}
+use lib.ListN.{length, length-set, set}
+use lib.Seq.{get_or-set_same, get_or-set_other}
 use lib.IntN.{ℤ, pos, ◌-ℤ◌}
-use lib.Signed.{le_z, le_z_yes}
+use lib.Signed.{le_z}
 use lib.Dec.{eqb}
 use mir.Syntax.{w64}
+use Rattle.std.proofs.lemmas.Int.{ints}
 use mir.Val.{SFits, to_z, of_z}
-use mir.Facts.{to_z-of_z}
 use borrow.Author.Tests.{eq-eqb, ne_eqb}
 use Rattle.livelock.specs.Lists.{below}
 use Rattle.livelock.proofs.ListLaws.{all_below}
 use Rattle.livelock.proofs.SumLaws.{greatest_equal}
-use Rattle.livelock.specs.Differences.{Difference}
-use Rattle.livelock.proofs.Differences.{difference_minus, not_negative_iff}
 use Rattle.livelock.specs.Graphs.{Graph, via}
 use Rattle.livelock.proofs.Graphs.{Leads, via_leads}
 use Rattle.livelock.proofs.Rounds.{via_equal}
-use Rattle.deciding.proofs.DecisionLaws.{zeros}
-use Rattle.closed_walks.specs.ClosedWalks.{origin, heaviest, Closes, entry, NotedRoom, FirstEdge, FirstEdges, LeastFrom}
-use Rattle.closed_walks.specs.Inner.Rounds.{number, Low, Zeros, Round, Exactly}
+use Rattle.closed_walks.specs.ClosedWalks.{origin, heaviest, Closes, entry, FirstEdge, FirstEdges, LeastFrom}
+use Rattle.closed_walks.specs.Inner.Rounds.{number, Low, Zeros, Square, Round, Exactly}
 use Rattle.closed_walks.proofs.WalkLaws.{Searchable, heaviest_bound}
-
--- ---- tables as the code lends them
-
--- A table that was lent whole is as the callee left it,
-pub lent_whole : (table after : List ℕ) → after ++ drop (length table) table ≡ after
-lent_whole table after = rw drop-length (append-nil after)
-
--- and one that was filled has zeros.
-pub filled : (table after : List ℕ) → after ≡ replicate (length (take (length table) table)) 0 → after ++ drop (length table) table ≡ replicate (length table) 0
-filled table after is = lent_whole table after ∙ is ∙ rw take-length refl
-
--- A table of zeros.
-pub zeros_in : (n : ℕ) → Zeros (replicate n 0)
-zeros_in n s = omega (arith, zeros n s)
 
 -- ---- rounds
 
@@ -56,8 +39,8 @@ exactly_none g start walks h zeros s l = go (ℕ_discrete s start)
     go (yes q) = rw (eq-eqb s start q, q) (get_or-set_same walks start origin 0 h)
     go (no q) = rw (ne_eqb s start q) (get_or-set_other walks start s origin 0 q ∙ zeros s)
 
-module _ {g : Graph} {k : ℕ} {shorter longer edges-before edges : List ℕ} (ok : Searchable g (length shorter)) (start : ℕ) (exact : Exactly g start k shorter)
-    (r : Round g g.size k shorter longer edges-before edges) where
+module _ {g : Graph} {size k : ℕ} {shorter longer : List ℕ} {before edges : List (List ℕ)} (ok : Searchable g (length shorter)) (start : ℕ) (exact : Exactly g start k shorter)
+    (r : Round g size g.size k shorter longer before edges) where
   -- One edge, and on as far as the table says: only its numbers for the states matter.
   along_equal : (s e : ℕ) → e < g.size → via g (number shorter) s e ≡ via g (heaviest g start k) s e
   along_equal s e l = via_equal g (number shorter) (heaviest g start k) s e (λ c. exact (g.dst e) (ok.within e (l, c)).1)
@@ -73,11 +56,11 @@ module _ {g : Graph} {k : ℕ} {shorter longer edges-before edges : List ℕ} (o
   exactly_next s l = rw (add-one k) (exactly_suc s (omega (arith, l, r.same_length)))
 
   -- and notes their first edges.
-  noted_here : (s : ℕ) → s < length shorter → 0 < heaviest g start (suc k) s → FirstEdge g start k s (entry edges (k * 64) s)
+  noted_here : (s : ℕ) → s < length shorter → 0 < heaviest g start (suc k) s → FirstEdge g start k s (entry edges k s)
   noted_here s l m = go (via_leads g (heaviest g start k) s e)
     where
       e : ℕ
-      e = entry edges (k * 64) s
+      e = entry edges k s
 
       some : 0 < number longer s
       some = omega (arith, exactly_suc s l)
@@ -93,46 +76,46 @@ module _ {g : Graph} {k : ℕ} {shorter longer edges-before edges : List ℕ} (o
       go (inr d) = record { there = (e_in, d.counted); leaves = d.from; worth = omega (arith, worth, d.long) }
 
   -- So those of 1 to k + 1 edges are noted: this round's at places of their own, behind those of the rounds before, which it kept.
-  first_edges_next : FirstEdges g (length shorter) start k edges-before → FirstEdges g (length shorter) start (k + 1) edges
+  first_edges_next : FirstEdges g (length shorter) start k before → FirstEdges g (length shorter) start (k + 1) edges
   first_edges_next h j s x l m = go (ℕ_discrete j k)
     where
-      go : Dec (j ≡ k) → FirstEdge g start j s (entry edges (j * 64) s)
+      go : Dec (j ≡ k) → FirstEdge g start j s (entry edges j s)
       go (yes e) = rw e (noted_here s l (rw e at m))
-      go (no e) = rw (r.edges_kept (j * 64 + s) (omega (arith, ok.states_in))) (h j s (omega arith) l m)
+      go (no e) = rw (r.rows_kept j (omega arith)) (h j s (omega arith) l m)
 
 -- After k rounds from `start` the table `shorter` has the walks of exactly k edges, and the first edges of the walks of 1 to k edges are noted.
-pub record Searched (g : Graph) (states start k : ℕ) (shorter longer noted : List ℕ) : Type 0 where
+pub record Searched (g : Graph) (size states start k : ℕ) (shorter longer : List ℕ) (noted : List (List ℕ)) : Type 0 where
   pub room : length shorter ≡ states
   pub next_room : length longer ≡ states
-  pub edge_room : NotedRoom states noted
+  pub square : Square size noted
   pub exact : Exactly g start k shorter
   pub first_edges : FirstEdges g states start k noted
 
 -- Before the first round.
-pub searched_first : (g : Graph) (states start : ℕ) (walks longer noted : List ℕ) → start < states → length walks ≡ states → Zeros walks
-    → length longer ≡ states → NotedRoom states noted → Searched g states start 0 (set walks start origin) longer noted
-searched_first g states start walks longer noted h long zeros next_room room =
+pub searched_first : (g : Graph) (size states start : ℕ) (walks longer : List ℕ) (noted : List (List ℕ)) → start < states → length walks ≡ states → Zeros walks
+    → length longer ≡ states → Square size noted → Searched g size states start 0 (set walks start origin) longer noted
+searched_first g size states start walks longer noted h long zeros next_room square =
     record {
       room = length-set walks start origin ∙ long;
       next_room = next_room;
-      edge_room = room;
+      square = square;
       exact = exactly_none g start walks (omega (arith, h, long)) zeros;
       first_edges = λ j s x l m. absurd (not-suc-le-zero x);
     }
 
-module _ {g : Graph} {states start k : ℕ} {shorter longer noted : List ℕ} (ok : Searchable g states) (h : Searched g states start k shorter longer noted) where
+module _ {g : Graph} {size states start k : ℕ} {shorter longer : List ℕ} {noted : List (List ℕ)} (ok : Searchable g states) (h : Searched g size states start k shorter longer noted) where
   -- There is room for one edge more.
   pub searched_low : k ≤ 64 → Low shorter
   searched_low few s l = omega (arith, h.exact s l, heaviest_bound g start ok.light k s)
 
   -- One round more, after which the tables change places.
-  pub searched_next : {after edges : List ℕ} → Round g g.size k shorter after noted edges → Searched g states start (k + 1) after shorter edges
+  pub searched_next : {after : List ℕ} {edges : List (List ℕ)} → Round g size g.size k shorter after noted edges → Searched g size states start (k + 1) after shorter edges
   searched_next {after} {edges} r =
       let ok-here = subst (Searchable g) (sym h.room) ok in
       record {
         room = r.same_length ∙ h.room;
         next_room = h.room;
-        edge_room = omega (arith, r.same_edges, h.edge_room);
+        square = r.square;
         exact = exactly_next ok-here start h.exact r;
         first_edges = subst (λ (n : ℕ). FirstEdges g n start (k + 1) edges) h.room (first_edges_next ok-here start h.exact r (subst (λ (n : ℕ). FirstEdges g n start k noted) (sym h.room) h.first_edges));
       }
@@ -141,20 +124,13 @@ module _ {g : Graph} {states start k : ℕ} {shorter longer noted : List ℕ} (o
 
 -- The code's signed number z is the weight of a walk of the table.
 module _ (value : ℕ) (z : ℤ) (fits : SFits w64 z) (is-weight : z ≡ pos value -ℤ pos origin) where
-  is_difference : Difference (to_z w64 (of_z w64 z)) value origin
-  is_difference = rw (to_z-of_z fits, is-weight) (difference_minus value origin)
-
   -- It is zero or more,
   pub weighs_zero_or_more : le_z (pos 0) (to_z w64 (of_z w64 z)) ≡ true → origin ≤ value
-  weighs_zero_or_more test = (not_negative_iff (to_z w64 (of_z w64 z)) value origin is_difference).0 (le_z_yes (rw test tt))
+  weighs_zero_or_more test = grind (arith, ints)
 
   -- or below zero.
   pub weighs_below_zero : le_z (pos 0) (to_z w64 (of_z w64 z)) ≡ false → value < origin
-  weighs_below_zero test =
-      elim (dec_lt value origin) [
-        | yes less ↦ less
-        | no enough ↦ absurd (rw test at ((not_negative_iff (to_z w64 (of_z w64 z)) value origin is_difference).1 (omega arith)).le)
-      ]
+  weighs_below_zero test = grind (arith, ints)
 
 -- ---- the least number of edges from one start
 

@@ -15,7 +15,8 @@ use Rattle.livelock.proofs.ListLaws.{all_below}
 use Rattle.livelock.proofs.SumLaws.{greatest_bound, greatest_attained, greatest_below}
 use Rattle.livelock.specs.Graphs.{Graph, IsEdge, via}
 use Rattle.livelock.proofs.Graphs.{Within, via_edge, Leads, via_leads, via_bound}
-use Rattle.deciding.specs.Rounds.{edge_graph, EdgesIn}
+use Rattle.deciding.specs.Rounds.{edge_graph}
+use Rattle.edge_lists.specs.EdgeLists.{EdgesIn}
 use Rattle.deciding.proofs.DecisionLaws.{edges_within}
 use Rattle.closed_walks.specs.ClosedWalks.{origin, heaviest, Closes}
 

@@ -1,5 +1,5 @@
 -- Closed walks from one start: the heaviest walks of exactly k edges, their first edges, and the least k with which one weighs zero or more.
-use Rattle.std.specs.Prelude.{◌≡◌, cond, List, ℕ, zero, suc, ◌+◌, ◌*◌, ◌≤◌, ◌<◌, length, get_or, eqb, Option, IfSome, MatchOption}
+use Rattle.std.specs.Prelude.{◌≡◌, cond, List, [], ℕ, zero, suc, ◌+◌, ◌≤◌, ◌<◌, get_or, eqb, Option, IfSome, MatchOption}
 use Rattle.livelock.specs.Lists.{below, greatest}
 use Rattle.livelock.specs.Graphs.{Graph, IsEdge, via}
 
@@ -16,13 +16,9 @@ heaviest g start (suc k) s = greatest (via g (heaviest g start k) s) (below g.si
 abbrev pub Closes : Graph → ℕ → ℕ → Type 0
 Closes g start k = origin ≤ heaviest g start k start
 
--- The number for state s of those that begin at `at`.
-abbrev pub entry : List ℕ → ℕ → ℕ → ℕ
-entry noted at s = get_or noted (at + s) 0
-
--- The list of first edges has 64 for each state: there is a place for each walk of at most as many edges, and each state.
-abbrev pub NotedRoom : ℕ → List ℕ → Type 0
-NotedRoom states noted = 64 * states ≤ length noted
+-- What is noted for state s in row k.
+abbrev pub entry : List (List ℕ) → ℕ → ℕ → ℕ
+entry noted k s = get_or (get_or noted k []) s 0
 
 -- Edge e is the first of a heaviest walk of k + 1 edges from s.
 pub record FirstEdge (g : Graph) (start k s e : ℕ) : Type 0 where
@@ -30,9 +26,9 @@ pub record FirstEdge (g : Graph) (start k s e : ℕ) : Type 0 where
   pub leaves : g.src e ≡ s
   pub worth : heaviest g start (suc k) s + g.minus e ≡ g.plus e + heaviest g start k (g.dst e)
 
--- The first edges of the heaviest walks of 1 to k edges stand in the list.
-abbrev pub FirstEdges : Graph → ℕ → ℕ → ℕ → List ℕ → Type 0
-FirstEdges g states start k edges = (j s : ℕ) → j < k → s < states → 0 < heaviest g start (suc j) s → FirstEdge g start j s (entry edges (j * 64) s)
+-- The first edges of the heaviest walks of 1 to k edges are noted, those of j + 1 edges in row j.
+abbrev pub FirstEdges : Graph → ℕ → ℕ → ℕ → List (List ℕ) → Type 0
+FirstEdges g states start k noted = (j s : ℕ) → j < k → s < states → 0 < heaviest g start (suc j) s → FirstEdge g start j s (entry noted j s)
 
 -- `shortest` is the least number of edges up to `limit` with which a closed walk from `start` weighs zero or more, or `None` if none does.
 pub record LeastFrom (g : Graph) (start limit : ℕ) (shortest : Option ℕ) : Type 0 where
@@ -42,5 +38,5 @@ pub record LeastFrom (g : Graph) (start limit : ℕ) (shortest : Option ℕ) : T
   pub least : (j : ℕ) → 1 ≤ j → MatchOption shortest (j ≤ limit) (λ k. j < k) → Closes g start j → ⊥
 
 -- Where it was found, the first edges of the heaviest walks of up to k edges are noted.
-abbrev pub Noted : Graph → ℕ → ℕ → Option ℕ → List ℕ → Type 0
-Noted g states start shortest edges = IfSome shortest (λ k. FirstEdges g states start k edges)
+abbrev pub Noted : Graph → ℕ → ℕ → Option ℕ → List (List ℕ) → Type 0
+Noted g states start shortest noted = IfSome shortest (λ k. FirstEdges g states start k noted)

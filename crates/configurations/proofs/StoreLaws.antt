@@ -1,15 +1,12 @@
 -- Laws of lists as functions: a list with one number stored is the function with one value updated.
 use mathlib.Core.Path.{◌≡◌, sym, ◌∙◌, subst}
-use mathlib.Core.Option.{some}
 use mathlib.Core.List.{List}
 use Prim.Native.Nat.{ℕ, ◌<◌}
 use native.Mathlib.Decide.{ℕ_discrete}
 use lib.ListN.{length, get_or, set}
 use lib.Seq.{get_or-set_same, get_or-set_other}
-use borrow.Author.Tests.{lt-ltb}
 use Rattle.livelock.specs.Runs.{update}
 use Rattle.livelock.proofs.SumLaws.{update_same, update_other}
-use Rattle.plant.specs.Steps.{type_of}
 use Rattle.configurations.specs.Configurations.{content_in}
 
 module _ (l : List ℕ) (t v : ℕ) (h : t < length l) where
@@ -23,7 +20,3 @@ module _ (l : List ℕ) (t v : ℕ) (h : t < length l) where
   -- One number stored is one value updated.
   pub stored : content_in (set l t v) ≡ update (content_in l) t v
   stored = λ i u. stored_at u i
-
--- A number below 64 is a type.
-pub a_type : (t : ℕ) → t < 64 → type_of t ≡ some t
-a_type t h = simp (lt-ltb t 64 h)

@@ -1,8 +1,8 @@
 -- A configuration in lists of states and of contents, and what the functions over such lists give.
-use Rattle.std.specs.Prelude.{◌≡◌, Bool, true, List, ℕ, ◌<◌, ◌^◌, length, get_or}
+use Rattle.std.specs.Prelude.{◌≡◌, Bool, true, List, ℕ, ◌≤◌, ◌<◌, ◌^◌, length, get_or, Option}
+use Rattle.std.specs.Option.{ForSome}
 use Rattle.livelock.specs.Plants.{Plant, row_at, row_count}
 use Rattle.livelock.specs.Runs.{Configuration, row, removed, added, can_happen, changed}
-use Rattle.plant.specs.Steps.{type_of}
 use Rattle.tables.specs.Tables.{row_of}
 use Rattle.tables.specs.declared.TableRow.{TableRow}
 
@@ -23,13 +23,14 @@ abbrev pub Room : List ℕ → Type 0
 Room contents = (t : ℕ) → content_in contents t < 2 ^ 63
 
 -- "removes its one message", if there is one.
-pub record Removes (message : ℕ) (before after : List ℕ) : Type 0 where
-  pub removes : content_in after ≡ removed (content_in before) (type_of message)
+pub record Removes (message : Option ℕ) (before after : List ℕ) : Type 0 where
+  pub removes : content_in after ≡ removed (content_in before) message
   pub long : length after ≡ length before
 
--- "adds … its one message", if there is one, where there is room for it.
-pub record Adds (message : ℕ) (before after : List ℕ) : Type 0 where
-  pub adds : Room before → content_in after ≡ added (content_in before) (type_of message)
+-- "adds … its one message", if there is one, where there is room for it; of a type without a place in the list none is added.
+pub record Adds (message : Option ℕ) (before after : List ℕ) : Type 0 where
+  pub adds : Room before → ForSome message (λ t. t < length before) → content_in after ≡ added (content_in before) message
+  pub behind : ForSome message (λ t. length before ≤ t) → after ≡ before
   pub long : length after ≡ length before
 
 -- "A row can happen": the test is that of every plant that has this row.

@@ -1,31 +1,34 @@
 // A configuration in lent lists, the states of the machines and the messages of each type: one message more or less, whether a row can happen, and
-// what it leaves. The lists may hold any numbers: no index leaves them, and nothing wraps. No entry point: `watching` calls it.
+// what it leaves. The lists may hold any numbers: no index leaves them, and nothing wraps. No entry point: `watch_events` calls it.
 #![tactic(auto)]
 
 ghost use Rattle.std.specs.Prelude.{◌≡◌, ◌<◌, ◌↔◌, IsTrue};
 ghost use Rattle.livelock.specs.Runs.{present};
-ghost use Rattle.plant.specs.Steps.{type_of};
 ghost use Rattle.configurations.specs.Configurations.{state_in, content_in, Removes, Adds, RowCan, RowMoves};
 
 use tables::TableRow;
 
-// One message less of a type, where there is one; 64 stands for no type.
-pub fn remove(contents: &mut [u64; 64], message: u8)
+// One message less of a type, where there is one.
+pub fn remove(contents: &mut [u64; 64], message: Option<u8>)
     ensures { Removes message contents.old contents.new }
 {
-    let t = usize::from(message);
-    if t < contents.len() {
-        contents[t] = contents[t].saturating_sub(1);
+    if let Some(t) = message {
+        let at = usize::from(t);
+        if at < contents.len() {
+            contents[at] = contents[at].saturating_sub(1);
+        }
     }
 }
 
-// One message more of a type, unless there are as many as 64 bits count; 64 stands for no type.
-pub fn add(contents: &mut [u64; 64], message: u8)
+// One message more of a type, unless there are as many as 64 bits count.
+pub fn add(contents: &mut [u64; 64], message: Option<u8>)
     ensures { Adds message contents.old contents.new }
 {
-    let t = usize::from(message);
-    if t < contents.len() {
-        contents[t] = contents[t].saturating_add(1);
+    if let Some(t) = message {
+        let at = usize::from(t);
+        if at < contents.len() {
+            contents[at] = contents[at].saturating_add(1);
+        }
     }
 }
 
@@ -38,13 +41,11 @@ fn is_in(states: &[u8; 16], machine: u8, state: u8) -> bool
         .is_some_and(|own| *own == state)
 }
 
-// Whether a message of a type is there. 64 stands for no type, and then none is asked for.
-fn is_there(contents: &[u64; 64], message: u8) -> bool
-    ensures { result ≡ present (content_in contents.now) (type_of message) }
+// Whether a message of a type is there, where one is asked for.
+fn is_there(contents: &[u64; 64], message: Option<u8>) -> bool
+    ensures { result ≡ present (content_in contents.now) message }
 {
-    contents
-        .get(usize::from(message))
-        .is_none_or(|count| *count > 0)
+    message.is_none_or(|t| contents.get(usize::from(t)).is_some_and(|count| *count > 0))
 }
 
 // Whether a row can happen. A row of a machine above the last that a plant can have cannot.

@@ -14,12 +14,16 @@ use Rattle.livelock.specs.Lists.{below, sum}
 use Rattle.livelock.specs.Weights.{weight}
 use Rattle.plant.specs.Found.{found, fault}
 use Rattle.plant.specs.Reading.{no_machines}
+use Rattle.plant.specs.Steps.{fault_found}
+use Rattle.plant.specs.declared.Fault.{Fault}
+use Rattle.plant.specs.Checks.{check_found}
 use Rattle.weight_checks.specs.Checks.{first_above, FirstAbove}
 use Rattle.livelock.proofs.SumLaws.{sum_limit, sum_next, sum_none}
 use Rattle.weight_checks.proofs.CheckLaws.{none_above, no_plant, then_found}
 use Rattle.contents.specs.Contents.{content, amounts, checked_amounts, checked_contents, AllAtMost, weight_of_contents}
-use Rattle.contents.specs.Checks.{checked_passing, Checks}
-use Rattle.std.specs.Prelude.{Some, None, Ok, sum_by}
+use Rattle.contents.specs.Checks.{checked_passing, Checks, without_value}
+use Rattle.std.specs.Prelude.{Option, Some, None, is_some, Ok, sum_by}
+use Rattle.std.specs.Option.{ok_or}
 use Rattle.std.specs.List.{zip}
 use Rattle.std.proofs.lemmas.List.Sums.{sum_by-cons}
 
@@ -97,6 +101,13 @@ module _ (contents last : List ℕ) (passes : Bool) (P : Plant) (end : ℕ) wher
       pub refuse_none : passes ≡ true → found P end ≡ checked_passing contents last passes P end
       unfolding checked_contents checked_amounts
       refuse_none q = rw (q, eq-eqb (length contents) P.types one_each, le-ltb (first_above 1000000 (amounts contents last)) (length (amounts contents last)) small)
+
+-- So the last check finds fault 22 without a value for weights that pass, and no fault with one.
+pub passing_judged : {A : Type 0} (contents last : List ℕ) (P : Plant) (end : ℕ) → length contents ≡ P.types
+    → length (amounts contents last) ≤ first_above 1000000 (amounts contents last) → (f : Fault) → fault_found {A = Plant} f ≡ fault 22 0 → (passing : Option A)
+    → check_found (without_value (ok_or passing f)) P end ≡ checked_passing contents last (is_some passing) P end
+passing_judged contents last P end one_each small f is None = is ∙ refuse_22 contents last false P end one_each small refl
+passing_judged contents last P end one_each small f is (Some x) = refuse_none contents last true P end one_each small refl
 
 -- ---- what the checks say when they find a plant
 

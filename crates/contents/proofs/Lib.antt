@@ -2,3 +2,4 @@
 pub mod BasicExamples
 pub mod AmountLaws
 pub mod ZeroLast
+pub mod WalkLaws

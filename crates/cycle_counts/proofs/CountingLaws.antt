@@ -7,15 +7,16 @@ use mathlib.Core.Logic.{◌≢◌}
 use mathlib.Core.List.{List, [], ◌∷◌, ◌++◌}
 use Prim.Native.Nat.{ℕ, suc, ◌+◌, ◌-◌, ◌*◌, ◌<◌, ◌≤◌}
 use native.Mathlib.Omega.{arith}
-use lib.ListN.{length, get_or, set, take, length-append, length-set}
-use lib.Seq.{length-take-le, take-append_seam}
+use lib.ListN.{length, get_or, set, length-append}
 use Rattle.cycle_paths.specs.declared.Step.{Step}
 use Rattle.cycle_paths.specs.declared.Step.TheVariants as Steps
 use Rattle.cycle_paths.specs.Cycles.{unleft}
+use Rattle.graphs.specs.Graphs.{pair}
 use Rattle.state_marks.specs.Marks.{column}
 use Rattle.cycle_paths.specs.Rows.{Linked}
 use Rattle.state_marks.specs.Marks.{Closed}
 use Rattle.cycle_entries.specs.Entries.{entry_of}
+use Rattle.cycle_entries.proofs.EntryLaws.{entry_length}
 use Rattle.cycle_paths.specs.Extensions.{step_of, extensions}
 use Rattle.cycle_paths.proofs.ExtensionLaws.{rest, rest_none, rest_to, rest_at, Turn, turn_leaves, turn_skip, turn_close, turn_enter, extensions_closed}
 use Rattle.cycle_counts.proofs.BetweenLaws.{rest_closing}
@@ -47,39 +48,16 @@ module _ {room : ℕ} {all : List ℕ} {r : ℕ} {entries : List ℕ} (g : Takin
   pub taking_stops : r ≡ 0 → 0 ≡ room - length all
   taking_stops e = omega (arith, g.taken)
 
--- ---- the path
-
--- The length of a cycle's entry.
-entry_length : (rows : List ℕ) (k : ℕ) → length (entry_of rows k) ≡ length rows + 2
-entry_length rows k = rw (length-append rows (k ∷ [])) (omega arith)
-
--- A path with room for one row more,
-abbrev roomy : List ℕ → List ℕ
-roomy rows = rows ++ (0 ∷ [])
-
--- which is one row longer.
-roomy-length : (rows : List ℕ) → length (roomy rows) ≡ length rows + 1
-roomy-length rows = length-append rows (0 ∷ []) ∙ omega arith
-
--- The path with row k as one row more,
-abbrev longer : List ℕ → ℕ → List ℕ
-longer rows k = take (length rows + 1) (set (roomy rows) (length rows) k)
-
--- which has so many rows.
-longer-length : (rows : List ℕ) (k : ℕ) → length (longer rows k) ≡ length rows + 1
-longer-length rows k =
-    length-take-le (length rows + 1) (set (roomy rows) (length rows) k) (omega (arith, length-set (roomy rows) (length rows) k, roomy-length rows))
-
 -- ---- what goes on from a state
 
 -- With r of the room, r' is left once the extensions are taken that go on from state s: for all rows that have these tables, and for every
 -- path with one row more.
-pub record Onward (entered next head into between : List ℕ) (last start : ℕ) (marks : List ℕ) (depth s r r' : ℕ) : Type 0 where
+pub record Onward (entered next head into : List ℕ) (between : List (List ℕ)) (last start : ℕ) (marks : List ℕ) (depth s r r' : ℕ) : Type 0 where
   pub takes : (rows : List ℕ) → length rows ≡ depth + 1 → (left : List ℕ) (first : ℕ) → Tables left entered next head into between first last
       → r' ≡ r - length (rest left entered first last start (set marks s 1) rows (column left (column head s)) last (column head s))
 
 -- State s is left, and the marks with it, `marked`, are closed.
-module _ {entered next head into between : List ℕ} {last start : ℕ} (marks : List ℕ) (depth s : ℕ) (b : s < 24) (marked closed : List ℕ) (marked-is : marked ≡ set marks s 1)
+module _ {entered next head into : List ℕ} {between : List (List ℕ)} {last start : ℕ} (marks : List ℕ) (depth s : ℕ) (b : s < 24) (marked closed : List ℕ) (marked-is : marked ≡ set marks s 1)
     (marked-length : length marked ≡ 24) (closed-length : length closed ≡ 24) (shut : Closed into start marked closed) where
   -- What goes on from s is the same, though states that are dead ends are marked.
   same_onward : (rows left : List ℕ) (first : ℕ) → Tables left entered next head into between first last
@@ -106,7 +84,7 @@ module _ {entered next head into between : List ℕ} {last start : ℕ} (marks :
       }
 
   -- and where all states are marked, it is the rows from s to the start, each of which closes a cycle.
-  pub onward_closing : start < 24 → ((x : ℕ) → x < 24 → get_or closed x 0 ≢ 0) → (r r' : ℕ) → r' ≡ r - column between (s * 32 + start) * (depth + 1 + 2)
+  pub onward_closing : start < 24 → ((x : ℕ) → x < 24 → get_or closed x 0 ≢ 0) → (r r' : ℕ) → r' ≡ r - pair between s start * (depth + 1 + 2)
       → Onward entered next head into between last start marks depth s r r'
   onward_closing start_in all r r' less =
       record {
@@ -129,12 +107,12 @@ module _ {entered next head into between : List ℕ} {last start : ℕ} (marks :
 
 -- On the way from `low` to `high`, at row k, with `r` left of the room: whatever rows have these links, k leaves the same state as
 -- `low`, and whatever `depth` rows the path has, the entries from row k on are left to be counted.
-pub record Counting (entered next head into between : List ℕ) (last start : ℕ) (marks : List ℕ) (depth low high room k r : ℕ) : Type 0 where
+pub record Counting (entered next head into : List ℕ) (between : List (List ℕ)) (last start : ℕ) (marks : List ℕ) (depth low high room k r : ℕ) : Type 0 where
   pub leaves : (left : List ℕ) (first : ℕ) → Linked left next head first last → first ≤ low → k < high → column left k ≡ column left low
   pub counts : (rows : List ℕ) → length rows ≡ depth → (left : List ℕ) (first : ℕ) → Tables left entered next head into between first last → first ≤ low
       → Taking room (rest left entered first last start marks rows (column left low) high low) r (rest left entered first last start marks rows (column left low) high k)
 
-module _ {entered next head into between : List ℕ} {last start : ℕ} {marks : List ℕ} {depth low high room : ℕ} where
+module _ {entered next head into : List ℕ} {between : List (List ℕ)} {last start : ℕ} {marks : List ℕ} {depth low high room : ℕ} where
   -- At first all is left.
   pub counting_begins : Counting entered next head into between last start marks depth low high room low room
   counting_begins = record { leaves = λ left first links l i. refl; counts = λ rows d left first tables l. taking_begins }
@@ -188,9 +166,8 @@ module _ {entered next head into between : List ℕ} {last start : ℕ} {marks :
             leaves = λ left first links l. turn_leaves (turn_of [] left first links l);
             counts = λ rows d left first tables l.
                 taking_part (g.counts rows d left first tables l)
-                (rest left entered first last start (set marks s 1) (longer rows k) (column left (column head s)) last (column head s)) _
-                (turn_enter (turn_of rows left first tables.links l) s e b u (roomy rows) (length rows) (take-append_seam rows (0 ∷ []))
-                (omega (arith, roomy-length rows)) (column head s) refl)
+                (rest left entered first last start (set marks s 1) (rows ++ (k ∷ [])) (column left (column head s)) last (column head s)) _
+                (turn_enter (turn_of rows left first tables.links l) s e b u (column head s) refl)
                 r'
-                (f.takes (longer rows k) (omega (arith, d, longer-length rows k)) left first tables);
+                (f.takes (rows ++ (k ∷ [])) (omega (arith, d, length-append rows (k ∷ []))) left first tables);
           }

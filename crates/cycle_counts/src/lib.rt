@@ -3,8 +3,8 @@
 #![tactic(auto)]
 
 ghost use Rattle.std.specs.Prelude.{◌≡◌, suc, ◌+◌, ◌-◌, ◌*◌, ◌≤◌, ◌<◌, ◌^◌, min, length};
-ghost use Rattle.graphs.specs.Graphs.{left_of, entered_of, next_of, head_of, into_of, between_of, last_of};
-ghost use Rattle.state_marks.specs.Marks.{column, marks_of};
+ghost use Rattle.graphs.specs.Graphs.{left_of, entered_of, next_of, head_of, into_of, between_of, pair, last_of};
+ghost use Rattle.state_marks.specs.Marks.{marks_of};
 ghost use Rattle.cycle_paths.specs.Rows.{Searchable};
 ghost use Rattle.cycle_paths.specs.Entries.{all_entries};
 ghost use Rattle.cycle_counts.specs.Pairs.{Between};
@@ -17,8 +17,8 @@ use std::ops::Range;
 
 // Takes from the room the entries of the cycles that begin with `depth` rows of a path to `state` and end with a row from there to the start.
 fn take_closing(search: Search, state: u8, depth: usize, room: usize) -> usize
-    requires { (state < 24) × (search.start < 24) × (depth ≤ 24) × (column (between_of search.graph.now) (state * 32 + search.start) ≤ 1024) }
-    ensures { result ≡ room - column (between_of search.entry.graph.now) (state * 32 + search.entry.start) * (depth + 2) }
+    requires { (state < 24) × (search.start < 24) × (depth ≤ 24) × (pair (between_of search.graph.now) state search.start ≤ 1024) }
+    ensures { result ≡ room - pair (between_of search.entry.graph.now) state search.entry.start * (depth + 2) }
 {
     let rows = search.graph.between_of(state, search.start);
     room.saturating_sub(rows * (depth + 2))
@@ -65,12 +65,8 @@ pub fn count_rows(graph: &Graph, first: usize, last: usize, limit: usize) -> usi
     let room = limit + 1;
     let mut rest = room;
     for row in first..last {
-        let start = graph.left_of(row);
-        let low = state_marks::below(start);
-        let marked = state_marks::with_left(low, start);
-        let closed = state_marks::without_dead_ends(graph, start, marked);
-        let search = Search { graph, start };
-        rest = count(search, closed, 0, row..row + 1, rest);
+        let search = Search::from_row(graph, row);
+        rest = count(search, search.first_marks(), 0, row..row + 1, rest);
     }
     room - rest
 }

@@ -1,2 +1,3 @@
--- Laws of the entry of a cycle.
+-- Laws of the entry of a cycle, and of the room for it.
 pub mod EntryLaws
+pub mod RoomLaws

@@ -3,29 +3,42 @@
 
 ghost use Rattle.std.specs.Prelude.{◌≡◌, suc, ◌+◌, ◌≤◌, ◌<◌, ◌^◌, length};
 ghost use Rattle.std.proofs.lemmas.List.Edits.{sets};
-ghost use Rattle.cycle_entries.specs.Entries.{entry_of, Added};
+ghost use Rattle.cycle_entries.specs.Entries.{entry_of, used_if, Added};
 
-// Stores the row count and the rows of a cycle from `pos` on: the rows of a path, and the row that closes it. Hands back where they end.
-fn write_cycle(out: &mut [u16], pos: usize, path: &[u16], row: u16) -> usize
-    requires { (length path.now ≤ 24) × (pos + length path.now + 2 ≤ length out.old) }
-    ensures { (result ≡ pos + length path.now + 2) × (out.new ≡ sets out.old pos (entry_of path.now row)) }
-{
-    let last = pos + 1 + path.len();
-    out[pos] = path.len() as u16 + 1;
-    out[pos + 1..last].copy_from_slice(path);
-    out[last] = row;
-    last + 1
+// A lent list, and how many of its numbers the entries so far take.
+#[derive(Drop)]
+pub struct Listing<'a> {
+    pub list: &'a mut [u16],
+    pub used: usize,
 }
 
-// Adds a cycle to the entries that end at `pos`: stores it if the list has room, and hands back where it ends, or one above the list's
-// length if that is too far.
-pub fn add_cycle(out: &mut [u16], pos: usize, path: &[u16], row: u16) -> usize
-    requires { (length path.now ≤ 24) × (pos ≤ suc (length out.old)) × (length out.old < 2 ^ 63) }
-    ensures { Added (length out.old) out.old pos (entry_of path.now row) result out.new }
-{
-    let end = pos + path.len() + 2;
-    if end <= out.len() {
-        return write_cycle(out, pos, path, row);
+impl Listing<'_> {
+    // Stores the row count and the rows of a cycle behind the entries so far: the rows of a path, and the row that closes it.
+    fn write_cycle(&mut self, path: &[u16], row: u16)
+        requires { (length path.now ≤ 24) × (self.old.used + length path.now + 2 ≤ length self.old.list.now) }
+        ensures same_list { self.new.list.ghost_name ≡ self.old.list.ghost_name }
+        ensures used { self.new.used ≡ self.old.used + length path.now + 2 }
+        ensures stored { self.new.list.now ≡ sets self.old.list.now self.old.used (entry_of path.now row) }
+    {
+        let pos = self.used;
+        let last = pos + 1 + path.len();
+        self.list[pos] = path.len() as u16 + 1;
+        self.list[pos + 1..last].copy_from_slice(path);
+        self.list[last] = row;
+        self.used = last + 1;
     }
-    out.len() + 1
+
+    // Adds a cycle to the entries so far, if the list has room for it.
+    pub fn add_cycle(&mut self, path: &[u16], row: u16) -> Option<()>
+        requires { (length path.now ≤ 24) × (self.old.used ≤ suc (length self.old.list.now)) × (length self.old.list.now < 2 ^ 63) }
+        ensures same_list { self.new.list.ghost_name ≡ self.old.list.ghost_name }
+        ensures same_length { length self.new.list.now ≡ length self.old.list.now }
+        ensures added { Added (length self.old.list.now) self.old.list.now self.old.used (entry_of path.now row) (used_if result self.new.used) self.new.list.now }
+    {
+        if self.used + path.len() + 2 > self.list.len() {
+            return None;
+        }
+        self.write_cycle(path, row);
+        Some(())
+    }
 }

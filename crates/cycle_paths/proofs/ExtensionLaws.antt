@@ -10,13 +10,14 @@ use mathlib.Core.Bool.{Bool, true, false, cond}
 use mathlib.Core.List.{List, [], ◌∷◌, ◌++◌, map, append_assoc, append-nil}
 use Prim.Native.Nat.{ℕ, zero, suc, ◌+◌, ◌-◌, ◌<◌, ◌≤◌}
 use native.Mathlib.Decide.{dec_lt}
-use native.Mathlib.Nat.{add-zero, le_refl}
+use native.Mathlib.Nat.{add-zero}
 use native.Mathlib.Numerals.{add-one}
 use native.Mathlib.Omega.{arith}
 use borrow.Author.Tests.{eqb-true, eq-eqb, ne_eqb}
-use lib.ListN.{length, get_or, set, take, length-append}
-use lib.Seq.{take-suc-set, take-take, take-set-le, get_or-set_other}
+use lib.ListN.{length, get_or, set, length-append}
+use lib.Seq.{get_or-set_other}
 use lib.Dec.{eqb, ltb}
+use Rattle.std.specs.Prelude.{Option, Some, None}
 use Rattle.cycle_paths.specs.declared.Step.{Step}
 use Rattle.cycle_paths.specs.declared.Step.TheVariants as Steps
 use Rattle.cycle_paths.specs.Cycles.{unleft, joined, paths_by, paths, left_only, cycles_by}
@@ -27,7 +28,7 @@ use Rattle.graphs.specs.Graphs.{last_of}
 use Rattle.state_marks.specs.Marks.{column, Sources, BelowOnly, Closed, marks_of}
 use Rattle.cycle_entries.specs.Entries.{entry_of, Added}
 use Rattle.cycle_paths.specs.Extensions.{step_of, entries_with, extensions}
-use Rattle.cycle_paths.specs.Inner.Extending.{PathKept, Extended}
+use Rattle.cycle_paths.specs.Inner.Extending.{Extended}
 use Rattle.cycle_paths.proofs.ElementLaws.{up_from_in, in_up_from}
 use Rattle.cycle_paths.proofs.OrderLaws.{increasing_up_from}
 use Rattle.state_marks.proofs.MarkLaws.{marks_length}
@@ -155,11 +156,10 @@ module _ (left entered : List ℕ) (first last start : ℕ) (marks rows : List �
 
 -- The extensions by all rows from state s on, with one state more left and one row more on the path.
 rest_longer : (left entered : List ℕ) (first last start : ℕ) (marks rows : List ℕ) (at high s k : ℕ) → unleft marks ≡ suc (unleft (set marks s 1))
-    → (path : List ℕ) (depth : ℕ) → take depth path ≡ rows → depth < length path
     → entries_with (rows ++ (k ∷ [])) (onward left entered first last start marks rows at high s)
-    ≡ rest left entered first last start (set marks s 1) (take (depth + 1) (set path depth k)) s last first
+    ≡ rest left entered first last start (set marks s 1) (rows ++ (k ∷ [])) s last first
 unfolding extensions
-rest_longer left entered first last start marks rows at high s k u path depth rows_are room = rw (add-one depth, take-suc-set path depth k room, rows_are, u)
+rest_longer left entered first last start marks rows at high s k u = rw u
 
 -- Where no row is left it does not matter at which state the path stands.
 pub rest_at : (left entered : List ℕ) (first last start : ℕ) (marks rows : List ℕ) (at at' low high : ℕ) → (low < high → at ≡ at')
@@ -223,16 +223,14 @@ module _ {left entered next head : List ℕ} {first last start : ℕ} {marks row
       ∙ rest_at left entered first last start marks' rows' s (column left begin) begin last
       (λ l. sym (ap (column left) begin-is ∙ turn.links.head_same s b (omega (arith, begin-is))))
 
-  pub turn_enter : (s : ℕ) → step ≡ Steps.Enter s → s < 24 → unleft marks ≡ suc (unleft (set marks s 1)) → (path : List ℕ) (depth : ℕ) → take depth path ≡ rows
-      → depth < length path → (begin : ℕ) → begin ≡ column head s
+  pub turn_enter : (s : ℕ) → step ≡ Steps.Enter s → s < 24 → unleft marks ≡ suc (unleft (set marks s 1)) → (begin : ℕ) → begin ≡ column head s
       → rest left entered first last start marks rows at high k
-      ≡ rest left entered first last start (set marks s 1) (take (depth + 1) (set path depth k)) (column left begin) last begin
+      ≡ rest left entered first last start (set marks s 1) (rows ++ (k ∷ [])) (column left begin) last begin
       ++ rest left entered first last start marks rows at high n
-  turn_enter s e b u path depth rows_are room begin begin-is =
+  turn_enter s e b u begin begin-is =
       (rw e at turn_step)
       ∙ ap (λ (l : List ℕ). l ++ rest left entered first last start marks rows at high n)
-      (rest_longer left entered first last start marks rows at high s k u path depth rows_are room
-      ∙ turn_begin s b begin begin-is (set marks s 1) (take (depth + 1) (set path depth k)))
+      (rest_longer left entered first last start marks rows at high s k u ∙ turn_begin s b begin begin-is (set marks s 1) (rows ++ (k ∷ [])))
 
 -- ---- marks of dead ends
 
@@ -290,28 +288,30 @@ closed_unleft into start marks after shut =
 
 -- On the way from `low` to `high`, at row k, with `used` entries in `out`: whatever rows have these links, k leaves the same state as
 -- `low`, and the entries from row k on are left to be added.
-pub record Extending (entered next head into : List ℕ) (last start : ℕ) (marks rows : List ℕ) (low high limit : ℕ) (before : List ℕ) (pos k used : ℕ) (out : List ℕ) : Type 0 where
+pub record Extending (entered next head into : List ℕ) (last start : ℕ) (marks rows : List ℕ) (low high : ℕ) (before : List ℕ) (pos k used : ℕ) (out : List ℕ) : Type 0 where
   pub leaves : (left : List ℕ) (first : ℕ) → Linked left next head first last → first ≤ low → k < high → column left k ≡ column left low
   pub adds : (left : List ℕ) (first : ℕ) → Linked left next head first last → Sources left entered into first last → first ≤ low
-      → Adding limit before pos (rest left entered first last start marks rows (column left low) high low) used out (rest left entered first last start marks rows (column left low) high k)
+      → Adding before pos (rest left entered first last start marks rows (column left low) high low) used out (rest left entered first last start marks rows (column left low) high k)
 
-module _ {entered next head into : List ℕ} {last start : ℕ} {marks rows : List ℕ} {low high limit : ℕ} {before : List ℕ} {pos : ℕ} where
+-- What is left at row k is a part and what is left at row n, and the part is added to `out`, as far as the list has room.
+pub record PartAdded (left : List ℕ) (now later : List ℕ) (used : ℕ) (out : List ℕ) (r : Option ℕ) (out' : List ℕ) : Type 0 where
+  pub part : List ℕ
+  pub is : now ≡ part ++ later
+  pub added : Added (length out) out used part r out'
+
+module _ {entered next head into : List ℕ} {last start : ℕ} {marks rows : List ℕ} {low high : ℕ} {before : List ℕ} {pos : ℕ} where
   -- At first all is left.
-  pub extending_begins : length before ≤ limit → pos ≤ suc limit → Extending entered next head into last start marks rows low high limit before pos low pos before
-  extending_begins fits h = record { leaves = λ left first links l i. refl; adds = λ left first links from l. adding_begins fits h }
+  pub extending_begins : pos ≤ length before → Extending entered next head into last start marks rows low high before pos low pos before
+  extending_begins h = record { leaves = λ left first links l i. refl; adds = λ left first links from l. adding_begins h }
 
   -- What is kept under other names is the same.
   pub extending_named : {k used : ℕ} {out : List ℕ} (used' : ℕ) (out' : List ℕ) → used' ≡ used → out' ≡ out
-      → Extending entered next head into last start marks rows low high limit before pos k used out → Extending entered next head into last start marks rows low high limit before pos k used' out'
+      → Extending entered next head into last start marks rows low high before pos k used out → Extending entered next head into last start marks rows low high before pos k used' out'
   extending_named used' out' u o g = record { leaves = g.leaves; adds = λ left first links from l. adding_named used' out' u o (g.adds left first links from l) }
 
-  module _ {k used : ℕ} {out : List ℕ} (g : Extending entered next head into last start marks rows low high limit before pos k used out) where
-    -- The count is above the limit: all is added.
-    pub extending_stops : limit < used → Extended entered next head into last start marks rows low high limit before pos used out
-    extending_stops h left first links from l = adding_stops (g.adds left first links from l) h
-
+  module _ {k used : ℕ} {out : List ℕ} (g : Extending entered next head into last start marks rows low high before pos k used out) where
     -- No row is left: all is added.
-    pub extending_ends : high ≤ k → Extended entered next head into last start marks rows low high limit before pos used out
+    pub extending_ends : high ≤ k → Extended entered next head into last start marks rows low high before pos (Some used) out
     extending_ends h left first links from l = adding_ends (g.adds left first links from l) (rest_none left entered first last start marks rows (column left low) high k h)
 
     module _ (low_in : low ≤ k) (inside : k < high) (high_in : high ≤ last) {step : Step} (step_is : step ≡ step_of entered start marks k) {n : ℕ} (next_is : n ≡ column next k) where
@@ -321,62 +321,61 @@ module _ {entered next head into : List ℕ} {last start : ℕ} {marks rows : Li
       turn_of left first links l =
           record { links = links; low_in = omega arith; inside = inside; high_in = high_in; leaves = g.leaves left first links l inside; step_is = step_is; next_is = next_is }
 
-      -- A row that does nothing is passed over,
-      pub extending_skip : step ≡ Steps.Skip → Extending entered next head into last start marks rows low high limit before pos n used out
+      -- A row that does nothing is passed over.
+      pub extending_skip : step ≡ Steps.Skip → Extending entered next head into last start marks rows low high before pos n used out
       extending_skip e =
           record {
             leaves = λ left first links l. turn_leaves (turn_of left first links l);
             adds = λ left first links from l. adding_none (g.adds left first links from l) _ (turn_skip (turn_of left first links l) e);
           }
 
-      module _ {used' : ℕ} {out' : List ℕ} (same : length out' ≡ length out) where
-        -- one that closes the cycle adds it,
-        pub extending_close : step ≡ Steps.Close → (path : List ℕ) (depth : ℕ) → take depth path ≡ rows → Added limit out used (entry_of (take depth path) k) used' out'
-            → Extending entered next head into last start marks rows low high limit before pos n used' out'
-        extending_close e path depth rows_are f =
-            record {
-              leaves = λ left first links l. turn_leaves (turn_of left first links l);
-              adds = λ left first links from l.
-                  adding_part (g.adds left first links from l) _ _ (turn_close (turn_of left first links l) e) used' out' same
-                  (subst (λ (z : List ℕ). Added limit out used (entry_of z k) used' out') rows_are f);
-            }
+      -- What the row adds, whatever rows have these links.
+      abbrev pub RowAdds : Option ℕ → List ℕ → Type 0
+      RowAdds r out' =
+          (left : List ℕ) (first : ℕ) → Linked left next head first last → Sources left entered into first last → first ≤ low
+          → PartAdded left (rest left entered first last start marks rows (column left low) high k) (rest left entered first last start marks rows (column left low) high n) used out r out'
 
-        -- and one that enters a state adds the extensions of the longer path, though states that are dead ends are marked for them.
-        pub extending_enter : (s : ℕ) → step ≡ Steps.Enter s → s < 24 → unleft marks ≡ suc (unleft (set marks s 1)) → (path : List ℕ) (depth : ℕ) → take depth path ≡ rows
-            → depth < length path → (begin : ℕ) → begin ≡ column head s → (marked closed : List ℕ) → marked ≡ set marks s 1 → length marked ≡ 24 → length closed ≡ 24
-            → Closed into start marked closed → (end room : ℕ) → end ≡ last → room ≡ limit
-            → Extended entered next head into last start closed (take (depth + 1) (set path depth k)) begin end room out used used' out'
-            → Extending entered next head into last start marks rows low high limit before pos n used' out'
-        extending_enter s e b u path depth rows_are room begin begin-is marked closed marked-is marked-length closed-length shut end room' end_is room-is f =
-            record {
-              leaves = λ left first links l. turn_leaves (turn_of left first links l);
-              adds = λ left first links from l.
-                  let head_in = links.head_in s b in
-                  let longer = take (depth + 1) (set path depth k) in
-                  let low_in : first ≤ begin = omega (arith, begin-is, head_in.0) in
-                  let within : begin + (last - begin) ≤ last = omega (arith, begin-is, head_in.1) in
-                  adding_part (g.adds left first links from l) _ _ (turn_enter (turn_of left first links l) s e b u path depth rows_are room begin begin-is) used' out' same
-                  (subst
-                  (λ (z : List ℕ). Added limit out used z used' out')
-                  (extensions_closed left entered into first last start marked closed longer (column left begin) begin (last - begin) from shut marked-length closed-length low_in within
-                  ∙ ap (λ (z : List ℕ). extensions left entered first last start z longer (column left begin) begin (last - begin)) marked-is)
-                  (subst (λ (z : ℕ). Added z out used (extensions left entered first last start closed longer (column left begin) begin (last - begin)) used' out') room-is
-                  (subst (λ (z : ℕ). Added room' out used (extensions left entered first last start closed longer (column left begin) begin (z - begin)) used' out') end_is
-                  (f left first links from low_in))));
-            }
+      -- One that closes the cycle adds it,
+      pub close_adds : step ≡ Steps.Close → {path : List ℕ} → path ≡ rows → {r : Option ℕ} {out' : List ℕ} → Added (length out) out used (entry_of path k) r out' → RowAdds r out'
+      close_adds e {path} path-is f left first links from l =
+          record { part = entry_of path k; is = rw path-is (turn_close (turn_of left first links l) e); added = f }
 
--- The first rows of a path are kept by a store behind them and by what keeps that store.
-pub path_kept : (depth k : ℕ) (path₀ path path' : List ℕ) → PathKept depth path₀ path → PathKept (depth + 1) (set path depth k) path' → PathKept depth path₀ path'
-path_kept depth k path₀ path path' p q =
-    record {
-      path_room = q.path_room;
-      same_rows =
-          sym (take-take depth (depth + 1) path' (omega arith))
-          ∙ ap (take depth) q.same_rows
-          ∙ take-take depth (depth + 1) (set path depth k) (omega arith)
-          ∙ take-set-le depth path depth k (le_refl depth)
-          ∙ p.same_rows;
-    }
+      -- and one that enters a state adds the extensions of the longer path, though states that are dead ends are marked for them.
+      pub enter_adds : (s : ℕ) → step ≡ Steps.Enter s → s < 24 → unleft marks ≡ suc (unleft (set marks s 1)) → (begin : ℕ) → begin ≡ column head s
+          → (marked closed : List ℕ) → marked ≡ set marks s 1 → length marked ≡ 24 → length closed ≡ 24 → Closed into start marked closed → (end : ℕ) → end ≡ last
+          → {longer : List ℕ} → longer ≡ rows ++ (k ∷ []) → {r : Option ℕ} {out' : List ℕ} → Extended entered next head into last start closed longer begin end out used r out' → RowAdds r out'
+      enter_adds s e b u begin begin-is marked closed marked-is marked-length closed-length shut end end_is {longer} longer-is {r} {out'} f left first links from l =
+          let head_in = links.head_in s b in
+          let low_in : first ≤ begin = omega (arith, begin-is, head_in.0) in
+          let within : begin + (last - begin) ≤ last = omega (arith, begin-is, head_in.1) in
+          record {
+            part = rest left entered first last start (set marks s 1) longer (column left begin) last begin;
+            is = rw longer-is (turn_enter (turn_of left first links l) s e b u begin begin-is);
+            added =
+                subst
+                (λ (z : List ℕ). Added (length out) out used z r out')
+                (extensions_closed left entered into first last start marked closed longer (column left begin) begin (last - begin) from shut marked-length closed-length low_in within
+                ∙ ap (λ (z : List ℕ). extensions left entered first last start z longer (column left begin) begin (last - begin)) marked-is)
+                (subst (λ (z : ℕ). Added (length out) out used (extensions left entered first last start closed longer (column left begin) begin (z - begin)) r out') end_is
+                (f left first links from low_in));
+          }
+
+      -- With room for what the row adds, it goes on from the next row,
+      pub extending_row : {used' : ℕ} {out' : List ℕ} → length out' ≡ length out → RowAdds (Some used') out'
+          → Extending entered next head into last start marks rows low high before pos n used' out'
+      extending_row same f =
+          record {
+            leaves = λ left first links l. turn_leaves (turn_of left first links l);
+            adds = λ left first links from l.
+                let p = f left first links from l in
+                adding_part (g.adds left first links from l) p.part _ p.is same p.added;
+          }
+
+      -- and without there is none for all.
+      pub extending_stops : {out' : List ℕ} (end : List ℕ) → RowAdds None out' → Extended entered next head into last start marks rows low high before pos None end
+      extending_stops end f left first links from l =
+          let p = f left first links from l in
+          adding_stops (g.adds left first links from l) p.part _ p.is end p.added
 
 -- ---- the first rows of the cycles, one after the other
 
@@ -397,31 +396,31 @@ module _ (left entered : List ℕ) (first last : ℕ) where
   entries_from k = flattened (joined (up_from k (last - k)) (cycles_by 24 (column left) (column entered) (up_from first (last - first))))
 
   -- The cycles that begin with row k come first.
-  entries_first : (k : ℕ) (path marks : List ℕ) → marks ≡ left_only 24 (column left k) → k < last
-      → entries_from k ≡ extensions left entered first last (column left k) marks (take 0 path) (column left k) k (k + 1 - k) ++ entries_from (k + 1)
+  entries_first : (k : ℕ) (marks : List ℕ) → marks ≡ left_only 24 (column left k) → k < last
+      → entries_from k ≡ extensions left entered first last (column left k) marks [] (column left k) k (k + 1 - k) ++ entries_from (k + 1)
   unfolding joined up_from extensions
-  entries_first k path marks marks-are h =
+  entries_first k marks marks-are h =
       let n : last - k ≡ suc (last - (k + 1)) = omega arith in
       let o : k + 1 - k ≡ 1 = omega arith in
       rw (marks-are, n, o, add-one k, entries_none) (flattened-append (cycles_by 24 (column left) (column entered) (up_from first (last - first)) k) _)
 
   -- So it is where dead ends are marked, too,
-  entries_shut : (into : List ℕ) (k : ℕ) (path after : List ℕ) → Sources left entered into first last → Closed into (column left k) (left_only 24 (column left k)) after
+  entries_shut : (into : List ℕ) (k : ℕ) (after : List ℕ) → Sources left entered into first last → Closed into (column left k) (left_only 24 (column left k)) after
       → length after ≡ 24 → first ≤ k → k < last
-      → entries_from k ≡ extensions left entered first last (column left k) after (take 0 path) (column left k) k (k + 1 - k) ++ entries_from (k + 1)
-  entries_shut into k path after from shut l low_in h =
-      entries_first k path (left_only 24 (column left k)) refl h
+      → entries_from k ≡ extensions left entered first last (column left k) after [] (column left k) k (k + 1 - k) ++ entries_from (k + 1)
+  entries_shut into k after from shut l low_in h =
+      entries_first k (left_only 24 (column left k)) refl h
       ∙ ap (λ (z : List ℕ). z ++ entries_from (k + 1))
-      (sym (extensions_closed left entered into first last (column left k) (left_only 24 (column left k)) after (take 0 path) (column left k) k (k + 1 - k) from shut (left-length 24 (column left k)) l low_in (omega arith)))
+      (sym (extensions_closed left entered into first last (column left k) (left_only 24 (column left k)) after [] (column left k) k (k + 1 - k) from shut (left-length 24 (column left k)) l low_in (omega arith)))
 
   -- from the state that row k leaves.
-  pub entries_closed : (into : List ℕ) (k start : ℕ) (path after : List ℕ) → start ≡ column left k → Sources left entered into first last → Closed into start (left_only 24 start) after
+  pub entries_closed : (into : List ℕ) (k start : ℕ) (after : List ℕ) → start ≡ column left k → Sources left entered into first last → Closed into start (left_only 24 start) after
       → length after ≡ 24 → first ≤ k → k < last
-      → entries_from k ≡ extensions left entered first last start after (take 0 path) (column left k) k (k + 1 - k) ++ entries_from (k + 1)
-  entries_closed into k start path after e from shut l low_in h =
+      → entries_from k ≡ extensions left entered first last start after [] (column left k) k (k + 1 - k) ++ entries_from (k + 1)
+  entries_closed into k start after e from shut l low_in h =
       subst
-      (λ (z : ℕ). Closed into z (left_only 24 z) after → entries_from k ≡ extensions left entered first last z after (take 0 path) (column left k) k (k + 1 - k) ++ entries_from (k + 1))
-      (sym e) (λ s. entries_shut into k path after from s l low_in h) shut
+      (λ (z : ℕ). Closed into z (left_only 24 z) after → entries_from k ≡ extensions left entered first last z after [] (column left k) k (k + 1 - k) ++ entries_from (k + 1))
+      (sym e) (λ s. entries_shut into k after from s l low_in h) shut
 
   -- After the last row there are none.
   pub entries_end : (k : ℕ) → last ≤ k → entries_from k ≡ []

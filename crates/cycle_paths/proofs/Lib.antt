@@ -6,3 +6,4 @@ pub mod PathLaws
 pub mod CycleLaws
 pub mod FillingLaws
 pub mod ExtensionLaws
+pub mod SearchLaws

@@ -34,9 +34,8 @@ use Rattle.cycle_sets.specs.declared.Confirmation.{Confirmation}
 use Rattle.cycle_sets.specs.declared.Confirmation.TheVariants as Variants
 use Rattle.set_numbers.proofs.FoundLaws.{value_same}
 use Rattle.set_entries.proofs.ChainLaws.{chained}
-use Rattle.set_entries.proofs.PartLaws.{part_length}
 use Rattle.set_entries.proofs.CycleTestLaws.{quiet_cycle_iff}
-use Rattle.set_entries.proofs.EntryLaws.{EntryRead, entry_read}
+use Rattle.set_entries.proofs.EntryLaws.{EntryRead, entry_read, entry_few_rows}
 use Rattle.set_sums.proofs.SizeLaws.{size_at_most}
 use Rattle.cycle_sets.proofs.SetLaws.{begins_within}
 use Rattle.cycle_sets.proofs.LowestLaws.{lowest_same, none_negative, all_confirmed}
@@ -56,13 +55,12 @@ good_entry : (P : Plant) (set : List ℕ) (at : ℕ) (e : Entry) (next : ℕ) �
 good_entry P set at e next r =
     let q = (quiet_cycle_iff P e.machine e.cycle).0 r.quiet_cycle in
     let repeats : e.repeats ≡ get_or set (at + 1) 0 = ap (λ (x : Entry). x.repeats) r.is in
-    let rows = ap (λ (x : Entry). length x.cycle) r.is in
     record {
       simple = q.0;
       quiet = q.1;
       repeated = omega (arith, repeats, r.repeated);
       few_repeats = omega (arith, repeats, r.few_repeats);
-      few_rows = omega (arith, rows, part_length set (at + 3) (at + 3 + get_or set (at + 2) 0) (omega (arith, r.next_is, r.rows_below.there)), r.few_rows);
+      few_rows = entry_few_rows P set at e next r;
     }
 
 -- At least one entry was read behind those before it and at most n, and all are good.

@@ -1,35 +1,17 @@
 -- Laws of `lowest_negative`: for the loop over the types, and what the answer says of the sums.
-use mathlib.Core.Path.{◌≡◌, refl, subst}
+use mathlib.Core.Path.{◌≡◌, refl, sym, subst}
+use mathlib.Core.List.{List}
 use mathlib.Core.Bool.{Bool, true, false, cond, false≢true}
-use Prim.Native.Nat.{ℕ, zero, suc, ◌+◌, ◌-◌, ◌≤◌, ◌<◌}
+use Prim.Native.Nat.{ℕ, zero, suc, ◌+◌, ◌≤◌, ◌<◌}
 use native.Mathlib.Decide.{ℕ_discrete}
 use native.Mathlib.Omega.{arith}
 use lib.IntN.{ℤ, pos}
+use lib.ListN.{length, get_or}
 use lib.Signed.{lt_z}
-use Rattle.cycle_sets.specs.Answers.{Answer, confirmed, negative}
+use Rattle.std.specs.Prelude.{Option, None, Some, MatchOption}
+use Rattle.std.specs.List.{AllWithin, HoldsAt}
+use Rattle.cycle_sets.specs.Answers.{confirmed, negative}
 use Rattle.cycle_sets.specs.Confirming.{lowest_negative}
-
--- ---- one type after the other
-
-module _ (sums : ℕ → ℤ) (t n : ℕ) (x : Answer) (rest : lowest_negative sums t (n - t) ≡ x) where
-  module _ (more : t < n) where
-    -- One type, and the rest.
-    one_more : cond (lt_z (sums t) (pos 0)) (negative t (sums t)) (lowest_negative sums (t + 1) (n - (t + 1))) ≡ x
-    unfolding lowest_negative
-    one_more = let e : n - t ≡ suc (n - (t + 1)) = omega arith in rw e at rest
-
-    -- A negative sum is the lowest type's,
-    pub type_stops : (z : ℤ) → z ≡ sums t → lt_z z (pos 0) ≡ true → negative t z ≡ x
-    type_stops z e h = rw e (rw (rw e at h) at one_more)
-
-    -- another is passed over,
-    pub type_goes_on : (z : ℤ) → z ≡ sums t → lt_z z (pos 0) ≡ false → lowest_negative sums (t + 1) (n - (t + 1)) ≡ x
-    type_goes_on z e h = rw (rw e at h) at one_more
-
-  -- and after the last type there is none.
-  pub types_end : n ≤ t → confirmed ≡ x
-  unfolding lowest_negative
-  types_end h = let e : n - t ≡ 0 = omega arith in rw e at rest
 
 -- ---- the answer
 
@@ -59,3 +41,26 @@ pub all_confirmed : (f : ℕ → ℤ) (t n : ℕ) → ((k : ℕ) → t ≤ k →
 unfolding lowest_negative
 all_confirmed f t zero h = refl
 all_confirmed f t (suc n) h = let e = h t (omega arith) (omega arith) in rw e (all_confirmed f (t + 1) n (λ k a b. h k (omega arith) (omega arith)))
+
+-- Where a sum is negative and none before it is, it is the lowest type's.
+pub lowest_found : (f : ℕ → ℤ) (t n k : ℕ) → t ≤ k → k < t + n → ((i : ℕ) → t ≤ i → i < k → lt_z (f i) (pos 0) ≡ false) → lt_z (f k) (pos 0) ≡ true
+    → negative k (f k) ≡ lowest_negative f t n
+unfolding lowest_negative
+lowest_found f t zero k a l before here = absurd (omega arith)
+lowest_found f t (suc n) k a l before here = go (ℕ_discrete t k) (λ e. lowest_found f (t + 1) n k (omega arith) (omega arith) (λ i b m. before i (omega arith) m) here)
+  where
+    go : Dec (t ≡ k) → ((t ≡ k → ⊥) → negative k (f k) ≡ lowest_negative f (t + 1) n) → negative k (f k) ≡ cond (lt_z (f t) (pos 0)) (negative t (f t)) (lowest_negative f (t + 1) n)
+    go (yes e) rest = rw (e, here) refl
+    go (no e) rest = rw (before t (omega arith) (omega arith)) (rest e)
+
+-- What a search for a negative sum says of the sums before the one that it gives, and of that one; or of all, if it gives none.
+abbrev pub Searched : List ℤ → Option ℕ → Type 0
+Searched sums r =
+    MatchOption r (AllWithin (λ z. lt_z z (pos 0) ≡ false) sums 0 (length sums)) (λ k. (k < length sums) × HoldsAt (λ z. lt_z z (pos 0) ≡ true) sums k × AllWithin (λ z. lt_z z (pos 0) ≡ false) sums 0 k)
+
+-- So it is the lowest type's, or there is none.
+pub lowest_searched : (sums : List ℤ) (r : Option ℕ) → Searched sums r
+    → MatchOption r (confirmed ≡ lowest_negative (λ t. get_or sums t (pos 0)) 0 (length sums)) (λ k. negative k (get_or sums k (pos 0)) ≡ lowest_negative (λ t. get_or sums t (pos 0)) 0 (length sums))
+lowest_searched sums None h = sym (all_confirmed (λ t. get_or sums t (pos 0)) 0 (length sums) (λ k a l. h k (pos 0) a (omega arith)))
+lowest_searched sums (Some k) h =
+    lowest_found (λ t. get_or sums t (pos 0)) 0 (length sums) k (omega arith) (omega (arith, h.0)) (λ i a l. h.2 i (pos 0) a l) (h.1 (pos 0))

@@ -19,20 +19,18 @@ use Rattle.livelock.specs.Differences.{Difference}
 use Rattle.livelock.proofs.Differences.{difference_shift}
 use Rattle.livelock.proofs.CycleSetLaws.{set_sent, set_taken, set_difference}
 use Rattle.plant.specs.Found.{found, fault, and_then}
-use Rattle.decoding.specs.Tables.{plant_of, Ready}
+use Rattle.decoding.specs.Tables.{plant_of}
 use Rattle.decoding.specs.declared.Shape.{Shape}
 use Rattle.plant.specs.declared.Fault.{Fault}
 use Rattle.plant.specs.Refusals.{number_of}
 use Rattle.std.specs.Prelude.{Ok, Err}
 use Rattle.decoding.proofs.TableLaws.{rows_counted}
-use Rattle.set_numbers.specs.Numbers.{entry_begins, part}
+use Rattle.set_numbers.specs.Numbers.{entry_begins}
 use Rattle.set_entries.specs.Sets.{entry_at, entries_at, read_set}
-use Rattle.set_entries.specs.Entries.{RowsThere, entry_in}
 use Rattle.set_sums.specs.Sums.{Within, having, Added}
 use Rattle.cycle_sets.specs.Inner.Judging.{SumsOf, JudgedAs, entries_read, fault_met}
 use Rattle.set_numbers.proofs.FoundLaws.{tested, place_same}
-use Rattle.set_entries.proofs.PartLaws.{part_length, part_below}
-use Rattle.set_entries.proofs.EntryLaws.{EntryRead, entry_read}
+use Rattle.set_entries.proofs.EntryLaws.{EntryRead, entry_read, entry_rows_below, entry_few_rows}
 use Rattle.cycle_sets.proofs.TableLaws.{sent_is, taken_is}
 
 -- ---- sums of entries
@@ -128,34 +126,19 @@ module _ (s : Shape) (table set : List ℕ) where
       pub entry_stops : (f : Fault) → fault (number_of f.refusal) f.place ≡ entry_at P set at → JudgedAs P (Err f) (read_set P set)
       entry_stops f h = stops f (rw (← h) at one_more)
 
-      module _ (ready : Ready s table) (next : ℕ) (h : found (entry_in set at) next ≡ entry_at P set at) where
-        -- The entry that is read, what it is, and its rows.
-        abbrev e : Entry
-        e = entry_in set at
-
-        pub read : EntryRead P set at e next
+      module _ (e : Entry) (next : ℕ) (h : found e next ≡ entry_at P set at) where
+        -- What the entry that is read is.
+        read : EntryRead P set at e next
         read = entry_read P set at e next (sym h)
 
-        abbrev ks : List ℕ
-        ks = part set (at + 3) next
-
-        -- What the function that adds the rows asks.
-        pub rows_there : RowsThere table set (at + 3) next
-        rows_there = record { there = read.rows_below.there; room = λ i p q. omega (arith, read.rows_below.small i p q, rows_counted s table, ready.sound.room) }
-
-        module _ (after : List ℤ) (added : Added table (get_or set (at + 1) 0) ks sums after) where
+        module _ (after : List ℤ) (added : Added table e.repeats e.cycle sums after) where
           -- The rows of the entry are rows of the table.
-          rows_are : All (λ k. k < s.rows) ks
-          rows_are = part_below s.rows set (next - (at + 3)) (at + 3) next (omega (arith, read.next_is))
-              (record { there = read.rows_below.there; small = λ i p q. omega (arith, read.rows_below.small i p q, rows_counted s table) })
-
-          -- Its rows are those of the entry.
-          cycle_is : ks ≡ e.cycle
-          cycle_is = ap (part set (at + 3)) read.next_is
+          rows_are : All (λ k. k < s.rows) e.cycle
+          rows_are = subst (λ (n : ℕ). All (λ k. k < n) e.cycle) (rows_counted s table) (entry_rows_below P set at e next read)
 
           -- What the set sends with this entry, or takes, where the rows of the entry send or take n.
-          entry_side : (f : List ℕ → ℕ) (n : ℕ) → n ≡ f ks → sum (λ x. x.repeats * f x.cycle) (g.entries ++ (e ∷ [])) ≡ sum (λ x. x.repeats * f x.cycle) g.entries + e.repeats * n
-          entry_side f n q = omega (arith, entry_added f g.entries e, ap (λ (x : ℕ). e.repeats * x) (q ∙ ap f cycle_is))
+          entry_side : (f : List ℕ → ℕ) (n : ℕ) → n ≡ f e.cycle → sum (λ x. x.repeats * f x.cycle) (g.entries ++ (e ∷ [])) ≡ sum (λ x. x.repeats * f x.cycle) g.entries + e.repeats * n
+          entry_side f n q = omega (arith, entry_added f g.entries e, ap (λ (x : ℕ). e.repeats * x) q)
 
           -- With the rows added, the sums are those of one entry more.
           next_sums : SumsOf P (g.entries ++ (e ∷ [])) after
@@ -163,7 +146,7 @@ module _ (s : Shape) (table set : List ℕ) where
               let start : Difference (get_or sums u (pos 0)) (set_sent P g.entries u) (set_taken P g.entries u) =
               subst (λ (z : ℤ). Difference z (set_sent P g.entries u) (set_taken P g.entries u)) (sym (g.sums_are u)) (set_difference P g.entries u) in
               difference_unique (get_or after u (pos 0)) (set_effect P (g.entries ++ (e ∷ [])) u) (set_sent P (g.entries ++ (e ∷ [])) u) (set_taken P (g.entries ++ (e ∷ [])) u)
-              (difference_shift (get_or after u (pos 0)) _ _ (set_sent P (g.entries ++ (e ∷ [])) u) (set_taken P (g.entries ++ (e ∷ [])) u) (omega (arith, entry_side (λ c. messages_sent P c u) (having (λ r. r.sent) table u ks) (sent_is s table u ks rows_are), entry_side (λ c. messages_taken P c u) (having (λ r. r.taken) table u ks) (taken_is s table u ks rows_are)))
+              (difference_shift (get_or after u (pos 0)) _ _ (set_sent P (g.entries ++ (e ∷ [])) u) (set_taken P (g.entries ++ (e ∷ [])) u) (omega (arith, entry_side (λ c. messages_sent P c u) (having (λ r. r.sent) table u e.cycle) (sent_is s table u e.cycle rows_are), entry_side (λ c. messages_taken P c u) (having (λ r. r.taken) table u e.cycle) (taken_is s table u e.cycle rows_are)))
               (added.sums u (set_sent P g.entries u) (set_taken P g.entries u) start))
               (set_difference P (g.entries ++ (e ∷ [])) u)
 
@@ -178,7 +161,7 @@ module _ (s : Shape) (table set : List ℕ) where
                 few = omega (arith, more);
                 near = omega (arith, g.near, read.next_is, read.few_rows);
                 room = added.room;
-                within = λ i. omega (arith, added.within (before * 128000000) g.within i, part_length set (at + 3) next read.rows_below.there, read.next_is, read.few_rows);
+                within = λ i. omega (arith, added.within (before * 128000000) g.within i, entry_few_rows P set at e next read);
                 entries = g.entries ++ (e ∷ []);
                 rest = rw (lt-ltb next (length set) l) at ends;
                 sums_are = next_sums;

@@ -1,17 +1,15 @@
 // Confirming cycle sets: the entries are judged one by one, and their effects are added.
 #![tactic(auto)]
 
-ghost use Rattle.std.specs.Prelude.{◌≡◌, ◌↔◌, min, length, get_or, pos};
+ghost use Rattle.std.specs.Prelude.{◌≡◌, ◌↔◌, ◌*◌, ◌≤◌, min, length, get_or, pos};
 ghost use Rattle.plant.specs.Reading.{read_plant};
-ghost use Rattle.plant.specs.Limits.{WithinLimits};
-ghost use Rattle.tables.specs.Tables.{RoomFor};
-ghost use Rattle.decoding.specs.Tables.{plant_of, Ready};
+ghost use Rattle.decoding.specs.Tables.{plant_of};
 ghost use Rattle.set_entries.specs.Sets.{read_set};
 ghost use Rattle.cycle_sets.specs.Answers.{answer_of, confirmed};
 ghost use Rattle.cycle_sets.specs.Confirming.{lowest_negative, owed, ReadsBalanced};
 ghost use Rattle.cycle_sets.specs.Inner.Judging.{JudgedAs};
 
-use decoding::Shape;
+use decoding::Decoded;
 use plant::Fault;
 
 // The answer of confirming: confirmed, or the lowest type with a negative sum and that sum.
@@ -25,19 +23,21 @@ pub enum Confirmation {
 fn lowest_negative(sums: &[i64]) -> Confirmation
     ensures { answer_of (Ok result) ≡ lowest_negative (λ t. get_or sums.now t (pos 0)) 0 (length sums.now) }
 {
-    for (message, sum) in sums.iter().enumerate() {
-        if *sum < 0 {
-            return Confirmation::Negative { message, sum: *sum };
-        }
+    match sums.iter().position(|sum| *sum < 0) {
+        Some(message) => Confirmation::Negative {
+            message,
+            sum: sums[message],
+        },
+        None => Confirmation::Confirmed,
     }
-    Confirmation::Confirmed
 }
 
 // Judges the entries one by one and adds up their effects, a sum for each type.
-fn judge_set(table: &[u8], shape: Shape, set: &[u32]) -> Result<[i64; 64], Fault>
-    requires { Ready shape table.now × WithinLimits (plant_of shape table.now) }
-    ensures { JudgedAs (plant_of shape table.now) result (read_set (plant_of shape table.now) set.now) }
+fn judge_set(decoded: Decoded, set: &[u32]) -> Result<[i64; 64], Fault>
+    ensures { let plant = plant_of decoded.entry.shape decoded.entry.table.now in JudgedAs plant result (read_set plant set.now) }
 {
+    let machines = decoded.shape.machines as u32;
+    let rows = decoded.shape.rows as u32;
     let mut sums = [0; 64];
     let mut at = 0;
     let mut before = 0;
@@ -45,18 +45,11 @@ fn judge_set(table: &[u8], shape: Shape, set: &[u32]) -> Result<[i64; 64], Fault
         if let Err(fault) = set_numbers::entry_begins(set, at, before) {
             break 'entries Err(fault);
         }
-        let entry = set_entries::judge_entry(
-            table,
-            set,
-            at,
-            shape.machines as u32,
-            shape.rows as u32,
-        );
-        match entry {
+        match set_entries::judge_entry(decoded.table, set, at, machines, rows) {
             Err(fault) => break 'entries Err(fault),
-            Ok(next) => {
-                set_sums::add_entry(table, set, at, next, &mut sums);
-                at = next;
+            Ok(entry) => {
+                set_sums::add_entry(entry.value, &mut sums);
+                at = entry.next;
             }
         }
         if at >= set.len() {
@@ -66,13 +59,18 @@ fn judge_set(table: &[u8], shape: Shape, set: &[u32]) -> Result<[i64; 64], Fault
     }
 }
 
-// Reads a file into a lent table, and confirms the set.
-fn confirm_in(file: &[u8], set: &[u32], table: &mut [u8]) -> Result<Confirmation, Fault>
-    requires { RoomFor (min 1024 (length file.now)) table.old }
+// Reads a file into a table of so many bytes, and confirms the set.
+fn confirm_in<const BYTES: usize>(file: &[u8], set: &[u32]) -> Result<Confirmation, Fault>
+    requires { (8 * min 1024 (length file.now) ≤ BYTES) × (BYTES ≤ 8192) }
     ensures { answer_of result ≡ owed (read_plant file.now) set.now }
 {
-    let shape = decoding::decode(file, table)?;
-    let sums = judge_set(table, shape, set)?;
+    let mut table = [0; BYTES];
+    let shape = decoding::decode(file, &mut table)?;
+    let decoded = Decoded {
+        table: &table,
+        shape,
+    };
+    let sums = judge_set(decoded, set)?;
     Ok(lowest_negative(&sums[..usize::from(shape.types)]))
 }
 
@@ -82,9 +80,7 @@ pub fn confirm(file: &[u8], set: &[u32]) -> Result<Confirmation, Fault>
     ensures variant { (answer_of result ≡ confirmed) ↔ ReadsBalanced file.now set.now }
 {
     if file.len() <= tables::SHORT_FILE {
-        let mut table = [0; tables::SHORT];
-        return confirm_in(file, set, &mut table);
+        return confirm_in::<{ tables::SHORT }>(file, set);
     }
-    let mut table = [0; tables::LONGEST];
-    confirm_in(file, set, &mut table)
+    confirm_in::<{ tables::LONGEST }>(file, set)
 }

@@ -14,8 +14,7 @@ use native.Mathlib.Numerals.{add-one}
 use native.Mathlib.Omega.{arith}
 use borrow.Author.Tests.{ltb-true, ltb-false}
 use lib.Dec.{ltb}
-use Rattle.std.proofs.lemmas.List.{take-replicate}
-use lib.ListN.{length, get_or, set, take, replicate, get_or-replicate, length-replicate, length-set, get_or-eq_default}
+use lib.ListN.{length, get_or, set, length-set}
 use lib.Seq.{get_or-set_same, get_or-set_other}
 use lib.IntN.{ℤ, pos, ◌+ℤ◌, ◌*ℤ◌}
 use Rattle.livelock.specs.Lists.{sum}
@@ -24,9 +23,9 @@ use Rattle.livelock.proofs.Lengths.{cycle_lengthened, cycle_of_lengthened, lengt
 use Rattle.livelock.proofs.Graphs.{Within, PositiveCycle, longest}
 use Rattle.livelock.proofs.Potentials.{Potential, no_positive_cycle}
 use Rattle.livelock.proofs.Rounds.{walk_without_edges, edge_in_front, longer_positive, pass_longest}
-use Rattle.edge_lists.specs.EdgeLists.{edge_in}
-use Rattle.deciding.specs.Signs.{rise, fall}
-use Rattle.deciding.specs.Rounds.{edge_graph, EdgesIn, AtMost, WalkLengths, Pass, AllBelowZero, SomeZeroOrMore}
+use Rattle.edge_lists.specs.EdgeLists.{edge_in, EdgesIn}
+use Rattle.edge_lists.specs.Signs.{rise, fall}
+use Rattle.deciding.specs.Rounds.{edge_graph, AtMost, WalkLengths, Pass, AllBelowZero, SomeZeroOrMore}
 use Rattle.deciding.proofs.SignLaws.{rise_fall, rise_at_most, fall_at_most, difference_same, difference_length}
 
 -- Every edge of the list leads from one of the states to one of them.
@@ -131,7 +130,7 @@ module _ (g : Graph) (i : ℕ) (before now : List ℕ) (last : Option ℕ) (so_f
 
 -- The same for an edge list, with the length 1 + n × weight.
 module _ (n : ℕ) (edges : List Edge) (most : n ≤ 64) (i : ℕ) (there : i < length edges)
-    (before now : List ℕ) (ok : EdgesIn (length before) edges) (last : Option ℕ) (so_far : Pass (lengthened n (edge_graph edges)) i before now last) where
+    (before now : List ℕ) {states : ℕ} (ok : EdgesIn states edges) (room : states ≤ length before) (last : Option ℕ) (so_far : Pass (lengthened n (edge_graph edges)) i before now last) where
   abbrev g : Graph
   g = lengthened n (edge_graph edges)
 
@@ -180,20 +179,6 @@ pub record Heights (g : Graph) (k : ℕ) (heights : List ℕ) : Type 0 where
   pub attained : WalkLengths g heights
   pub at_least : (s : ℕ) → longest g k s ≤ get_or heights s 0
   pub raised : (k ≡ 0) ⊎ ((s : ℕ) × (longest g (k - 1) s < get_or heights s 0))
-
--- A table of zeros has 0 at every place, also beyond its end.
-pub zeros : (n : ℕ) → AtMost 0 (replicate n 0)
-zeros n s = go (dec_lt s n)
-  where
-    go : Dec (s < n) → get_or (replicate n 0) s 0 ≤ 0
-    go (yes l) = omega (arith, get_or-replicate {A = ℕ} n s 0 0 l)
-    go (no l) =
-        let past : length (replicate {A = ℕ} n 0) ≤ s = rw (length-replicate {A = ℕ} n 0) (omega arith) in
-        omega (arith, get_or-eq_default {A = ℕ} (replicate n 0) 0 past)
-
--- The front of such a table is as long as asked, and has 0 at every place.
-pub zeros_lent : (n k : ℕ) → k ≤ n → (length {A = ℕ} (take k (replicate n 0)) ≡ k) × AtMost 0 (take k (replicate n 0))
-zeros_lent n k l = rw (take-replicate {X = ℕ} k n 0 l) (length-replicate {A = ℕ} k 0, zeros k)
 
 -- Before the first pass,
 pub heights_first : (g : Graph) (heights : List ℕ) → AtMost 0 heights → Heights g 0 heights

@@ -14,7 +14,7 @@ use mir.Facts.{to_z_pos, to_z-of_z}
 use borrow.Author.Tests.{leb-true, leb-false, le-ltb}
 use Rattle.livelock.specs.Differences.{Difference}
 use Rattle.livelock.proofs.Differences.{difference_shift, difference_minus, difference_plus, difference_times}
-use Rattle.deciding.specs.Signs.{rise, fall}
+use Rattle.edge_lists.specs.Signs.{rise, fall}
 
 -- A signed number is its rise less its fall.
 pub rise_fall : (z : ℤ) → Difference z (rise z) (fall z)

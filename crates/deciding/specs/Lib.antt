@@ -1,3 +1,2 @@
 -- Edge lists as graphs, and what deciding says of them.
-pub mod Signs
 pub mod Rounds

@@ -5,7 +5,7 @@ use Rattle.livelock.specs.Lists.{sum}
 use Rattle.livelock.specs.Graphs.{Graph, Cycle, WalkLength}
 use Rattle.edge_lists.specs.declared.Edge.{Edge}
 use Rattle.edge_lists.specs.EdgeLists.{edge_in}
-use Rattle.deciding.specs.Signs.{rise, fall}
+use Rattle.edge_lists.specs.Signs.{rise, fall}
 
 -- The edges of a list as a graph.
 abbrev pub edge_graph : List Edge → Graph
@@ -18,16 +18,6 @@ edge_graph edges =
       plus = λ e. rise (edge_in edges e).weight;
       minus = λ e. fall (edge_in edges e).weight;
     }
-
--- So many edges between so many states, none of which weighs more than 65,535 either way.
-pub record EdgesIn (states : ℕ) (edges : List Edge) : Type 0 where
-  pub some_state : 1 ≤ states
-  pub states_in : states ≤ 64
-  pub few : length edges ≤ 256
-  pub from_in : (e : ℕ) → e < length edges → (edge_in edges e).from < states
-  pub to_in : (e : ℕ) → e < length edges → (edge_in edges e).to < states
-  pub rise_in : (e : ℕ) → e < length edges → rise (edge_in edges e).weight ≤ 65535
-  pub fall_in : (e : ℕ) → e < length edges → fall (edge_in edges e).weight ≤ 65535
 
 -- No number of the table is above `most`.
 abbrev pub AtMost : ℕ → List ℕ → Type 0

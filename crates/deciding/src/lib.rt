@@ -4,10 +4,10 @@
 
 ghost use Rattle.std.specs.Prelude.{◌≡◌, ◌≤◌, length, pos, ◌+ℤ◌, ◌*ℤ◌};
 ghost use Rattle.livelock.specs.Graphs.{lengthened};
-ghost use Rattle.deciding.specs.Signs.{rise, fall};
-ghost use Rattle.deciding.specs.Rounds.{edge_graph, EdgesIn, AtMost, Pass, Decided};
+ghost use Rattle.edge_lists.specs.Signs.{rise, fall};
+ghost use Rattle.deciding.specs.Rounds.{edge_graph, AtMost, Pass, Decided};
 
-use edge_lists::Edge;
+use edge_lists::Edges;
 use relaxing::{raised, rises};
 
 pub mod relaxing;
@@ -20,15 +20,15 @@ fn row_length(n: u64, weight: i64) -> i64
     1 + n as i64 * weight
 }
 
-// One pass over the edges, in place, with one height for each state; the last edge that raised a height, or none. The height of a is read first: read just
+// One pass over the edges, in place, with a height for each state; the last edge that raised a height, or none. The height of a is read first: read just
 // before the test, the compiler would store it at every edge, raised or not, and the next edge would wait for the store. The last edge is a number until
 // the end: with an Option in the loop the compiler makes two loops of it, and a pass takes 1.5 times as long.
-fn relax(edges: &[Edge], n: u64, heights: &mut [u64]) -> Option<usize>
-    requires { EdgesIn (length heights.old) edges.now × (n ≤ 64) × AtMost 68719476736 heights.old }
-    ensures { Pass (lengthened n (edge_graph edges.now)) (length edges.now) heights.old heights.new result }
+fn relax(edges: Edges, n: u64, heights: &mut [u64]) -> Option<usize>
+    requires { (edges.states ≤ length heights.old) × (n ≤ 64) × AtMost 68719476736 heights.old }
+    ensures { Pass (lengthened n (edge_graph edges.entry.list.now)) (length edges.entry.list.now) heights.old heights.new result }
 {
-    let mut last = edges.len();
-    for (i, edge) in edges.iter().enumerate() {
+    let mut last = edges.list.len();
+    for (i, edge) in edges.list.iter().enumerate() {
         let a = usize::from(edge.from);
         let height = heights[a];
         let b = usize::from(edge.to);
@@ -39,32 +39,36 @@ fn relax(edges: &[Edge], n: u64, heights: &mut [u64]) -> Option<usize>
             last = i;
         }
     }
-    if last < edges.len() { Some(last) } else { None }
+    if last < edges.list.len() {
+        Some(last)
+    } else {
+        None
+    }
 }
 
-// Whether every simple cycle weighs below zero, with a lent height for each state, each 0. A pass that raises no height says yes; if each of as many passes
-// as there are states raises one, the answer is no.
-fn decide_from(edges: &[Edge], n: u64, heights: &mut [u64]) -> bool
-    requires { EdgesIn (length heights.old) edges.now × (length heights.old ≤ n) × (n ≤ 64) × AtMost 0 heights.old }
-    ensures { Decided (edge_graph edges.now) result }
+// Whether every simple cycle weighs below zero, with heights for S states, each 0 at first. A pass that raises no height says yes; if each of as many
+// passes as there are states raises one, the answer is no.
+fn decide_in<const S: usize>(edges: Edges, n: u64) -> bool
+    requires { (edges.states ≤ S) × (S ≤ 64) × (edges.states ≤ n) × (n ≤ 64) }
+    ensures { Decided (edge_graph edges.entry.list.now) result }
 {
-    for _ in 0..heights.len() {
-        if relax(edges, n, heights).is_none() {
+    let mut heights = [0; S];
+    for _ in 0..edges.states {
+        if relax(edges, n, &mut heights).is_none() {
             return true;
         }
     }
     false
 }
 
-// The same with heights of its own: a machine of few states needs few, and clearing 64 for each machine would be a tenth of the time.
-pub fn decide(edges: &[Edge], states: usize, n: u64) -> bool
-    requires { EdgesIn states edges.now × (states ≤ n) × (n ≤ 64) }
-    ensures { Decided (edge_graph edges.now) result }
+// The same: a machine of few states needs few heights, and clearing 64 for each machine would be a tenth of the time.
+pub fn decide(edges: Edges, n: u64) -> bool
+    requires { (edges.states ≤ n) × (n ≤ 64) }
+    ensures { Decided (edge_graph edges.entry.list.now) result }
 {
-    if states <= 8 {
-        let mut heights = [0; 8];
-        return decide_from(edges, n, &mut heights[..states]);
+    if edges.states <= 8 {
+        decide_in::<8>(edges, n)
+    } else {
+        decide_in::<64>(edges, n)
     }
-    let mut heights = [0; 64];
-    decide_from(edges, n, &mut heights[..states])
 }

@@ -1,7 +1,7 @@
 // Relaxing one edge. The decision relaxes heights in place, since a height may be the length of any walk; the search (crate closed_walks) goes from table to
 // table, since it needs walks of exactly k edges.
 ghost use Rattle.std.specs.Prelude.{◌≡◌, ◌+◌, ◌-◌, ◌≤◌, max, ltb};
-ghost use Rattle.deciding.specs.Signs.{rise, fall};
+ghost use Rattle.edge_lists.specs.Signs.{rise, fall};
 
 // Whether the length along an edge and `next` on from its end is above `at`.
 pub fn rises(at: u64, next: u64, length: i64) -> bool

@@ -1,5 +1,10 @@
--- Laws of the decoded table.
+-- Laws of the reader, and of the decoded table.
 pub mod TableLaws
 pub mod RoomLaws
-pub mod ReadLaws
+pub mod RowReadLaws
+pub mod MachineReadLaws
+pub mod MachinesReadLaws
+pub mod PlantReadLaws
 pub mod FirstRowLaws
+pub mod StoreLaws
+pub mod DecodedLaws

@@ -1,20 +1,23 @@
-// Decoding plant files into a table of rows: the rows are stored as they are read, and of the rows of a machine their keys are kept, so that a
-// twin is found. No entry point: `weighing`, `listing` and `cycle_sets` call it.
+// Decoding plant files: one reader for the calls that store the rows, in a table, and for the call that only counts them. Where the rows go is a type's to
+// say; of the rows of a machine their keys are kept, so that a twin is found. No entry point: `reading`, `weighing`, `listing`, `cycle_sets` and `watchers`
+// call it.
 #![tactic(auto)]
 
-ghost use Rattle.std.specs.Prelude.{◌≡◌, ◌+◌, ◌≤◌, ◌<◌, min, length, IfOk};
+ghost use Rattle.std.specs.Prelude.{◌≡◌, [], ◌+◌, ◌≤◌, ◌<◌, min, length, IfOk};
 ghost use Rattle.plant.specs.Reading.{read_plant};
 ghost use Rattle.tables.specs.Tables.{RoomFor};
 ghost use Rattle.decoding.specs.Tables.{decoded_found, Ready};
-ghost use Rattle.decoding.specs.Inner.Steps.{RowsBefore, RowsRead, MachineRead, MachinesRead};
+ghost use Rattle.decoding.specs.Reads.{PlantRead};
+ghost use Rattle.decoding.specs.Inner.Steps.{RowsRead, MachineRead, MachinesRead};
 
-use plant::{Fault, Field, Refusal};
+use plant::{Fault, Field};
+use twins::{FEW_ROWS, Keys, MOST_ROWS};
 
-// A machine has at most so many rows,
-const MOST_ROWS: usize = 255;
+mod decoded;
+mod row_stores;
 
-// and one with few needs no long list of keys, which has to be cleared.
-const FEW_ROWS: usize = 32;
+pub use decoded::Decoded;
+pub use row_stores::{RowStore, TableStore};
 
 // What a table of rows lacks for a plant. Machine m has the rows from first[m] up to, and not including, first[m + 1]. Entries past the counts are unused.
 #[derive(Clone, Copy)]
@@ -41,66 +44,54 @@ struct Machine {
     rows: usize,
 }
 
-// The rows of a machine, from the part of the file that begins after its two bytes, stored behind the `used` rows so far, by way of a list that has
-// room for their keys.
-fn read_rows_in(
+// The rows of a machine, from the part of the file that begins after its two bytes, kept behind the `used` rows so far; their keys are kept as well, so
+// that a twin is found.
+fn read_rows<S: RowStore, const N: usize>(
     s: &[u8],
     head: Head,
     types: u8,
     used: usize,
-    table: &mut [u8],
-    keys: &mut [u32],
+    store: &mut S,
+    keys: &mut Keys<N>,
 ) -> Result<usize, Fault>
-    requires room_for { RoomFor (min 1024 (used + length s.now)) table.old × (used + head.rows ≤ 1024) × (types ≤ 64) }
-    requires rows_before { RowsBefore head.machine used table.old × (head.rows ≤ length keys.old) }
-    ensures { RowsRead head.rows head.machine head.states types used s.now table.old table.new result }
+    requires room_for { (min 1024 (used + length s.now) ≤ S.room store.old) × (used + head.rows ≤ 1024) × (types ≤ 64) }
+    requires room_for_keys { (head.rows ≤ 255) × (min 255 (length s.now) ≤ N) }
+    ensures rows { RowsRead head.rows head.machine head.states types used s.now (S.Holds store.old) (S.Holds store.new) result }
+    ensures same_room { S.room store.new ≡ S.room store.old }
+    ensures same_lists { S.lent store.new ≡ S.lent store.old }
 {
+    keys.clear();
     let mut at = 0;
     let mut implied = 0;
-    let mut left = 0;
     for i in 0..head.rows {
         let row = plant_rows::row_at(s, at, head.states, types, implied)?;
         let fields = row.value;
-        let Some(kept) = twins::keep_row(keys, i, left, fields) else {
-            return Err(Fault {
-                refusal: Refusal::TwinRow,
-                place: at,
-            });
-        };
-        left = kept;
+        keys.keep(fields, at)?;
+        store.store_row(used + i, head.machine, fields);
         implied = fields.left;
         at = row.next;
-        tables::store_row(table, used + i, head.machine, fields);
     }
     Ok(at)
 }
 
-// The same, with a list of keys of our own.
-fn read_rows(s: &[u8], head: Head, types: u8, used: usize, table: &mut [u8]) -> Result<usize, Fault>
-    requires room_for { RoomFor (min 1024 (used + length s.now)) table.old × (used + head.rows ≤ 1024) × (types ≤ 64) }
-    requires rows_before { RowsBefore head.machine used table.old × (head.rows ≤ 255) }
-    ensures { RowsRead head.rows head.machine head.states types used s.now table.old table.new result }
-{
-    if head.rows <= FEW_ROWS {
-        let mut keys = [0u32; FEW_ROWS];
-        return read_rows_in(s, head, types, used, table, &mut keys);
-    }
-    let mut keys = [0u32; MOST_ROWS];
-    read_rows_in(s, head, types, used, table, &mut keys)
-}
-
-// The machine at `at`, which is machine `m`, after the `used` rows so far: its two bytes, and its rows.
-fn read_machine(
+// The machine at `at`, which is machine `m`, after the `used` rows so far: its two bytes, and its rows. As a part of its caller, where it stands once for each
+// length of the list of keys, it took a third longer on files of many rows.
+#[inline(never)]
+fn read_machine<S: RowStore, const N: usize>(
     file: &[u8],
     at: usize,
     m: usize,
     types: u8,
     used: usize,
-    table: &mut [u8],
+    store: &mut S,
+    keys: &mut Keys<N>,
 ) -> Result<Field<Machine>, Fault>
-    requires room_for { RoomFor (min 1024 (length file.now)) table.old × (used ≤ 1024) × (used ≤ at) × (types ≤ 64) × (m < 16) }
-    requires rows_before { RowsBefore m used table.old }
-    ensures { MachineRead file.now at m types used table.old table.new result }
+    requires room_for { (min 1024 (length file.now) ≤ S.room store.old) × (used ≤ 1024) × (used ≤ at) × (types ≤ 64) × (m < 16) }
+    requires room_for_keys { min 255 (length file.now) ≤ N }
+    ensures machine { MachineRead file.now at m types used (S.Holds store.old) (S.Holds store.new) result }
+    ensures few_rows { IfOk result (λ f. f.value.rows ≤ 1024) }
+    ensures same_room { S.room store.new ≡ S.room store.old }
+    ensures same_lists { S.lent store.new ≡ S.lent store.old }
 {
     let states = plant::states_byte(file, at)?;
     let count = plant::rows_byte(file, states.next, used)?;
@@ -111,8 +102,10 @@ fn read_machine(
         states: states.value,
         rows: n,
     };
-    let end = read_rows(&file[from..], head, types, used, table);
-    let next = file_ends::moved(end, from)?;
+    let next = match read_rows(&file[from..], head, types, used, store, keys) {
+        Ok(end) => from + end,
+        Err(fault) => return Err(file_ends::moved_fault(fault, from)),
+    };
     Ok(Field {
         value: Machine {
             states: states.value,
@@ -123,22 +116,26 @@ fn read_machine(
 }
 
 // `n` machines from `from` on.
-fn read_machines(
+fn read_machines<S: RowStore, const N: usize>(
     file: &[u8],
     n: usize,
     from: usize,
     types: u8,
-    table: &mut [u8],
+    store: &mut S,
+    keys: &mut Keys<N>,
 ) -> Result<Field<Shape>, Fault>
-    requires { RoomFor (min 1024 (length file.now)) table.old × (types ≤ 64) × (n ≤ 16) × (from ≤ length file.now) }
-    ensures { MachinesRead n file.now from types table.new result }
+    requires room_for { (min 1024 (length file.now) ≤ S.room store.old) × (types ≤ 64) × (n ≤ 16) × (from ≤ length file.now) × (min 255 (length file.now) ≤ N) }
+    requires no_rows { S.Holds store.old [] }
+    ensures machines { MachinesRead n file.now from types (S.Holds store.new) result }
+    ensures same_lists { S.lent store.new ≡ S.lent store.old }
+    ensures same_room { S.room store.new ≡ S.room store.old }
 {
     let mut states = [0; 16];
     let mut first = [0; 17];
     let mut at = from;
     let mut rows = 0;
     for i in 0..n {
-        let machine = read_machine(file, at, i, types, rows, table)?;
+        let machine = read_machine(file, at, i, types, rows, store, keys)?;
         at = machine.next;
         rows = machine.value.rows;
         states[i] = machine.value.states;
@@ -156,16 +153,46 @@ fn read_machines(
     })
 }
 
+// Reads a file into a store of rows, by way of a list of keys that is long enough for its machines.
+fn read_with<S: RowStore, const N: usize>(
+    file: &[u8],
+    store: &mut S,
+    keys: &mut Keys<N>,
+) -> Result<Shape, Fault>
+    requires room_for { (min 1024 (length file.now) ≤ S.room store.old) × (min 255 (length file.now) ≤ N) }
+    requires no_rows { S.Holds store.old [] }
+    ensures plant { PlantRead file.now (S.Holds store.new) result }
+    ensures same_room { S.room store.new ≡ S.room store.old }
+    ensures same_lists { S.lent store.new ≡ S.lent store.old }
+{
+    let machines = plant::machines_byte(file, 0)?;
+    let types = plant::types_byte(file, machines.next)?;
+    let n = usize::from(machines.value);
+    let read = read_machines(file, n, types.next, types.value, store, keys)?;
+    file_ends::ends_at(file, read.next)?;
+    Ok(read.value)
+}
+
+// Reads a file into a store of rows: what the rows lack for a plant, or the first fault. A file of so many bytes has fewer rows, so that a short file needs
+// a short list of keys only.
+pub fn read_into<S: RowStore>(file: &[u8], store: &mut S) -> Result<Shape, Fault>
+    requires room_for { min 1024 (length file.now) ≤ S.room store.old }
+    requires no_rows { S.Holds store.old [] }
+    ensures plant { PlantRead file.now (S.Holds store.new) result }
+    ensures same_room { S.room store.new ≡ S.room store.old }
+    ensures same_lists { S.lent store.new ≡ S.lent store.old }
+{
+    if file.len() <= FEW_ROWS {
+        return read_with(file, store, &mut Keys::<FEW_ROWS>::new());
+    }
+    read_with(file, store, &mut Keys::<MOST_ROWS>::new())
+}
+
 // Reads a file into a lent table: its plant, or the first fault. A file of so many bytes has fewer rows, so that a short file needs a short table only.
 pub fn decode(file: &[u8], table: &mut [u8]) -> Result<Shape, Fault>
     requires { RoomFor (min 1024 (length file.now)) table.old }
     ensures table_after { decoded_found result (length file.now) table.new ≡ read_plant file.now }
     ensures ready { IfOk result (λ shape. Ready shape table.new) }
 {
-    let machines = plant::machines_byte(file, 0)?;
-    let types = plant::types_byte(file, machines.next)?;
-    let n = usize::from(machines.value);
-    let read = read_machines(file, n, types.next, types.value, table)?;
-    file_ends::at_file_end(file, Ok(read.next))?;
-    Ok(read.value)
+    read_into(file, &mut TableStore { table })
 }

@@ -1,2 +1,3 @@
--- A list of edges.
+-- Signed numbers, and lists of edges.
+pub mod Signs
 pub mod EdgeLists

@@ -1,7 +1,7 @@
 -- Laws of the edge list: while it grows row by row, and the limits of its edges.
 use mathlib.Core.Path.{◌≡◌, refl, sym, ap, ◌∙◌, subst}
 use mathlib.Core.Bool.{Bool, true, false, not, false≢true}
-use mathlib.Core.Option.{Option, none, some}
+use Rattle.std.specs.Prelude.{Option, None, Some}
 use mathlib.Core.List.{List, [], ◌∷◌, ◌++◌}
 use Prim.Native.Nat.{ℕ, ◌+◌, ◌≤◌, ◌<◌}
 use native.Mathlib.Decide.{dec_lt}
@@ -11,13 +11,13 @@ use lib.IntN.{ℤ, pos, negsuc, nat_abs, ◌-ℤ◌}
 use Rattle.livelock.specs.Weights.{message_weight}
 use Rattle.livelock.specs.Differences.{Difference}
 use Rattle.livelock.proofs.Differences.{difference_minus}
-use Rattle.deciding.specs.Signs.{rise, fall}
+use Rattle.edge_lists.specs.Signs.{rise, fall}
 use Rattle.livelock.specs.Plants.{Row, has_progress}
 use Rattle.tables.specs.Tables.{row_in, row_of}
 use Rattle.tables.specs.declared.TableRow.{TableRow}
 use Rattle.tables.proofs.RowLaws.{row_progress}
 use Rattle.edge_lists.specs.declared.Edge.{Edge}
-use Rattle.edge_lists.specs.EdgeLists.{edge_in}
+use Rattle.edge_lists.specs.EdgeLists.{edge_in, EdgesIn}
 use Rattle.std.proofs.lemmas.List.{take-set, take_more_set, length-append}
 use Rattle.std.proofs.Math.ListN.{get_or-append}
 use Rattle.std.proofs.Math.Seq.{get_or-append_seam}
@@ -26,7 +26,6 @@ use mir.Syntax.{w16}
 use Rattle.std.proofs.Common.{SFits}
 use lib.ListN.{length, take, set}
 use Rattle.edges.specs.Edges.{row_weight, Light, EdgeOf, Has, Listed, RowsBetween}
-use Rattle.deciding.specs.Rounds.{EdgesIn}
 use Rattle.deciding.proofs.SignLaws.{rise_at_most, fall_at_most}
 
 -- A row counts 1 at most.
@@ -132,8 +131,8 @@ next_listed t ws low k count edges h from_low there r is w weighs = go r.fields.
 
 -- Where no weight is above 1,000, no message's is,
 message_light : (ws : List ℕ) → Light ws → (o : Option ℕ) → message_weight ws o ≤ 1000
-message_light ws light none = omega arith
-message_light ws light (some t) = light t
+message_light ws light None = omega arith
+message_light ws light (Some t) = light t
 
 -- a difference is no more than its two numbers together,
 size_at_most : (z : ℤ) (a b : ℕ) → Difference z a b → nat_abs z ≤ a + b

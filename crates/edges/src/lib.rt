@@ -3,21 +3,21 @@
 
 ghost use Rattle.std.specs.Prelude.{◌≡◌, ◌-◌, ◌≤◌, length, take};
 ghost use Rattle.livelock.specs.Weights.{message_weight};
-ghost use Rattle.plant.specs.Steps.{type_of};
 ghost use Rattle.tables.specs.Tables.{row_of, RoomFor};
 ghost use Rattle.edges.specs.Edges.{row_weight, Light, Listed};
 
 use edge_lists::Edge;
+use std::ops::Range;
 use tables::TableRow;
 
 // The weight of a message: 0 for none.
-fn message_weight(message: u8, weights: &[u16]) -> u16
-    ensures { result ≡ message_weight weights.now (type_of message) }
+fn message_weight(message: Option<u8>, weights: &[u16]) -> u16
+    ensures { result ≡ message_weight weights.now message }
 {
-    if message >= 64 {
-        return 0;
-    }
-    weights.get(usize::from(message)).copied().unwrap_or(0)
+    message.map_or(
+        0,
+        |kind| weights.get(usize::from(kind)).copied().unwrap_or(0),
+    )
 }
 
 // What a row sends less what it takes.
@@ -29,15 +29,15 @@ fn row_weight(row: TableRow, weights: &[u16]) -> i64
     i64::from(up) - i64::from(down)
 }
 
-// Lists the quiet rows from `low` up to, and not including, `high`, at the front of the list, and hands back how many they are. Each row is stored; only a
-// quiet one is counted, so that the next takes its place otherwise.
-pub fn edges_of(table: &[u8], low: usize, high: usize, weights: &[u16], edges: &mut [Edge]) -> usize
-    requires { RoomFor high table.now × (high ≤ 1024) × (low ≤ high) × (high - low ≤ length edges.old) × Light weights.now }
-    ensures listed { Listed table.now weights.now low high (take result edges.new) }
+// Lists the quiet ones of these rows at the front of the list, and hands back how many they are. Each row is stored; only a quiet one is counted, so that the
+// next takes its place otherwise: to store a row only if it is quiet would cost a branch.
+pub fn edges_of(table: &[u8], rows: Range<usize>, weights: &[u16], edges: &mut [Edge]) -> usize
+    requires { RoomFor rows.end table.now × (rows.end ≤ 1024) × (rows.start ≤ rows.end) × (rows.end - rows.start ≤ length edges.old) × Light weights.now }
+    ensures listed { Listed table.now weights.now rows.start rows.end (take result edges.new) }
     ensures within { result ≤ length edges.new }
 {
     let mut count = 0;
-    for k in low..high {
+    for k in rows.start..rows.end {
         let row = tables::row_in(table, k);
         let weight = row_weight(row, weights);
         edges[count] = Edge {

@@ -1,5 +1,5 @@
 -- The parts of a graph.
-use Rattle.std.specs.Prelude.{List, map, ℕ, ◌%◌, get_or}
+use Rattle.std.specs.Prelude.{List, [], map, ℕ, ◌%◌, get_or}
 use Rattle.livelock.specs.Lists.{below}
 use Rattle.graphs.specs.declared.Graph.{Graph}
 
@@ -27,9 +27,13 @@ head_of graph = graph.head
 unfoldable pub into_of : Graph → List ℕ
 into_of graph = graph.into
 
--- and at 32 s + t the number of rows from state s to state t.
-unfoldable pub between_of : Graph → List ℕ
+-- and for each state the number of rows to each state:
+unfoldable pub between_of : Graph → List (List ℕ)
 between_of graph = graph.between
+
+-- what such a table has for states s and t.
+abbrev pub pair : List (List ℕ) → ℕ → ℕ → ℕ
+pair table s t = get_or (get_or table s []) t 0
 
 -- The number after the last row.
 unfoldable pub last_of : Graph → ℕ

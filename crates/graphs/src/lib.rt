@@ -3,11 +3,11 @@
 // makes a graph.
 #![tactic(auto)]
 
-ghost use Rattle.std.specs.Prelude.{◌≡◌, ◌+◌, ◌*◌, ◌<◌, get_or};
-ghost use Rattle.graphs.specs.Graphs.{left_of, entered_of, next_of, head_of, into_of, between_of, last_of};
+ghost use Rattle.std.specs.Prelude.{◌≡◌, ◌<◌, get_or};
+ghost use Rattle.graphs.specs.Graphs.{left_of, entered_of, next_of, head_of, into_of, between_of, pair, last_of};
 
 // The rows of a machine as a graph. Of row k, only k % 64 tells the place.
-#[derive(Drop)]
+#[derive(Clone, Copy, Debug, PartialEq, Eq)]
 pub struct Graph {
     // The state that each row leaves, the state it enters, and the next row that leaves the same state.
     pub left: [u8; 64],
@@ -19,8 +19,8 @@ pub struct Graph {
     pub last: u16,
     // For each state, the states with a row to it as bits.
     pub into: [u32; 32],
-    // At 32 s + t the number of rows from state s to state t.
-    pub between: [u16; 768],
+    // For each state, the number of rows to each state.
+    pub between: [[u16; 32]; 24],
 }
 
 impl Graph {
@@ -67,9 +67,9 @@ impl Graph {
     // The number of rows from one state to another.
     pub fn between_of(&self, left: u8, entered: u8) -> usize
         requires { (left < 24) × (entered < 24) }
-        ensures { result ≡ get_or (between_of self.now) (left * 32 + entered) 0 }
+        ensures { result ≡ pair (between_of self.now) left entered }
     {
-        usize::from(self.between[usize::from(left) * 32 + usize::from(entered)])
+        usize::from(self.between[usize::from(left)][usize::from(entered)])
     }
 
     // The number after the last row.

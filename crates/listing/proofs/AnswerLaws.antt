@@ -9,15 +9,17 @@ use borrow.Author.Tests.{lt-ltb, le-ltb, le-leb, lt-leb}
 use lib.ListN.{length}
 use lib.Dec.{leb}
 use lib.Seq.{sets-eq}
-use Rattle.std.specs.Prelude.{Result}
+use Rattle.std.specs.Prelude.{Option, Some, Result}
+use Rattle.std.specs.Option.{ok_or}
 use Rattle.livelock.specs.Plants.{Plant, machine_count, state_count}
 use Rattle.plant.specs.Found.{Found, fault, and_then}
 use Rattle.plant.specs.declared.Fault.{Fault}
 use Rattle.plant.specs.Limits.{rows_of}
 use Rattle.plant.specs.Reading.{read_plant}
-use Rattle.listing.specs.Answers.{entries, refused, answer_of}
+use Rattle.listing.specs.Answers.{refused, answer_of}
 use Rattle.listing.specs.Listing.{entries_needed, checked_room, checked_size, checked, judged, answered, filled, Means}
 use Rattle.cycle_entries.specs.Entries.{Added}
+use Rattle.cycle_entries.proofs.RoomLaws.{within}
 use Rattle.listing.specs.Inner.Machines.{Answers}
 use Rattle.listing.proofs.ListingLaws.{owed_means}
 
@@ -33,14 +35,15 @@ module _ (all needed before : List ℕ) (are : all ≡ needed) (n : ℕ) (counte
       record { answer = rw (lt-ltb (length before) (length needed) l) is; list_after = rw (lt-ltb (length before) (length needed) l) refl }
 
   -- Otherwise all entries are stored in front, and their count is the answer.
-  pub enough : n ≤ length before → (used : ℕ) (after : List ℕ) → Added (length before) before 0 all used after → (r : Result ℕ Fault) → answer_of r ≡ entries used
+  pub enough : n ≤ length before → {used : Option ℕ} {after : List ℕ} → Added (length before) before 0 all used after → {r : Result ℕ Fault} (f : Fault) → r ≡ ok_or used f
       → Answers (checked_room (length before) needed end) before after r
   unfolding checked_room
-  enough h used after added r is =
+  enough h {used} added f is =
       let l : length needed ≤ length before = omega (arith, ap length are) in
       let fits : 0 + length all ≤ length before = omega (arith, ap length are, l) in
+      let all_used : used ≡ Some (length needed) = added.counted ∙ sym (within (omega (arith, ap length are)) fits) in
       record {
-        answer = rw (le-ltb (length before) (length needed) l) (is ∙ ap entries (omega (arith, added.counted, ap length are, l)));
+        answer = rw (le-ltb (length before) (length needed) l, is, all_used) refl;
         list_after = rw (le-ltb (length before) (length needed) l) (added.stored fits ∙ (sets-eq all before 0 fits ∙ rw (zero-add, are)));
       }
 

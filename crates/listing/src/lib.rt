@@ -1,17 +1,20 @@
 // Listing the simple cycles of a machine.
 #![tactic(auto)]
 
-ghost use Rattle.std.specs.Prelude.{◌≡◌, min, length};
-ghost use Rattle.plant.specs.Limits.{WithinLimits};
-ghost use Rattle.tables.specs.Tables.{RoomFor};
-ghost use Rattle.decoding.specs.Tables.{plant_of, Ready};
+ghost use Rattle.std.specs.Prelude.{◌≡◌, ◌*◌, ◌≤◌, min, length};
 ghost use Rattle.machine_graphs.specs.Graphs.{Listable};
 ghost use Rattle.listing.specs.Answers.{answer_of};
 ghost use Rattle.listing.specs.Listing.{judged, answered, filled, Means};
 ghost use Rattle.listing.specs.Inner.Machines.{Answers, AnswersRows, AnswersChecked};
 
-use decoding::Shape;
+use decoding::Decoded;
 use plant::{Fault, Refusal};
+
+// The list is shorter than the entries needed.
+const NO_ROOM: Fault = Fault {
+    refusal: Refusal::ListingRoom,
+    place: 0,
+};
 
 // Lists the cycles of the rows from `first` up to, and not including, `last`: counts their entries first, then stores them if the list has room.
 fn list_between(table: &[u8], first: usize, last: usize, out: &mut [u16]) -> Result<usize, Fault>
@@ -23,51 +26,41 @@ fn list_between(table: &[u8], first: usize, last: usize, out: &mut [u16]) -> Res
     let room = out.len();
     let needed = cycle_counts::count_rows(&graph, first, last, room);
     if needed > room {
-        return Err(Fault {
-            refusal: Refusal::ListingRoom,
-            place: 0,
-        });
+        return Err(NO_ROOM);
     }
-    let used = cycle_paths::list_rows(&graph, first, last, out);
-    Ok(used)
+    cycle_paths::list_rows(&graph, first, last, out).ok_or(NO_ROOM)
 }
 
 // Checks 12 and 13, and lists.
-fn list_checked(table: &[u8], shape: Shape, machine: u32, out: &mut [u16]) -> Result<usize, Fault>
-    requires { Ready shape table.now × WithinLimits (plant_of shape table.now) }
-    ensures { AnswersChecked shape table.now machine out.old out.new result }
+fn list_checked(plant: &Decoded, machine: u32, out: &mut [u16]) -> Result<usize, Fault>
+    ensures { AnswersChecked plant.now.shape plant.now.table.now machine out.old out.new result }
 {
     let m = machine as usize;
-    if m >= shape.machines {
+    if m >= plant.shape.machines {
         return Err(Fault {
             refusal: Refusal::NoMachine,
             place: 0,
         });
     }
-    if shape.states[m] > 24 {
+    let rows = plant.rows_of(m);
+    if plant.states_of(m) > 24 || rows.end - rows.start > 48 {
         return Err(Fault {
             refusal: Refusal::MachineSize,
             place: 0,
         });
     }
-    let first = usize::from(shape.first[m]);
-    let last = usize::from(shape.first[m + 1]);
-    if last - first > 48 {
-        return Err(Fault {
-            refusal: Refusal::MachineSize,
-            place: 0,
-        });
-    }
-    list_between(table, first, last, out)
+    list_between(plant.table, rows.start, rows.end, out)
 }
 
-// Reads a file into a lent table, and lists.
-fn list_in(file: &[u8], machine: u32, table: &mut [u8], out: &mut [u16]) -> Result<usize, Fault>
-    requires { RoomFor (min 1024 (length file.now)) table.old }
+// Reads a file into a table of so many bytes, and lists.
+fn list_in<const BYTES: usize>(file: &[u8], machine: u32, out: &mut [u16]) -> Result<usize, Fault>
+    requires { (8 * min 1024 (length file.now) ≤ BYTES) × (BYTES ≤ 8192) }
     ensures { Answers (judged file.now machine (length out.old)) out.old out.new result }
 {
-    let shape = decoding::decode(file, table)?;
-    list_checked(table, shape, machine, out)
+    let mut table = [0; BYTES];
+    let shape = decoding::decode(file, &mut table)?;
+    let table = &table;
+    list_checked(&Decoded { table, shape }, machine, out)
 }
 
 // Lists every simple cycle of a machine of the plant of a file. A short file needs a short table.
@@ -77,9 +70,7 @@ pub fn list(file: &[u8], machine: u32, out: &mut [u16]) -> Result<usize, Fault>
     ensures means { Means file.now machine (answer_of result) out.new }
 {
     if file.len() <= tables::SHORT_FILE {
-        let mut table = [0; tables::SHORT];
-        return list_in(file, machine, &mut table, out);
+        return list_in::<{ tables::SHORT }>(file, machine, out);
     }
-    let mut table = [0; tables::LONGEST];
-    list_in(file, machine, &mut table, out)
+    list_in::<{ tables::LONGEST }>(file, machine, out)
 }

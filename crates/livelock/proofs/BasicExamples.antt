@@ -1,7 +1,7 @@
 -- Examples that the checker computes from the definitions alone, so that an edit of a definition is caught here first.
 use mathlib.Core.Path.{◌≡◌, refl}
 use mathlib.Core.Bool.{Bool, true, false, true≢false}
-use mathlib.Core.Option.{none, some}
+use Rattle.std.specs.Prelude.{None, Some}
 use mathlib.Core.List.{List, [], ◌∷◌}
 use Prim.Native.Nat.{ℕ, zero, suc, ◌<◌}
 use native.Mathlib.Nat.{not-suc-le-zero}
@@ -28,10 +28,10 @@ panel_and_probe mark =
       types = 2;
       states = 2 ∷ 2 ∷ [];
       rows =
-          row_with 0 0 1 (some 0) none false
-          ∷ row_with 0 1 0 none (some 1) mark
-          ∷ row_with 1 0 1 none (some 0) false
-          ∷ row_with 1 1 0 (some 1) none false
+          row_with 0 0 1 (Some 0) None false
+          ∷ row_with 0 1 0 None (Some 1) mark
+          ∷ row_with 1 0 1 None (Some 0) false
+          ∷ row_with 1 1 0 (Some 1) None false
           ∷ [];
     }
 
@@ -253,8 +253,8 @@ tight =
       types = 1;
       states = 1 ∷ [];
       rows =
-          row_with 0 0 0 none (some 0) false
-          ∷ row_with 0 0 0 (some 0) none true
+          row_with 0 0 0 None (Some 0) false
+          ∷ row_with 0 0 0 (Some 0) None true
           ∷ [];
     }
 

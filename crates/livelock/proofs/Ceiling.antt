@@ -1,7 +1,7 @@
 -- The ceiling theorem, demand 3; its statement stands at the end.
 use mathlib.Core.Path.{◌≡◌, refl, ap}
 use mathlib.Core.Bool.{Bool, true, false, not, cond}
-use mathlib.Core.Option.{Option, none, some}
+use Rattle.std.specs.Prelude.{Option, None, Some}
 use mathlib.Core.List.{List, [], ◌∷◌}
 use Prim.Native.Nat.{ℕ, zero, suc, ◌+◌, ◌-◌, ◌*◌, ◌≤◌, ◌<◌}
 use native.Mathlib.Nat.{le_of_eq, not-suc-le-zero, mul-le-mul_left}
@@ -27,14 +27,14 @@ use Rattle.livelock.proofs.RunLaws.{count_run}
 module _ (P : Plant) (ws : List ℕ) (content : ℕ → ℕ) where
   -- A message more adds its weight,
   added_weight : (o : Option ℕ) → TypeIn P.types o → contents_weight P ws (added content o) ≡ contents_weight P ws content + message_weight ws o
-  added_weight none h = omega arith
-  added_weight (some t) h = omega (arith, sum_update (λ i x. weight ws i * x) content t (content t + 1) P.types h)
+  added_weight None h = omega arith
+  added_weight (Some t) h = omega (arith, sum_update (λ i x. weight ws i * x) content t (content t + 1) P.types h)
 
   -- and a message less takes it away.
   removed_weight : (o : Option ℕ) → TypeIn P.types o → present content o ≡ true
       → contents_weight P ws (removed content o) + message_weight ws o ≡ contents_weight P ws content
-  removed_weight none h p = omega arith
-  removed_weight (some t) h p =
+  removed_weight None h p = omega arith
+  removed_weight (Some t) h p =
       omega (
         arith,
         sum_update (λ i x. weight ws i * x) content t (content t - 1) P.types h,
@@ -112,15 +112,15 @@ module _ (P : Plant) (wf : WellFormed P) (ws : List ℕ) (ok : Passes P ws) wher
         some_state = omega (arith, fits.entered)
 
   -- What it says that a loss or a doubling can happen.
-  type_there : (c : Configuration) (t : ℕ) → type_present P c t ≡ true → (t < P.types) × (present c.content (some t) ≡ true)
+  type_there : (c : Configuration) (t : ℕ) → type_present P c t ≡ true → (t < P.types) × (present c.content (Some t) ≡ true)
   type_there c t = (both_iff _ _ (less_iff t P.types) (λ p. p, λ p. p)).0
 
   loss_step : (c : Configuration) (t : ℕ) → type_present P c t ≡ true → rank (changed P c (loss t)) ≤ rank c
   unfolding rank changed
   loss_step c t h =
       let p = type_there c t h in
-      let l : contents_weight P ws (removed c.content (some t)) ≤ contents_weight P ws c.content =
-      omega (arith, removed_weight P ws c.content (some t) p.0 p.1) in
+      let l : contents_weight P ws (removed c.content (Some t)) ≤ contents_weight P ws c.content =
+      omega (arith, removed_weight P ws c.content (Some t) p.0 p.1) in
       omega (arith, mul-le-mul_left (most_states P) l)
 
   doubling_step : (c : Configuration) (t : ℕ) → type_present P c t ≡ true → rank (changed P c (doubling t)) ≤ rank c + per_doubling P ws
@@ -129,8 +129,8 @@ module _ (P : Plant) (wf : WellFormed P) (ws : List ℕ) (ok : Passes P ws) wher
       let p = type_there c t h in
       omega (
         arith,
-        ap (λ (x : ℕ). most_states P * x) (added_weight P ws c.content (some t) p.0),
-        mul-le-mul_left (most_states P) (message_bound P ws (some t) p.0),
+        ap (λ (x : ℕ). most_states P * x) (added_weight P ws c.content (Some t) p.0),
+        mul-le-mul_left (most_states P) (message_bound P ws (Some t) p.0),
       )
 
   -- One event, of any sort, whether it can happen or not: what it counts as quiet is covered by what the rank loses and by what it counts as

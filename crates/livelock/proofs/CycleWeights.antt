@@ -2,7 +2,7 @@
 use mathlib.Core.Path.{◌≡◌, sym, ◌∙◌, subst}
 use mathlib.Core.Logic.{◌↔◌}
 use mathlib.Core.Bool.{cond}
-use mathlib.Core.Option.{Option, none, some}
+use Rattle.std.specs.Prelude.{Option, None, Some}
 use mathlib.Core.List.{List}
 use Prim.Native.Nat.{ℕ, ◌*◌, ◌≤◌, ◌<◌}
 use native.Mathlib.Nat.{mul-one, mul-zero}
@@ -57,8 +57,8 @@ taken_weight P ws k = message_weight ws (row_at P k).taken
 
 -- One message: of the terms of the sum over types only that of its own type is not 0.
 one_message : (ws : List ℕ) (n : ℕ) (o : Option ℕ) → TypeIn n o → sum (λ t. weight ws t * cond (is_of_type o t) 1 0) (below n) ≡ message_weight ws o
-one_message ws n none h = sum_equal _ (λ t. 0) (below n) (all_always _ (λ t. mul-zero (weight ws t)) (below n)) ∙ sum_zero (below n)
-one_message ws n (some u) h = sum_single (λ t x. weight ws t * x) (λ t. mul-zero (weight ws t)) u n h ∙ mul-one (weight ws u)
+one_message ws n None h = sum_equal _ (λ t. 0) (below n) (all_always _ (λ t. mul-zero (weight ws t)) (below n)) ∙ sum_zero (below n)
+one_message ws n (Some u) h = sum_single (λ t x. weight ws t * x) (λ t. mul-zero (weight ws t)) u n h ∙ mul-one (weight ws u)
 
 -- The messages of the rows in c: take the sum over types and the sum over rows in the other order.
 by_rows : (ws : List ℕ) (n : ℕ) (o : ℕ → Option ℕ) → ((k : ℕ) → TypeIn n (o k)) → (c : List ℕ)
@@ -105,8 +105,8 @@ module _ (P : Plant) (wf : WellFormed P) (ws c : List ℕ) where
 
 -- No message is heavier than w, the largest weight.
 pub message_bound : (P : Plant) (ws : List ℕ) (o : Option ℕ) → TypeIn P.types o → message_weight ws o ≤ largest_weight P ws
-message_bound P ws none h = omega arith
-message_bound P ws (some t) h = omega (arith, greatest_below (weight ws) P.types t h)
+message_bound P ws None h = omega arith
+message_bound P ws (Some t) h = omega (arith, greatest_below (weight ws) P.types t h)
 
 -- So what a row sends weighs at most w.
 pub sent_bound : (P : Plant) → WellFormed P → (ws : List ℕ) (k : ℕ) → sent_weight P ws k ≤ largest_weight P ws

@@ -2,7 +2,7 @@
 use mathlib.Core.Path.{◌≡◌, refl}
 use mathlib.Core.Logic.{◌↔◌}
 use mathlib.Core.Bool.{Bool, true, false, cond}
-use mathlib.Core.Option.{none, some}
+use Rattle.std.specs.Prelude.{None, Some}
 use mathlib.Core.List.{List, [], ◌∷◌}
 use Prim.Native.Nat.{ℕ, ◌+◌, ◌-◌, ◌<◌}
 use native.Mathlib.Omega.{arith}
@@ -28,14 +28,14 @@ use Rattle.livelock.proofs.Ceiling.{ceiling}
 -- ---- a row that takes
 
 -- "Such a row can happen when the type taken is present": where its machine is in the state left, exactly then, whatever it sends.
-pub can_happen_iff : (P : Plant) (k u : ℕ) → (row_at P k).taken ≡ some u → k < row_count P → (c : Configuration) → c.state (row_at P k).machine ≡ (row_at P k).left
+pub can_happen_iff : (P : Plant) (k u : ℕ) → (row_at P k).taken ≡ Some u → k < row_count P → (c : Configuration) → c.state (row_at P k).machine ≡ (row_at P k).left
     → (can_happen P c (row k) ≡ true) ↔ (0 < c.content u)
 unfolding can_happen
 can_happen_iff P k u takes inside c here = rw (takes, lt-ltb k (row_count P) inside, eq-eqb (c.state (row_at P k).machine) (row_at P k).left here) (less_iff 0 (c.content u))
 
 -- ---- both types are one
 
-module _ (P : Plant) (k u : ℕ) (sends : (row_at P k).sent ≡ some u) (takes : (row_at P k).taken ≡ some u) where
+module _ (P : Plant) (k u : ℕ) (sends : (row_at P k).sent ≡ Some u) (takes : (row_at P k).taken ≡ Some u) where
   -- "When both types are one, its effect is zero": at every type.
   pub both_effect_zero : (t : ℕ) → effect P (k ∷ []) t ≡ pos 0
   unfolding sum
@@ -85,7 +85,7 @@ orders n = record { state = λ m. 0; content = λ t. cond (eqb t 0) n 0 }
 
 -- One state and one row, which takes and sends type 0.
 unfoldable pub returning : Plant
-returning = record { types = 1; states = 1 ∷ []; rows = row_with 0 0 0 (some 0) (some 0) false ∷ [] }
+returning = record { types = 1; states = 1 ∷ []; rows = row_with 0 0 0 (Some 0) (Some 0) false ∷ [] }
 
 -- "it takes first, then sends": with no message the row cannot happen, although it would send the one that it takes; with one it can, again and again.
 takes_first : (run returning (orders 0) (row 0 ∷ []) ≡ []) × (run returning (orders 1) (row 0 ∷ row 0 ∷ []) ≡ row 0 ∷ row 0 ∷ [])
@@ -105,8 +105,8 @@ feeder =
       types = 2;
       states = 1 ∷ [];
       rows =
-          row_with 0 0 0 (some 1) (some 0) false
-          ∷ row_with 0 0 0 (some 0) none true
+          row_with 0 0 0 (Some 1) (Some 0) false
+          ∷ row_with 0 0 0 (Some 0) None true
           ∷ [];
     }
 

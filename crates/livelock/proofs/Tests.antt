@@ -3,7 +3,7 @@ use mathlib.Core.Path.{◌≡◌, refl, sym, ap}
 use mathlib.Core.Logic.Iff
 use mathlib.Core.Logic.{◌≢◌, ◌↔◌}
 use mathlib.Core.Bool.{Bool, true, false, ◌&&◌, ◌||◌, not, false≢true}
-use mathlib.Core.Option.{Option, none, some}
+use Rattle.std.specs.Prelude.{Option, None, Some}
 use mathlib.Core.List.{List, [], ◌∷◌, map}
 use Prim.Native.Nat.{ℕ, ◌≤◌, ◌<◌}
 use lib.ListN.{length, get_or}
@@ -109,12 +109,12 @@ quiet_iff P c = every_iff (λ k. is_quiet (row_at P k)) _ (λ k. not_iff (has_pr
 
 -- Whether a message, if there is one, is of a type that the plant has.
 abbrev pub is_type_in : ℕ → Option ℕ → Bool
-is_type_in types none = true
-is_type_in types (some t) = ltb t types
+is_type_in types None = true
+is_type_in types (Some t) = ltb t types
 
 type_in_iff : (types : ℕ) (o : Option ℕ) → (is_type_in types o ≡ true) ↔ TypeIn types o
-type_in_iff types none = (λ h. tt, λ h. refl)
-type_in_iff types (some t) = less_iff t types
+type_in_iff types None = (λ h. tt, λ h. refl)
+type_in_iff types (Some t) = less_iff t types
 
 -- Whether a row fits a plant with these types and states.
 abbrev pub is_fitting_row : ℕ → List ℕ → Row → Bool

@@ -1,6 +1,5 @@
 -- Simple cycles and their effects (document 01, "Cycles and weighing").
-use Rattle.std.specs.Prelude.{◌≡◌, Bool, false, List, [], ◌∷◌, map, ℕ, ◌<◌, length, get_or, eqb, ℤ, pos, ◌-ℤ◌}
-use Rattle.std.proofs.Math.Option.{Option, none, some}
+use Rattle.std.specs.Prelude.{◌≡◌, Bool, false, List, [], ◌∷◌, map, ℕ, ◌<◌, length, get_or, eqb, ℤ, pos, ◌-ℤ◌, Option, None, Some}
 use Rattle.livelock.specs.Lists.{All, Distinct, count}
 use Rattle.livelock.specs.Plants.{Plant, row_at, row_count, has_progress}
 
@@ -39,8 +38,8 @@ Quiet P c = All (λ k. has_progress (row_at P k) ≡ false) c
 
 -- Whether a message, if there is one, is of type t.
 abbrev pub is_of_type : Option ℕ → ℕ → Bool
-is_of_type none t = false
-is_of_type (some u) t = eqb t u
+is_of_type None t = false
+is_of_type (Some u) t = eqb t u
 
 -- "for each type, messages sent": how many of type t the rows of c send.
 abbrev pub messages_sent : Plant → List ℕ → ℕ → ℕ

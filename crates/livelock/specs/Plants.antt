@@ -1,6 +1,5 @@
 -- Plants: what a plant file says, as machines, message types and numbered rows (document 01, "The plant file").
-use Rattle.std.specs.Prelude.{Bool, false, not, List, ℕ, ◌<◌, length, get_or}
-use Rattle.std.proofs.Math.Option.{Option, none, some}
+use Rattle.std.specs.Prelude.{Bool, false, not, List, ℕ, ◌<◌, length, get_or, Option, None, Some}
 use Rattle.livelock.specs.Lists.{All}
 
 -- "Row: one step of one machine; it sends one message, takes one, or does neither", or both ("takes an order and sends its receipt in one step":
@@ -27,7 +26,7 @@ row_with machine left entered sent taken progress =
 
 -- What `row_at` gives for a number that the plant lacks. Runs and cycles have only rows of the plant, so no promise speaks of it.
 abbrev pub no_row : Row
-no_row = row_with 0 0 0 none none false
+no_row = row_with 0 0 0 None None false
 
 -- A row "given by its number".
 abbrev pub row_at : Plant → ℕ → Row
@@ -55,8 +54,8 @@ is_quiet r = not (has_progress r)
 
 -- Not "not a type" (fault 6): the type of a message, if there is one, is below the count of types.
 abbrev pub TypeIn : ℕ → Option ℕ → Type 0
-TypeIn types none = Unit {0}
-TypeIn types (some t) = t < types
+TypeIn types None = Unit {0}
+TypeIn types (Some t) = t < types
 
 -- Not "not a state of the machine" (fault 5), and not fault 6: a row between two states of a machine that the plant has.
 pub record RowFits (types : ℕ) (states : List ℕ) (r : Row) : Type 0 where

@@ -1,6 +1,5 @@
 -- Runs (document 01, "Runs"; document 02, L5 and L6).
-use Rattle.std.specs.Prelude.{Bool, true, false, ◌&&◌, cond, List, [], ◌∷◌, ◌++◌, ℕ, ◌+◌, ◌-◌, ltb, eqb}
-use Rattle.std.proofs.Math.Option.{Option, none, some}
+use Rattle.std.specs.Prelude.{Bool, true, false, ◌&&◌, cond, List, [], ◌∷◌, ◌++◌, ℕ, ◌+◌, ◌-◌, ltb, eqb, Option, None, Some}
 use Rattle.livelock.specs.Lists.{count}
 use Rattle.livelock.specs.Plants.{Plant, row_at, row_count, has_progress, is_quiet}
 
@@ -21,24 +20,24 @@ update f k v i = cond (eqb i k) v (f i)
 
 -- "if it takes a type, at least one message of that type is present anywhere"
 abbrev pub present : (ℕ → ℕ) → Option ℕ → Bool
-present content none = true
-present content (some t) = ltb 0 (content t)
+present content None = true
+present content (Some t) = ltb 0 (content t)
 
 -- "removes its one message", if there is one.
 abbrev pub removed : (ℕ → ℕ) → Option ℕ → ℕ → ℕ
-removed content none = content
-removed content (some t) = update content t (content t - 1)
+removed content None = content
+removed content (Some t) = update content t (content t - 1)
 
 -- "adds … its one message", if there is one.
 abbrev pub added : (ℕ → ℕ) → Option ℕ → ℕ → ℕ
-added content none = content
-added content (some t) = update content t (content t + 1)
+added content None = content
+added content (Some t) = update content t (content t + 1)
 
 -- "a type that is present": one of the plant's, with at least one message.
 abbrev pub type_present : Plant → Configuration → ℕ → Bool
 type_present P c t =
     ltb t P.types
-    && present c.content (some t)
+    && present c.content (Some t)
 
 -- "A row can happen when its machine is in the state left and, if it takes a type, at least one message of that type is present
 -- anywhere", also if it sends one ("Such a row can happen when the type taken is present": document 02, L5); a loss and a doubling, when
@@ -62,12 +61,12 @@ changed P c (row k) =
 changed P c (loss t) =
     record {
       state = c.state;
-      content = removed c.content (some t);
+      content = removed c.content (Some t);
     }
 changed P c (doubling t) =
     record {
       state = c.state;
-      content = added c.content (some t);
+      content = added c.content (Some t);
     }
 
 -- "An event that cannot happen at its turn, or whose row or type the plant lacks, changes nothing".

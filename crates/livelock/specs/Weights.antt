@@ -1,6 +1,5 @@
 -- Weights (document 01, "Cycles and weighing").
-use Rattle.std.proofs.Math.Option.{Option, none, some}
-use Rattle.std.specs.Prelude.{List, ℕ, ◌≤◌, length, get_or, ℤ, pos, ◌*ℤ◌, ◌<ℤ◌, ◌≤ℤ◌}
+use Rattle.std.specs.Prelude.{List, ℕ, ◌≤◌, length, get_or, ℤ, pos, ◌*ℤ◌, ◌<ℤ◌, ◌≤ℤ◌, Option, None, Some}
 use Rattle.livelock.specs.Lists.{below, sumℤ}
 use Rattle.livelock.specs.Plants.{Plant}
 use Rattle.livelock.specs.Cycles.{SimpleCycle, Quiet, effect}
@@ -30,5 +29,5 @@ FewestRows P ws rows = (c : List ℕ) → FailingCycle P ws c → length rows �
 
 -- The weight of a message; 0 where there is none.
 abbrev pub message_weight : List ℕ → Option ℕ → ℕ
-message_weight ws none = 0
-message_weight ws (some t) = weight ws t
+message_weight ws None = 0
+message_weight ws (Some t) = weight ws t

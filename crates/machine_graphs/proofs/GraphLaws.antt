@@ -1,7 +1,7 @@
 -- Laws of the graph of a machine's rows: no row, one row more, and all rows.
 use mathlib.Core.Path.{◌≡◌, refl, sym, ◌∙◌, subst}
 use mathlib.Core.List.{List, map}
-use Prim.Native.Nat.{ℕ, ◌+◌, ◌-◌, ◌*◌, ◌≤◌, ◌<◌}
+use Prim.Native.Nat.{ℕ, ◌+◌, ◌-◌, ◌≤◌, ◌<◌}
 use native.Mathlib.Decide.{ℕ_discrete}
 use native.Mathlib.Omega.{arith}
 use lib.ListN.{length, set, length-set}
@@ -9,18 +9,18 @@ use lib.Seq.{get_or-set_same, get_or-set_other}
 use Rattle.livelock.specs.Lists.{below}
 use Rattle.tables.specs.Tables.{row_in}
 use Rattle.graphs.specs.declared.Graph.{Graph}
-use Rattle.graphs.specs.Graphs.{left_of, entered_of, next_of, head_of, into_of, between_of, last_of}
+use Rattle.graphs.specs.Graphs.{left_of, entered_of, next_of, head_of, into_of, between_of, pair, last_of}
 use Rattle.graphs.proofs.PartLaws.{map_below}
 use Rattle.state_marks.specs.Marks.{column, RowsBelow, Sources}
 use Rattle.cycle_paths.specs.Rows.{Linked}
 use Rattle.cycle_counts.specs.Pairs.{Between}
 use Rattle.cycle_counts.proofs.BetweenLaws.{between_few}
-use Rattle.machine_graphs.specs.Graphs.{Listable, NoRows, Copied, Graphed}
+use Rattle.machine_graphs.specs.Graphs.{PairRoom, Listable, NoRows, Copied, Graphed}
 use Rattle.machine_graphs.specs.Inner.Rows.{RowAdded}
 use Rattle.machine_graphs.proofs.RowLaws.{next_long}
 use Rattle.machine_graphs.proofs.LinkLaws.{linked_none, linked_more, linked_same}
 use Rattle.machine_graphs.proofs.SourceLaws.{sources_none, sources_more, sources_same}
-use Rattle.machine_graphs.proofs.PairLaws.{between_none, between_more, between_same}
+use Rattle.machine_graphs.proofs.PairLaws.{more_room, between_none, between_more, between_same}
 
 -- ---- the columns
 
@@ -54,7 +54,7 @@ entering_is table k l = map_below (λ i. (row_in table i).entered) 1024 k l
 -- A graph has the rows from k on. Links, sources and pairs are those of the table's states.
 pub record Begun (table : List ℕ) (k last : ℕ) (graph : Graph) : Type 0 where
   pub into_long : length (into_of graph) ≡ 32
-  pub between_long : length (between_of graph) ≡ 768
+  pub between_long : PairRoom (between_of graph)
   pub copied : Copied table k last (left_of graph) (entered_of graph)
   pub links : Linked (leaving table) (next_of graph) (head_of graph) k last
   pub from : Sources (leaving table) (entering table) (into_of graph) k last
@@ -75,7 +75,7 @@ begun_none table last graph few g =
     }
 
 -- No more rows lead from one state to another than there are.
-pub begun_few : (table : List ℕ) (k last : ℕ) (graph : Graph) (s t : ℕ) → s < 24 → t < 24 → last ≤ 1024 → Begun table k last graph → column (between_of graph) (s * 32 + t) ≤ 1024
+pub begun_few : (table : List ℕ) (k last : ℕ) (graph : Graph) (s t : ℕ) → s < 24 → t < 24 → last ≤ 1024 → Begun table k last graph → pair (between_of graph) s t ≤ 1024
 begun_few table k last graph s t b d few g =
     omega (arith, g.pairs.known s t b d, between_few (leaving table) (entering table) s t k (last - k))
 
@@ -111,9 +111,7 @@ module _ (table : List ℕ) (k last left entered : ℕ) (before after : Graph) (
   begun_row =
       record {
         into_long = rw r.into_is (length-set (into_of before) entered r.into ∙ g.into_long);
-        between_long =
-            rw r.between_is
-            (length-set (between_of before) (left * 32 + entered) (column (between_of before) (left * 32 + entered) + 1) ∙ g.between_long);
+        between_long = rw r.between_is (more_room (between_of before) left entered low high g.between_long);
         copied = record { left_is = λ j a b. left_copied j a b (ℕ_discrete j k); entered_is = λ j a b. entered_copied j a b (ℕ_discrete j k) };
         links =
             subst (λ (z : List ℕ). Linked (leaving table) (next_of after) z k last) (sym r.head_is)
@@ -126,9 +124,8 @@ module _ (table : List ℕ) (k last left entered : ℕ) (before after : Graph) (
             g.into_long
             (rw (leaves, enters) r.into_marks)));
         pairs =
-            subst (λ (z : List ℕ). Between (leaving table) (entering table) z k last) (sym r.between_is)
-            (between_more (leaving table) (entering table) (between_of before) k last (left * 32 + entered) g.pairs inside (omega (arith, leaves, low)) (omega (arith, enters, high))
-            g.between_long (omega (arith, leaves, enters)));
+            rw (r.between_is, ← leaves, ← enters)
+            (between_more (leaving table) (entering table) (between_of before) k last g.pairs inside (omega (arith, leaves, low)) (omega (arith, enters, high)) g.between_long);
         last_is = r.last_same ∙ g.last_is;
       }
 

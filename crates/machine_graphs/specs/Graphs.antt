@@ -1,8 +1,8 @@
 -- The graph of a machine's rows: of which rows it is made, the one without rows, and the one with all of them.
-use Rattle.std.specs.Prelude.{◌≡◌, List, ℕ, ◌+◌, ◌≤◌, ◌<◌, length, get_or}
+use Rattle.std.specs.Prelude.{◌≡◌, List, [], ℕ, ◌+◌, ◌≤◌, ◌<◌, length, get_or}
 use Rattle.tables.specs.Tables.{row_in, RoomFor}
 use Rattle.graphs.specs.declared.Graph.{Graph}
-use Rattle.graphs.specs.Graphs.{left_of, entered_of, head_of, into_of, between_of, last_of}
+use Rattle.graphs.specs.Graphs.{left_of, entered_of, head_of, into_of, between_of, pair, last_of}
 use Rattle.state_marks.specs.Marks.{column}
 use Rattle.cycle_paths.specs.Rows.{Searchable}
 use Rattle.cycle_counts.specs.Pairs.{Between}
@@ -15,13 +15,18 @@ pub record Listable (table : List ℕ) (first last : ℕ) : Type 0 where
   pub room : RoomFor last table
   pub below_24 : (k : ℕ) → first ≤ k → k < last → ((row_in table k).left < 24) × ((row_in table k).entered < 24)
 
+-- A table of pairs has room for those of 32 states with each of 24.
+pub record PairRoom (table : List (List ℕ)) : Type 0 where
+  pub rows : length table ≡ 24
+  pub long : (s : ℕ) → s < 24 → length (get_or table s []) ≡ 32
+
 -- A graph without rows, before `last`.
 pub record NoRows (last : ℕ) (graph : Graph) : Type 0 where
   pub head_long : length (head_of graph) ≡ 24
   pub into_long : length (into_of graph) ≡ 32
-  pub between_long : length (between_of graph) ≡ 768
+  pub between_long : PairRoom (between_of graph)
   pub no_head : (s : ℕ) → s < 24 → get_or (head_of graph) s 0 ≡ last
-  pub no_pair : (i : ℕ) → i < 768 → get_or (between_of graph) i 0 ≡ 0
+  pub no_pair : (s t : ℕ) → s < 24 → t < 24 → pair (between_of graph) s t ≡ 0
   pub last_is : last_of graph ≡ last
 
 -- Two columns have the states that the rows of a table from `first` up to, and not including, `last` leave and enter.

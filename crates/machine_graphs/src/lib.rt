@@ -2,8 +2,8 @@
 // `listing` calls it.
 #![tactic(auto)]
 
-ghost use Rattle.std.specs.Prelude.{◌+◌, ◌*◌, ◌≤◌, ◌<◌, get_or};
-ghost use Rattle.graphs.specs.Graphs.{between_of};
+ghost use Rattle.std.specs.Prelude.{◌≤◌, ◌<◌};
+ghost use Rattle.graphs.specs.Graphs.{between_of, pair};
 ghost use Rattle.machine_graphs.specs.Graphs.{Listable, NoRows, Graphed};
 ghost use Rattle.machine_graphs.specs.Inner.Rows.{RowAdded};
 
@@ -22,13 +22,13 @@ pub fn without_rows(last: usize) -> Graph
         head: [end; 24],
         last: end,
         into: [0; 32],
-        between: [0; 768],
+        between: [[0; 32]; 24],
     }
 }
 
 // Adds row k before the rows of a graph.
 fn add_row(graph: &mut Graph, k: usize, left: u8, entered: u8)
-    requires { (k < 1024) × (left < 24) × (entered < 24) × (get_or (between_of graph.old) (left * 32 + entered) 0 ≤ 1024) }
+    requires { (k < 1024) × (left < 24) × (entered < 24) × (pair (between_of graph.old) left entered ≤ 1024) }
     ensures { RowAdded k left entered graph.old graph.new }
 {
     let at = k % 64;
@@ -39,7 +39,7 @@ fn add_row(graph: &mut Graph, k: usize, left: u8, entered: u8)
     graph.next[at] = graph.head[s];
     graph.head[s] = k as u16;
     graph.into[t] = state_marks::with_left(graph.into_of(t), left);
-    graph.between[s * 32 + t] += 1;
+    graph.between[s][t] += 1;
 }
 
 // Adds the rows from `first` up to, and not including, `last` to a graph without rows; from the last row to the first, as `add_row` puts

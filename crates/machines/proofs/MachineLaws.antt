@@ -25,7 +25,7 @@ use Rattle.plant.specs.Limits.{WithinLimits}
 use Rattle.decoding.specs.declared.Shape.{Shape}
 use Rattle.decoding.proofs.TableLaws.{plant_row_is, rows_counted}
 use Rattle.decoding.proofs.FirstRowLaws.{row_of_machine, machine_rows}
-use Rattle.deciding.specs.Signs.{rise, fall}
+use Rattle.edge_lists.specs.Signs.{rise, fall}
 use Rattle.edge_lists.specs.declared.Edge.{Edge}
 use Rattle.edge_lists.specs.EdgeLists.{edge_in}
 use Rattle.edges.specs.Edges.{Has, Listed, RowsBetween}

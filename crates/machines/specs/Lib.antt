@@ -1,2 +1,3 @@
 -- The machines of a plant in a table, and the first that fails.
 pub mod Machines
+pub mod OneProof

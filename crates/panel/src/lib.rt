@@ -13,7 +13,7 @@ use watchers::{Opened, Watcher};
 
 // kind 9: the quiet rows left; kind 0: a refusal.
 #[repr(C)]
-#[derive(Drop)]
+#[derive(Clone, Copy, Debug, PartialEq, Eq)]
 pub struct WatchAnswer {
     pub kind: u8,
     pub number: u8,

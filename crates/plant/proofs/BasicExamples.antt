@@ -1,7 +1,7 @@
 -- Files that the checker reads by the definitions alone, so that an edit of a definition is caught here first.
 use mathlib.Core.Path.{◌≡◌, refl}
 use mathlib.Core.Bool.{true, false}
-use mathlib.Core.Option.{none, some}
+use Rattle.std.specs.Prelude.{None, Some}
 use mathlib.Core.List.{List, [], ◌∷◌}
 use Prim.Native.Nat.{ℕ, ◌+◌}
 use lib.ListN.{length, replicate}
@@ -117,7 +117,7 @@ bytes_remain = refl
 
 -- Number 7, after 1,020 rows of machine 0: machine 1 has 2, and machine 2 announces 3.
 rows_1020 : Plant
-rows_1020 = record { types = 0; states = 1 ∷ []; rows = replicate 1020 (row_with 0 0 0 none none false) }
+rows_1020 = record { types = 0; states = 1 ∷ []; rows = replicate 1020 (row_with 0 0 0 None None false) }
 
 total_of_rows : read_machines 2 (0x01 ∷ 0x02 ∷ 0x00 ∷ 0x10 ∷ 0x01 ∷ 0x03 ∷ []) 0 rows_1020 ≡ fault 7 5
 unfolding rows_1020 byte_at byte_that byte_in map_byte state_field type_field read_row read_rows rows_byte read_machine read_machines
@@ -160,7 +160,7 @@ twin_before_next = (refl, refl, refl)
 
 -- The same row in another machine is no twin.
 same_in_both : read_plant (0x02 ∷ 0x00 ∷ 0x01 ∷ 0x01 ∷ 0x10 ∷ 0x01 ∷ 0x01 ∷ 0x10 ∷ [])
-    ≡ found (record { types = 0; states = 1 ∷ 1 ∷ []; rows = row_with 0 0 0 none none true ∷ row_with 1 0 0 none none true ∷ [] }) 8
+    ≡ found (record { types = 0; states = 1 ∷ 1 ∷ []; rows = row_with 0 0 0 None None true ∷ row_with 1 0 0 None None true ∷ [] }) 8
 unfolding byte_at byte_that byte_in map_byte state_field type_field read_row read_rows rows_byte read_machine read_machines read_plant
 same_in_both = refl
 
@@ -172,13 +172,13 @@ one_field_differs : read_plant (0x01 ∷ 0x02 ∷ 0x02 ∷ 0x07 ∷ 0x06 ∷ 0x0
       types = 2;
       states = 2 ∷ [];
       rows =
-          row_with 0 0 1 (some 0) none false
-          ∷ row_with 0 1 1 (some 0) none false
-          ∷ row_with 0 0 0 (some 0) none false
-          ∷ row_with 0 0 1 (some 1) none false
-          ∷ row_with 0 0 1 none (some 0) false
-          ∷ row_with 0 0 1 none none false
-          ∷ row_with 0 0 1 (some 0) none true
+          row_with 0 0 1 (Some 0) None false
+          ∷ row_with 0 1 1 (Some 0) None false
+          ∷ row_with 0 0 0 (Some 0) None false
+          ∷ row_with 0 0 1 (Some 1) None false
+          ∷ row_with 0 0 1 None (Some 0) false
+          ∷ row_with 0 0 1 None None false
+          ∷ row_with 0 0 1 (Some 0) None true
           ∷ [];
     })
     24
@@ -188,8 +188,8 @@ one_field_differs = refl
 -- ---- rows that take and send (document 02, L5)
 
 -- Bits 2 and 3 together: the type sent stands first. All fields: five bytes.
-takes_and_sends : (read_plant (0x01 ∷ 0x02 ∷ 0x01 ∷ 0x01 ∷ 0x0C ∷ 0x01 ∷ 0x00 ∷ []) ≡ found (record { types = 2; states = 1 ∷ []; rows = row_with 0 0 0 (some 1) (some 0) false ∷ [] }) 7)
-    × (read_plant (0x01 ∷ 0x03 ∷ 0x02 ∷ 0x01 ∷ 0x1F ∷ 0x01 ∷ 0x00 ∷ 0x02 ∷ 0x01 ∷ []) ≡ found (record { types = 3; states = 2 ∷ []; rows = row_with 0 1 0 (some 2) (some 1) true ∷ [] }) 9)
+takes_and_sends : (read_plant (0x01 ∷ 0x02 ∷ 0x01 ∷ 0x01 ∷ 0x0C ∷ 0x01 ∷ 0x00 ∷ []) ≡ found (record { types = 2; states = 1 ∷ []; rows = row_with 0 0 0 (Some 1) (Some 0) false ∷ [] }) 7)
+    × (read_plant (0x01 ∷ 0x03 ∷ 0x02 ∷ 0x01 ∷ 0x1F ∷ 0x01 ∷ 0x00 ∷ 0x02 ∷ 0x01 ∷ []) ≡ found (record { types = 3; states = 2 ∷ []; rows = row_with 0 1 0 (Some 2) (Some 1) true ∷ [] }) 9)
 unfolding byte_at byte_that byte_in map_byte state_field type_field read_row read_rows rows_byte read_machine read_machines read_plant
 takes_and_sends = (refl, refl)
 
@@ -210,12 +210,12 @@ both_types_differ : read_plant (0x01 ∷ 0x02 ∷ 0x01 ∷ 0x06 ∷ 0x0C ∷ 0x0
       types = 2;
       states = 1 ∷ [];
       rows =
-          row_with 0 0 0 (some 0) (some 1) false
-          ∷ row_with 0 0 0 (some 1) (some 0) false
-          ∷ row_with 0 0 0 (some 0) none false
-          ∷ row_with 0 0 0 none (some 1) false
-          ∷ row_with 0 0 0 (some 0) (some 0) false
-          ∷ row_with 0 0 0 none none false
+          row_with 0 0 0 (Some 0) (Some 1) false
+          ∷ row_with 0 0 0 (Some 1) (Some 0) false
+          ∷ row_with 0 0 0 (Some 0) None false
+          ∷ row_with 0 0 0 None (Some 1) false
+          ∷ row_with 0 0 0 (Some 0) (Some 0) false
+          ∷ row_with 0 0 0 None None false
           ∷ [];
     })
     18
@@ -240,7 +240,7 @@ unfolding byte_at byte_that byte_in map_byte state_field type_field read_row rea
 most_machines = refl
 
 -- One state and the row 00: it leaves and enters state 0.
-one_row_lem : read_plant (0x01 ∷ 0x00 ∷ 0x01 ∷ 0x01 ∷ 0x00 ∷ []) ≡ found (record { types = 0; states = 1 ∷ []; rows = row_with 0 0 0 none none false ∷ [] }) 5
+one_row_lem : read_plant (0x01 ∷ 0x00 ∷ 0x01 ∷ 0x01 ∷ 0x00 ∷ []) ≡ found (record { types = 0; states = 1 ∷ []; rows = row_with 0 0 0 None None false ∷ [] }) 5
 unfolding byte_at byte_that byte_in map_byte state_field type_field read_row read_rows rows_byte read_machine read_machines read_plant
 one_row_lem = refl
 
@@ -252,10 +252,10 @@ implied_states : read_plant (0x02 ∷ 0x00 ∷ 0x03 ∷ 0x03 ∷ 0x03 ∷ 0x01 �
       types = 0;
       states = 3 ∷ 3 ∷ [];
       rows =
-          row_with 0 1 2 none none false
-          ∷ row_with 0 1 0 none none false
-          ∷ row_with 0 2 2 none none true
-          ∷ row_with 1 0 2 none none false
+          row_with 0 1 2 None None false
+          ∷ row_with 0 1 0 None None false
+          ∷ row_with 0 2 2 None None true
+          ∷ row_with 1 0 2 None None false
           ∷ [];
     })
     15

@@ -1,7 +1,7 @@
 -- What holds of every byte, field and row that is read, and of every fault: one law for each definition of `Reading`.
 use mathlib.Core.Path.{◌≡◌, refl, subst}
 use mathlib.Core.Bool.{Bool, true, false, cond}
-use mathlib.Core.Option.{none, some}
+use Rattle.std.specs.Prelude.{None, Some}
 use mathlib.Core.List.{List}
 use Prim.Native.Nat.{ℕ, zero, suc, ◌+◌, ◌≤◌, ◌<◌}
 use native.Mathlib.Omega.{arith}
@@ -103,8 +103,8 @@ module _ (s : List ℕ) (at : ℕ) where
   pub type_field_each : (stands : Bool) (types : ℕ) → at ≤ length s
       → Each (λ o next. Next (length s) (at + cond stands 1 0) next × TypeIn types o) (length s) (type_field stands types s at)
   unfolding type_field
-  type_field_each true types l = each_then (byte_in_each 0 types 6 (omega arith) (omega arith)) (λ b next h. got {a = some b} (h.0, h.1.1))
-  type_field_each false types l = got {a = none} (record { inside = l; near = omega arith }, tt)
+  type_field_each true types l = each_then (byte_in_each 0 types 6 (omega arith) (omega arith)) (λ b next h. got {a = Some b} (h.0, h.1.1))
+  type_field_each false types l = got {a = None} (record { inside = l; near = omega arith }, tt)
 
 -- ---- rows
 

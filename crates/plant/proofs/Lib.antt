@@ -14,3 +14,4 @@ pub mod MachineLaws
 pub mod MachineRows
 pub mod PlantLaws
 pub mod OneToOne
+pub mod Exits

@@ -3,7 +3,7 @@ use mathlib.Core.Path.{◌≡◌, refl, sym, ap, subst}
 use mathlib.Core.Logic.Iff
 use mathlib.Core.Logic.{◌↔◌, ◌≢◌}
 use mathlib.Core.Bool.{Bool, true, false, ◌||◌, beq, cond, true≢false, false≢true}
-use mathlib.Core.Option.{Option, none, some}
+use Rattle.std.specs.Prelude.{Option, None, Some}
 use mathlib.Core.List.{List, [], ◌∷◌, ◌++◌}
 use Prim.Native.Nat.{ℕ}
 use lib.Dec.{eqb}
@@ -18,14 +18,14 @@ use Rattle.plant.specs.Limits.{rows_in}
 -- ---- two rows
 
 type_iff : (t u : Option ℕ) → (same_type t u ≡ true) ↔ (t ≡ u)
-type_iff none none = (λ h. refl, λ h. refl)
-type_iff none (some u) = (λ h. absurd (false≢true h), λ h. ap (same_type none) (sym h))
-type_iff (some t) none = (λ h. absurd (false≢true h), λ h. ap (λ o. same_type o none) h)
-type_iff (some t) (some u) = (λ h. ap some (eqb-true t u h), λ h. eq-eqb t u (ap number h))
+type_iff None None = (λ h. refl, λ h. refl)
+type_iff None (Some u) = (λ h. absurd (false≢true h), λ h. ap (same_type None) (sym h))
+type_iff (Some t) None = (λ h. absurd (false≢true h), λ h. ap (λ o. same_type o None) h)
+type_iff (Some t) (Some u) = (λ h. ap Some (eqb-true t u h), λ h. eq-eqb t u (ap number h))
   where
     number : Option ℕ → ℕ
-    number none = 0
-    number (some v) = v
+    number None = 0
+    number (Some v) = v
 
 mark_iff : (a b : Bool) → (beq a b ≡ true) ↔ (a ≡ b)
 mark_iff true true = (λ h. refl, λ h. refl)

@@ -5,3 +5,4 @@ pub mod Reading
 pub mod Limits
 pub mod Refusals
 pub mod Steps
+pub mod Checks

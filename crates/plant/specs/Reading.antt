@@ -1,6 +1,5 @@
 -- The plant file, sentence by sentence (document 01, "The plant file", and numbers 1 to 8 of "Where each fault is found").
-use Rattle.std.specs.Prelude.{Bool, ◌&&◌, cond, List, [], ◌∷◌, ◌++◌, ℕ, zero, suc, ◌+◌, ◌/◌, ◌%◌, length, get_or, drop, leb, ltb, eqb}
-use Rattle.std.proofs.Math.Option.{Option, none, some}
+use Rattle.std.specs.Prelude.{Bool, ◌&&◌, cond, List, [], ◌∷◌, ◌++◌, ℕ, zero, suc, ◌+◌, ◌/◌, ◌%◌, length, get_or, drop, leb, ltb, eqb, Option, None, Some}
 use Rattle.livelock.specs.Plants.{Row, Plant, row_count, machine_count}
 use Rattle.plant.specs.Found.{Found, found, fault, and_then, moved_by}
 use Rattle.plant.specs.Twins.{unless_twin}
@@ -43,8 +42,8 @@ map_byte s at = byte_that is_map 4 s at
 
 -- "Without it: the state that this machine's previous row leaves, or 0 at its first row."
 abbrev pub implied_left : Option Row → ℕ
-implied_left none = 0
-implied_left (some r) = r.left
+implied_left None = 0
+implied_left (Some r) = r.left
 
 -- "one byte for each field whose bit stands": number 5, "not a state of the machine". Without the bit, the state that stands for it.
 unfoldable pub state_field : Bool → ℕ → ℕ → List ℕ → ℕ → Found ℕ
@@ -52,7 +51,7 @@ state_field stands absent states s at = cond stands (byte_in 0 states 5 s at) (f
 
 -- The same for a type: number 6, "not a type". Without the bit, no type.
 unfoldable pub type_field : Bool → ℕ → List ℕ → ℕ → Found (Option ℕ)
-type_field stands types s at = cond stands (and_then (byte_in 0 types 6 s at) (λ b next. found (some b) next)) (found none at)
+type_field stands types s at = cond stands (and_then (byte_in 0 types 6 s at) (λ b next. found (Some b) next)) (found None at)
 
 -- "A row is a map byte, then one byte for each field whose bit stands, lowest bit first": state left, state entered ("Without it:
 -- the state left"), type sent, type taken, also where both stand ("the fields come in bit order": document 02, L5); and "progress; it has no field".
@@ -79,7 +78,7 @@ unfoldable pub read_rows : ℕ → ℕ → ℕ → ℕ → List ℕ → ℕ → 
 read_rows zero m states implied s at p = found p at
 read_rows (suc n) m states implied s at p =
     and_then (unless_twin p.rows at (read_row m states p.types implied s at))
-    (λ r next. read_rows n m states (implied_left (some r)) s next (with_row p r))
+    (λ r next. read_rows n m states (implied_left (Some r)) s next (with_row p r))
 
 -- "one byte of rows (0 to 255)", and number 7: "total of rows so far above 1,024".
 unfoldable pub rows_byte : ℕ → List ℕ → ℕ → Found ℕ
@@ -91,7 +90,7 @@ unfoldable pub read_machine : List ℕ → ℕ → Plant → Found Plant
 read_machine s at p =
     and_then (count_byte 1 64 3 s at) (λ states a.
     and_then (rows_byte (row_count p) s a) (λ n b.
-    moved_by b (read_rows n (machine_count p) states (implied_left none) (drop b s) 0 (with_machine p states))))
+    moved_by b (read_rows n (machine_count p) states (implied_left None) (drop b s) 0 (with_machine p states))))
 
 -- n machines.
 unfoldable pub read_machines : ℕ → List ℕ → ℕ → Plant → Found Plant

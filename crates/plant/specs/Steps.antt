@@ -1,6 +1,5 @@
 -- What the answers of the functions that read bytes and fields mean.
-use Rattle.std.specs.Prelude.{cond, ℕ, ltb, Result, Ok, Err}
-use Rattle.std.proofs.Math.Option.{Option, none, some}
+use Rattle.std.specs.Prelude.{cond, ℕ, ltb, Result, Ok, Err, Option, None, Some}
 use Rattle.livelock.specs.Plants.{Plant}
 use Rattle.plant.specs.Found.{Found, found, fault}
 use Rattle.plant.specs.Refusals.{number_of}
@@ -13,7 +12,7 @@ fault_found f = fault (number_of f.refusal) f.place
 
 -- The type that a number of a column stands for.
 abbrev pub type_of : ℕ → Option ℕ
-type_of x = cond (ltb x 64) (some x) none
+type_of x = cond (ltb x 64) (Some x) None
 
 -- What was read, or what stands for it, as what it means; or the fault.
 abbrev pub read_found : {T A : Type 0} → (T → A) → Result (Field T) Fault → Found A

@@ -1,16 +1,15 @@
 -- Twin rows (document 02, L4): number 26, of a file and of the writer's list.
-use Rattle.std.specs.Prelude.{Bool, true, false, ◌&&◌, ◌||◌, cond, List, [], ◌∷◌, ℕ, eqb}
+use Rattle.std.specs.Prelude.{Bool, true, false, ◌&&◌, ◌||◌, cond, List, [], ◌∷◌, ℕ, eqb, Option, None, Some}
 use Rattle.std.specs.Bool.{beq}
-use Rattle.std.proofs.Math.Option.{Option, none, some}
 use Rattle.livelock.specs.Plants.{Row}
 use Rattle.plant.specs.Found.{Found, found, fault}
 
 -- The same type, or no type both times.
 abbrev pub same_type : Option ℕ → Option ℕ → Bool
-same_type none none = true
-same_type none (some u) = false
-same_type (some t) none = false
-same_type (some t) (some u) = eqb t u
+same_type None None = true
+same_type None (Some u) = false
+same_type (Some t) None = false
+same_type (Some t) (Some u) = eqb t u
 
 -- "equal to an earlier row of its machine in both states, type sent, type taken and progress": the rows as they were read, "however its
 -- fields were left out".

@@ -1,7 +1,7 @@
 -- Shortest files that the checker writes by the definitions alone.
 use mathlib.Core.Path.{◌≡◌, refl}
 use mathlib.Core.Bool.{true, false}
-use mathlib.Core.Option.{none, some}
+use Rattle.std.specs.Prelude.{None, Some}
 use mathlib.Core.List.{[], ◌∷◌}
 use lib.ListN.{length}
 use Rattle.livelock.specs.Plants.{Plant, row_with}
@@ -27,11 +27,11 @@ implied =
       types = 1;
       states = 3 ∷ 3 ∷ [];
       rows =
-          row_with 0 1 2 none none false
-          ∷ row_with 0 2 2 (some 0) none true
-          ∷ row_with 0 2 1 none (some 0) false
-          ∷ row_with 1 0 0 none none false
-          ∷ row_with 1 2 2 none none false
+          row_with 0 1 2 None None false
+          ∷ row_with 0 2 2 (Some 0) None true
+          ∷ row_with 0 2 1 None (Some 0) false
+          ∷ row_with 1 0 0 None None false
+          ∷ row_with 1 2 2 None None false
           ∷ [];
     }
 
@@ -49,7 +49,7 @@ unfolding implied row_bytes rows_bytes rows_in machines_as
 file_of_implied = refl
 
 -- Rows that take and send: the type sent stands first; no row has more bytes than one with all fields.
-both_types : (row_bytes 1 (row_with 0 1 1 (some 7) (some 3) false) ≡ 0x0C ∷ 0x07 ∷ 0x03 ∷ []) × (row_bytes 1 (row_with 0 1 1 (some 3) (some 3) true) ≡ 0x1C ∷ 0x03 ∷ 0x03 ∷ [])
-    × (length (row_bytes 1 (row_with 0 0 1 (some 7) (some 3) false)) ≡ most_row_bytes)
+both_types : (row_bytes 1 (row_with 0 1 1 (Some 7) (Some 3) false) ≡ 0x0C ∷ 0x07 ∷ 0x03 ∷ []) × (row_bytes 1 (row_with 0 1 1 (Some 3) (Some 3) true) ≡ 0x1C ∷ 0x03 ∷ 0x03 ∷ [])
+    × (length (row_bytes 1 (row_with 0 0 1 (Some 7) (Some 3) false)) ≡ most_row_bytes)
 unfolding row_bytes
 both_types = (refl, refl, refl)

@@ -2,7 +2,7 @@
 -- fewest.
 use mathlib.Core.Path.{◌≡◌, refl, sym, ◌∙◌, ap, subst}
 use mathlib.Core.Bool.{Bool, true, false, cond, true≢false}
-use mathlib.Core.Option.{Option, none, some}
+use Rattle.std.specs.Prelude.{Option, None, Some}
 use mathlib.Core.List.{List, ◌∷◌, ◌++◌}
 use Prim.Native.Nat.{ℕ, ◌+◌, ◌≤◌}
 use native.Mathlib.Numerals.{add-one}
@@ -75,8 +75,8 @@ module _ (s : List ℕ) (at : ℕ) where
 
   type_field_is : (stands : Bool) (types : ℕ) → Gives (TypeRead stands) (type_field stands types s at)
   unfolding type_field
-  type_field_is true types = gives_then (byte_in_stands 0 types 6) λ b next h. value {a = some b} (record { ends = h.0; bytes = h.1; is = refl })
-  type_field_is false types = value {a = none} {next = at} (record { ends = omega arith; bytes = refl; is = refl })
+  type_field_is true types = gives_then (byte_in_stands 0 types 6) λ b next h. value {a = Some b} (record { ends = h.0; bytes = h.1; is = refl })
+  type_field_is false types = value {a = None} {next = at} (record { ends = omega arith; bytes = refl; is = refl })
 
 -- ---- map bytes
 

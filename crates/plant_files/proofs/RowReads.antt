@@ -1,7 +1,7 @@
 -- What was written of a row reads as that row, with every map byte that fits the row.
 use mathlib.Core.Path.{◌≡◌, refl, sym, ◌∙◌, ap, subst}
 use mathlib.Core.Bool.{Bool, true, false, ◌&&◌, not}
-use mathlib.Core.Option.{Option, none, some}
+use Rattle.std.specs.Prelude.{Option, None, Some}
 use mathlib.Core.List.{List, ◌∷◌, ◌++◌, append_assoc}
 use Prim.Native.Nat.{ℕ, ◌≤◌, ◌<◌}
 use native.Mathlib.Omega.{arith}
@@ -123,8 +123,8 @@ module _ (s : List ℕ) (at : ℕ) (t : List ℕ) (l : at ≤ length s) where
 
   type_field_leaves : (types : ℕ) (o : Option ℕ) → drop at s ≡ type_bytes o ++ t → TypeIn types o → Leaves s o t (type_field (is_some o) types s at)
   unfolding type_field
-  type_field_leaves types none e h = leaves at l e
-  type_field_leaves types (some x) e h = leaves_then _ (byte_in_leaves s at x t e 0 types 6 (omega arith) h) (λ next l e. leaves next l e)
+  type_field_leaves types None e h = leaves at l e
+  type_field_leaves types (Some x) e h = leaves_then _ (byte_in_leaves s at x t e 0 types 6 (omega arith) h) (λ next l e. leaves next l e)
 
 pub append_four : (a b c d t : List ℕ) → (a ++ (b ++ (c ++ d))) ++ t ≡ a ++ (b ++ (c ++ (d ++ t)))
 append_four a b c d t = append_assoc a (b ++ (c ++ d)) t ∙ ap (λ (l : List ℕ). a ++ l) (append_assoc b (c ++ d) t ∙ ap (λ (l : List ℕ). b ++ l) (append_assoc c d t))

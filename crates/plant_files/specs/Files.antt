@@ -1,6 +1,5 @@
 -- The shortest file of a plant (document 02, L2; the format is document 01's).
-use Rattle.std.specs.Prelude.{◌≡◌, Bool, true, false, not, cond, List, [], ◌∷◌, ◌++◌, ℕ, zero, suc, ◌+◌, ◌≤◌, length, eqb}
-use Rattle.std.proofs.Math.Option.{Option, none, some}
+use Rattle.std.specs.Prelude.{◌≡◌, Bool, true, false, not, cond, List, [], ◌∷◌, ◌++◌, ℕ, zero, suc, ◌+◌, ◌≤◌, length, eqb, Option, None, Some}
 use Rattle.livelock.specs.Plants.{Row, Plant, machine_count, state_count}
 use Rattle.plant.specs.Found.{found}
 use Rattle.plant.specs.Reading.{has_bit, implied_left, read_plant}
@@ -14,8 +13,8 @@ byte_if stands byte = cond stands (byte ∷ []) []
 
 -- and a type, if there is one.
 abbrev pub type_bytes : Option ℕ → List ℕ
-type_bytes none = []
-type_bytes (some t) = t ∷ []
+type_bytes None = []
+type_bytes (Some t) = t ∷ []
 
 -- "A row is a map byte, then one byte for each field whose bit stands, lowest bit first": a row with this map byte.
 abbrev pub bytes_with : ℕ → Row → List ℕ
@@ -31,8 +30,8 @@ differs state absent = not (eqb state absent)
 
 -- and a type where there is one.
 abbrev pub is_some : Option ℕ → Bool
-is_some none = false
-is_some (some t) = true
+is_some None = false
+is_some (Some t) = true
 
 -- "The output has the fewest bytes": every state that can be left out is left out.
 abbrev pub shortest_map : ℕ → Row → ℕ
@@ -45,7 +44,7 @@ row_bytes implied r = bytes_with (shortest_map implied r) r
 -- Rows in turn: "the state that this machine's previous row leaves".
 unfoldable pub rows_bytes : ℕ → List Row → List ℕ
 rows_bytes implied [] = []
-rows_bytes implied (r ∷ rs) = row_bytes implied r ++ rows_bytes (implied_left (some r)) rs
+rows_bytes implied (r ∷ rs) = row_bytes implied r ++ rows_bytes (implied_left (Some r)) rs
 
 -- ---- machines and the file
 
@@ -65,7 +64,7 @@ plant_as f p = machine_count p ∷ (p.types ∷ machines_as f (machine_count p) 
 
 -- "Without it: … 0 at its first row": the shortest file of a plant.
 abbrev pub file_of : Plant → List ℕ
-file_of = plant_as (rows_bytes (implied_left none))
+file_of = plant_as (rows_bytes (implied_left None))
 
 -- ---- what a shortest file is
 

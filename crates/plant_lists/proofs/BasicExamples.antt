@@ -1,7 +1,7 @@
 -- Lists that the checker reads by the definitions alone, so that an edit of a definition is caught here first.
 use mathlib.Core.Path.{◌≡◌, refl}
 use mathlib.Core.Bool.{true, false}
-use mathlib.Core.Option.{none, some}
+use Rattle.std.specs.Prelude.{None, Some}
 use mathlib.Core.List.{List, [], ◌∷◌}
 use Prim.Native.Nat.{ℕ, ◌+◌, ◌*◌}
 use lib.ListN.{length, replicate}
@@ -58,7 +58,7 @@ unfolding number_that
 row_counts = (refl, refl, refl, refl)
 
 rows_1020 : Plant
-rows_1020 = record { types = 0; states = 1 ∷ []; rows = replicate 1020 (row_with 0 0 0 none none false) }
+rows_1020 = record { types = 0; states = 1 ∷ []; rows = replicate 1020 (row_with 0 0 0 None None false) }
 
 total_of_rows : listed_machines 1 (1 ∷ 5 ∷ []) 0 rows_1020 ≡ fault 24 1
 unfolding rows_1020 number_that listed_row listed_rows listed_machine listed_machines
@@ -98,15 +98,15 @@ numbers_first = (refl, refl)
 
 -- The same row in another machine is no twin.
 same_in_both : listed_plant (2 ∷ 0 ∷ 1 ∷ 1 ∷ 0 ∷ 0 ∷ 0 ∷ 0 ∷ 1 ∷ 0 ∷ 1 ∷ 1 ∷ 0 ∷ 0 ∷ 0 ∷ 0 ∷ 1 ∷ 0 ∷ [])
-    ≡ found (record { types = 0; states = 1 ∷ 1 ∷ []; rows = row_with 0 0 0 none none true ∷ row_with 1 0 0 none none true ∷ [] }) 18
+    ≡ found (record { types = 0; states = 1 ∷ 1 ∷ []; rows = row_with 0 0 0 None None true ∷ row_with 1 0 0 None None true ∷ [] }) 18
 unfolding number_that listed_row listed_rows listed_machine listed_machines listed_plant
 same_in_both = refl
 
 -- ---- rows that take and send (document 02, L5)
 
 -- Kind 3: the fourth number is the type taken, the sixth the type sent. The row's numbers are these again.
-takes_and_sends : (listed_plant (1 ∷ 3 ∷ 1 ∷ 1 ∷ 0 ∷ 0 ∷ 3 ∷ 1 ∷ 0 ∷ 2 ∷ []) ≡ found (record { types = 3; states = 1 ∷ []; rows = row_with 0 0 0 (some 2) (some 1) false ∷ [] }) 10)
-    × (row_numbers (row_with 0 0 0 (some 2) (some 1) false) ≡ (0 ∷ 0 ∷ 3 ∷ 1 ∷ 0 ∷ 2 ∷ []))
+takes_and_sends : (listed_plant (1 ∷ 3 ∷ 1 ∷ 1 ∷ 0 ∷ 0 ∷ 3 ∷ 1 ∷ 0 ∷ 2 ∷ []) ≡ found (record { types = 3; states = 1 ∷ []; rows = row_with 0 0 0 (Some 2) (Some 1) false ∷ [] }) 10)
+    × (row_numbers (row_with 0 0 0 (Some 2) (Some 1) false) ≡ (0 ∷ 0 ∷ 3 ∷ 1 ∷ 0 ∷ 2 ∷ []))
 unfolding number_that listed_row listed_rows listed_machine listed_machines listed_plant row_numbers
 takes_and_sends = (refl, refl)
 
@@ -127,12 +127,12 @@ sixth_of_others = (refl, refl, refl)
 
 -- Both types count for a twin: the types the other way round are another row, and the same two are a twin.
 both_types : (listed_plant (1 ∷ 2 ∷ 1 ∷ 2 ∷ 0 ∷ 0 ∷ 3 ∷ 0 ∷ 0 ∷ 1 ∷ 0 ∷ 0 ∷ 3 ∷ 1 ∷ 0 ∷ 0 ∷ [])
-    ≡ found (record { types = 2; states = 1 ∷ []; rows = row_with 0 0 0 (some 1) (some 0) false ∷ row_with 0 0 0 (some 0) (some 1) false ∷ [] }) 16)
+    ≡ found (record { types = 2; states = 1 ∷ []; rows = row_with 0 0 0 (Some 1) (Some 0) false ∷ row_with 0 0 0 (Some 0) (Some 1) false ∷ [] }) 16)
     × (listed_plant (1 ∷ 2 ∷ 1 ∷ 2 ∷ 0 ∷ 0 ∷ 3 ∷ 0 ∷ 0 ∷ 1 ∷ 0 ∷ 0 ∷ 3 ∷ 0 ∷ 0 ∷ 1 ∷ []) ≡ fault 26 10)
 unfolding number_that listed_row listed_rows listed_machine listed_machines listed_plant
 both_types = (refl, refl)
 
 -- The longest list has as many numbers for each of its 1,024 rows as a row has.
-longest : longest_list ≡ 2 + 2 * 16 + length (row_numbers (row_with 0 0 0 none none false)) * 1024
+longest : longest_list ≡ 2 + 2 * 16 + length (row_numbers (row_with 0 0 0 None None false)) * 1024
 unfolding row_numbers
 longest = refl

@@ -7,4 +7,5 @@ pub mod ListOnly
 pub mod ListLengths
 pub mod ListLaws
 pub mod RowLaws
+pub mod KindLaws
 pub mod BasicExamples

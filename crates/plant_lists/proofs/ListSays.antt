@@ -1,7 +1,7 @@
 -- The list of a plant within the limits says that plant.
 use mathlib.Core.Path.{◌≡◌, refl, ap, subst}
 use mathlib.Core.Bool.{Bool, true, false, ◌&&◌, cond}
-use mathlib.Core.Option.{Option, none, some}
+use Rattle.std.specs.Prelude.{Option, None, Some}
 use mathlib.Core.List.{List, [], ◌∷◌, ◌++◌}
 use Prim.Native.Nat.{ℕ, ◌+◌, ◌≤◌, zero-le}
 use native.Mathlib.Omega.{arith}
@@ -51,10 +51,10 @@ record KindSays (types : ℕ) (a b : Option ℕ) : Type 0 where
   taken : taken_by (message_kind a b) (message_type a b) ≡ b
 
 kind_says : (types : ℕ) (a b : Option ℕ) → TypeIn types a → TypeIn types b → KindSays types a b
-kind_says types none none ha hb = record { kind = refl; type = refl; sixth = refl; sent = refl; taken = refl }
-kind_says types (some t) none ha hb = record { kind = refl; type = in_range_lem 0 types t zero-le ha; sixth = refl; sent = refl; taken = refl }
-kind_says types none (some u) ha hb = record { kind = refl; type = in_range_lem 0 types u zero-le hb; sixth = refl; sent = refl; taken = refl }
-kind_says types (some t) (some u) ha hb = record { kind = refl; type = in_range_lem 0 types u zero-le hb; sixth = in_range_lem 0 types t zero-le ha; sent = refl; taken = refl }
+kind_says types None None ha hb = record { kind = refl; type = refl; sixth = refl; sent = refl; taken = refl }
+kind_says types (Some t) None ha hb = record { kind = refl; type = in_range_lem 0 types t zero-le ha; sixth = refl; sent = refl; taken = refl }
+kind_says types None (Some u) ha hb = record { kind = refl; type = in_range_lem 0 types u zero-le hb; sixth = refl; sent = refl; taken = refl }
+kind_says types (Some t) (Some u) ha hb = record { kind = refl; type = in_range_lem 0 types u zero-le hb; sixth = in_range_lem 0 types t zero-le ha; sent = refl; taken = refl }
 
 progress_says : (b : Bool) → (in_range 0 2 (cond b 1 0) ≡ true) × (eqb (cond b 1 0) 1 ≡ b)
 progress_says true = (refl, refl)

@@ -1,16 +1,30 @@
 -- The six numbers of a row, judged together, are judged one by one.
-use mathlib.Core.Path.{◌≡◌, refl}
+use mathlib.Core.Path.{◌≡◌, refl, ◌∙◌, ap}
 use mathlib.Core.Bool.{Bool, true, false, ◌&&◌, cond}
 use mathlib.Core.List.{List}
-use Prim.Native.Nat.{ℕ, ◌+◌, ◌≤◌, ◌<◌, zero-le}
+use Prim.Native.Nat.{ℕ, ◌+◌, ◌-◌, ◌≤◌, ◌<◌, zero-le}
+use native.Mathlib.Nat.{add-zero}
 use native.Mathlib.Omega.{arith}
-use lib.ListN.{length, get_or}
+use lib.ListN.{length, get_or, take, drop}
+use lib.Seq.{length-take-le}
 use lib.Dec.{ltb, eqb}
+use Rattle.std.proofs.lemmas.List.{length-drop, get_or-take, get_or-drop}
 use borrow.Author.Tests.{lt-ltb, le-ltb, le-leb}
 use Rattle.livelock.proofs.Tests.{and_iff, both_iff, less_iff}
 use Rattle.plant.specs.Found.{found, fault}
 use Rattle.plant_lists.specs.Lists.{number_that, number_in, types_for, sent_types_for, listed_row}
 use Rattle.plant_lists.specs.Inner.Rows.{number_passes, row_passes, row_listed, RowThere, number_fault}
+
+either : (b : Bool) (x y : ℕ) → x ≤ 64 → y ≤ 64 → cond b x y ≤ 64
+either true x y h g = h
+either false x y h g = g
+
+-- No number for a type is above the most types of a plant.
+pub few_types : (kind types : ℕ) → types ≤ 64 → types_for kind types ≤ 64
+few_types kind types h = either (eqb kind 0) 1 types (omega arith) h
+
+pub few_sent_types : (kind types : ℕ) → types ≤ 64 → sent_types_for kind types ≤ 64
+few_sent_types kind types h = either (eqb kind 3) types 1 h (omega arith)
 
 -- One number that passes, and one that does not.
 number_right : (end : ℕ) (s : List ℕ) (at next : ℕ) → next ≡ at + 1 → number_passes end s at ≡ true → number_in 0 end s at ≡ found (get_or s at 0) next
@@ -155,14 +169,47 @@ module _ (states types : ℕ) (s : List ℕ) (at : ℕ) (h : row_passes states t
         left = omega (arith, (below states at six.first).1, few);
         entered = omega (arith, (below states (at + 1) six.second).1, few);
         kind = (below 4 (at + 2) six.third).1;
-        type = omega (arith, (below (types_for kind types) (at + 3) six.fourth).1, either (eqb kind 0) 1 types (omega arith) types-few);
+        type = omega (arith, (below (types_for kind types) (at + 3) six.fourth).1, few_types kind types types-few);
         progress = (below 2 (at + 4) six.fifth).1;
-        sent = omega (arith, (below (sent_types_for kind types) (at + 5) six.sixth).1, either (eqb kind 3) types 1 types-few (omega arith));
+        sent = omega (arith, (below (sent_types_for kind types) (at + 5) six.sixth).1, few_sent_types kind types types-few);
       }
     where
       kind : ℕ
       kind = get_or s (at + 2) 0
 
-      either : (b : Bool) (x y : ℕ) → x ≤ 64 → y ≤ 64 → cond b x y ≤ 64
-      either true x y h g = h
-      either false x y h g = g
+-- ---- six numbers as a part of the list
+
+pub part_length : (s : List ℕ) (at : ℕ) → at ≤ length s → length (take (length s - at) (drop at s)) ≡ length s - at
+part_length s at h = length-take-le (length s - at) (drop at s) (omega (arith, length-drop at s))
+
+module _ (s six : List ℕ) (at : ℕ) (inside : at + 6 ≤ length s) (same : six ≡ take 6 (take (length s - at) (drop at s))) where
+  long : length six ≡ 6
+  long = rw same (length-take-le 6 (take (length s - at) (drop at s)) (omega (arith, part_length s at (omega (arith, inside)), inside)))
+
+  stands : (i : ℕ) → i < 6 → get_or six i 0 ≡ get_or s (at + i) 0
+  stands i l =
+      ap (λ (xs : List ℕ). get_or xs i 0) same
+      ∙ get_or-take 6 (take (length s - at) (drop at s)) i 0 l
+      ∙ get_or-take (length s - at) (drop at s) i 0 (omega (arith, l, inside))
+      ∙ get_or-drop at s i 0
+
+  first : get_or six 0 0 ≡ get_or s at 0
+  first = rw add-zero at (stands 0 (omega arith))
+
+  -- They pass as those in the list do,
+  pub part_passes : (states types : ℕ) → row_passes states types six 0 ≡ row_passes states types s at
+  part_passes states types =
+      rw (
+        inside_passes states types six 0 (omega (arith, long)),
+        inside_passes states types s at inside,
+        first,
+        stands 1 (omega arith),
+        stands 2 (omega arith),
+        stands 3 (omega arith),
+        stands 4 (omega arith),
+        stands 5 (omega arith),
+      )
+
+  -- and say the same row.
+  pub part_listed : (m : ℕ) → row_listed m six 0 ≡ row_listed m s at
+  part_listed m = rw (first, stands 1 (omega arith), stands 2 (omega arith), stands 3 (omega arith), stands 4 (omega arith), stands 5 (omega arith))

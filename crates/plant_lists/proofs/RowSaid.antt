@@ -5,12 +5,13 @@ use mathlib.Core.List.{List, ◌∷◌, ◌++◌}
 use Prim.Native.Nat.{ℕ, zero, suc, ◌+◌, ◌≤◌, ◌<◌}
 use native.Mathlib.Nat.{not-suc-le-zero}
 use native.Mathlib.Omega.{arith}
-use lib.ListN.{drop}
+use lib.ListN.{length, drop}
 use lib.Dec.{eqb}
 use Rattle.livelock.specs.Plants.{Row, TypeIn}
 use Rattle.plant.specs.Reading.{in_range}
 use Rattle.plant.proofs.Bounds.{RowIn}
-use Rattle.plant.proofs.Gives.{Gives, value, gives_then}
+use Rattle.plant.specs.Found.{found}
+use Rattle.plant.proofs.Gives.{Gives, value, given_found, gives_then}
 use Rattle.plant_lists.specs.Lists.{sent_by, taken_by, types_for, sent_types_for, listed_row, message_kind, message_type, sent_number, row_numbers}
 use Rattle.plant_lists.proofs.NumberLaws.{ranged, number_is}
 
@@ -38,6 +39,7 @@ progress_back (suc (suc n)) h = let z : 1 ≤ 0 = omega (arith, h) in absurd (no
 pub record RowSaid (m states types : ℕ) (s : List ℕ) (at : ℕ) (r : Row) (next : ℕ) : Type 0 where
   pub lies : RowIn m states types r
   pub ends : next ≡ at + 6
+  pub inside : next ≤ length s
   pub stands : drop at s ≡ row_numbers r ++ drop next s
 
 pub row_said : (m states types : ℕ) (s : List ℕ) (at : ℕ) → Gives (RowSaid m states types s at) (listed_row m states types s at)
@@ -62,8 +64,13 @@ row_said m states types s at =
             taken = k.taken_in;
           };
       ends = omega (arith, ha.ends, hb.ends, hc.ends, hd.ends, he.ends, hf.ends);
+      inside = omega (arith, hf.inside, hf.ends);
       stands =
           ha.stands ∙ ap (λ (l : List ℕ). left ∷ l)
           (hb.stands ∙ ap (λ (l : List ℕ). entered ∷ l)
           (hc.stands ∙ (λ i. k.kind_back i ∷ (hd.stands ∙ (λ j. k.type_back j ∷ (he.stands ∙ (λ l. g l ∷ (hf.stands ∙ (λ n. k.sent_back n ∷ drop f s)) l)) j)) i)));
     })
+
+-- So a row that was found ends six numbers on, within the list.
+pub row_inside : (m states types : ℕ) (s : List ℕ) (at : ℕ) (r : Row) (next : ℕ) → listed_row m states types s at ≡ found r next → (next ≡ at + 6) × (next ≤ length s)
+row_inside m states types s at r next e = let h = given_found r next (row_said m states types s at) e in (h.ends, h.inside)

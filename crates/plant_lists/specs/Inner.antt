@@ -1,2 +1,3 @@
 -- Definitions that only the contracts of the functions below the writer cite.
 pub mod Rows
+pub mod Kinds

@@ -1,6 +1,5 @@
 -- The writer's list of numbers (document 02, L2, L4 and L5): what it says, and numbers 23, 24 and 26.
-use Rattle.std.specs.Prelude.{Bool, ◌&&◌, cond, List, [], ◌∷◌, ◌++◌, ℕ, zero, suc, ◌+◌, ◌*◌, length, get_or, leb, ltb, eqb}
-use Rattle.std.proofs.Math.Option.{Option, none, some}
+use Rattle.std.specs.Prelude.{Bool, ◌&&◌, cond, List, [], ◌∷◌, ◌++◌, ℕ, zero, suc, ◌+◌, ◌*◌, length, get_or, leb, ltb, eqb, Option, None, Some}
 use Rattle.livelock.specs.Plants.{Row, Plant, row_with, row_count, machine_count}
 use Rattle.plant.specs.Found.{Found, found, fault, and_then}
 use Rattle.plant.specs.Twins.{unless_twin}
@@ -27,11 +26,11 @@ count_number low high s at = number_in low (high + 1) s at
 -- "kind (0 neither, 1 sends, 2 takes)", and "kind 3 and a sixth number for the type sent" (document 02, L5): the type sent of a row with this kind,
 -- fourth number and sixth number,
 abbrev pub sent_by : ℕ → ℕ → ℕ → Option ℕ
-sent_by kind type sent = cond (eqb kind 1) (some type) (cond (eqb kind 3) (some sent) none)
+sent_by kind type sent = cond (eqb kind 1) (Some type) (cond (eqb kind 3) (Some sent) None)
 
 -- and the type taken: "the fourth is then the type taken".
 abbrev pub taken_by : ℕ → ℕ → Option ℕ
-taken_by kind type = cond (eqb kind 2) (some type) (cond (eqb kind 3) (some type) none)
+taken_by kind type = cond (eqb kind 2) (Some type) (cond (eqb kind 3) (Some type) None)
 
 -- "type (0 for kind 0)": below the count of types, and for kind 0 below 1.
 abbrev pub types_for : ℕ → ℕ → ℕ
@@ -92,24 +91,24 @@ listed_plant s =
 
 -- "kind (0 neither, 1 sends, 2 takes)", and "kind 3", of a row with these types sent and taken.
 abbrev pub message_kind : Option ℕ → Option ℕ → ℕ
-message_kind none none = 0
-message_kind (some t) none = 1
-message_kind none (some u) = 2
-message_kind (some t) (some u) = 3
+message_kind None None = 0
+message_kind (Some t) None = 1
+message_kind None (Some u) = 2
+message_kind (Some t) (Some u) = 3
 
 -- Its fourth number: "type (0 for kind 0)"; "the fourth is then the type taken".
 abbrev pub message_type : Option ℕ → Option ℕ → ℕ
-message_type none none = 0
-message_type (some t) none = t
-message_type none (some u) = u
-message_type (some t) (some u) = u
+message_type None None = 0
+message_type (Some t) None = t
+message_type None (Some u) = u
+message_type (Some t) (Some u) = u
 
 -- Its "sixth number for the type sent, 0 for other kinds".
 abbrev pub sent_number : Option ℕ → Option ℕ → ℕ
-sent_number none none = 0
-sent_number (some t) none = 0
-sent_number none (some u) = 0
-sent_number (some t) (some u) = t
+sent_number None None = 0
+sent_number (Some t) None = 0
+sent_number None (Some u) = 0
+sent_number (Some t) (Some u) = t
 
 -- The six numbers of a row.
 unfoldable pub row_numbers : Row → List ℕ

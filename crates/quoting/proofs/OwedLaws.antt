@@ -11,7 +11,7 @@ use Rattle.livelock.specs.Weights.{Passes, FailingCycle}
 use Rattle.livelock.specs.Figures.{Figures, figures_of, ceiling_of}
 use Rattle.livelock.proofs.Decision.{decision, not_both}
 use Rattle.plant.specs.Found.{Found, found, fault, and_then}
-use Rattle.std.specs.Prelude.{Result, Ok, Err}
+use Rattle.std.specs.Prelude.{Option, Some, None, is_some, IfSome, Result, Ok, Err}
 use Rattle.plant.specs.Refusals.{number_of}
 use Rattle.plant.specs.declared.Fault.{Fault}
 use Rattle.plant.proofs.OneToOne.{same_fault}
@@ -19,6 +19,8 @@ use Rattle.weight_checks.specs.Checks.{first_above, judged_weights}
 use Rattle.weight_checks.proofs.CheckLaws.{none_above, no_plant, judged_weights_lem}
 use Rattle.weighing.specs.Weighing.{OnPassingVerdict, OwedVerdict}
 use Rattle.weighing.specs.Answers as weighed
+use Rattle.figures.specs.FigureSums.{figures_in}
+use Rattle.figures.specs.declared.Figures as Judged
 use Rattle.figures.proofs.FigureLaws.{most_limit, base_limit, per_progress_limit, per_doubling_limit}
 use Rattle.weighing.proofs.WeighingLaws.{verdict_refused, verdict_fails, verdict_passes}
 use Rattle.price_classes.specs.Classes.{class_of}
@@ -26,7 +28,7 @@ use Rattle.contents.specs.Contents.{amounts, checked_amounts, checked_contents, 
 use Rattle.contents.specs.Checks.{Checks}
 use Rattle.quoting.specs.Answers.{Answer, quoted, refused, answer_of}
 use Rattle.quoting.specs.Quoting.{judged, ceiling_for, Owed, for_fault, for_plant, largest_ceiling}
-use Rattle.quoting.specs.Inner.Pricing.{Priced, FiguresFit, quoted_for, OwedChecked}
+use Rattle.quoting.specs.Inner.Pricing.{Priced, FiguresFit, quoted_for, OwedChecked, OwedPassing}
 use Rattle.quoting.specs.declared.Quoted.{Quoted}
 use Rattle.quoting.proofs.CeilingLaws.{bound_for, judged_within}
 use Rattle.quoting.proofs.CeilingLaws.{largest_file, largest_weights, largest_contents, largest_plant, largest_attained}
@@ -60,6 +62,12 @@ module _ (passes : Bool) (f : Figures) (ws contents : List ℕ) (g d : ℕ) wher
       go true true e = for_fault e
       go true false e = owed e
       go false y e = for_fault e
+
+-- A fault of the checks is handed on, with figures or without.
+pub refused_passing : (passing : Option Judged.Figures) (ws contents : List ℕ) (g d : ℕ) (e : Fault) → Checks (length ws) contents (g ∷ d ∷ []) (is_some passing) (Err e)
+    → OwedPassing passing ws contents g d (refused (number_of e.refusal) e.place)
+refused_passing (Some f) ws contents g d e ok = check_refused true (figures_in f) ws contents g d e ok
+refused_passing None ws contents g d e ok = λ f. check_refused false f ws contents g d e ok
 
 -- ---- the whole answer
 
@@ -146,6 +154,23 @@ module _ (file ws contents : List ℕ) (g d : ℕ) where
         (λ q. record { quote = e ∙ ap (λ (c : ℕ). quoted c (class_of c)) (ceiling_is x.0 x.4 types); bounds = bound_for x.0 ws contents g d x.4.bounded })
         (λ q. absurd (q x.3))))
 
+module _ (file ws contents : List ℕ) (g d : ℕ) where
+  -- What is asked of the figures and of the weights follows from the verdict,
+  pub passing_fits : (passing : Option Judged.Figures) → OwedVerdict ws (weighed.judgement passing) (judged_weights file ws)
+      → IfSome passing (λ f. FiguresFit (figures_in f)) × (length ws ≤ 64) × AllAtMost 1000 ws
+  passing_fits (Some f) owed =
+      let weights = passing_weights file ws contents g d (figures_in f) owed in
+      (figures_fit file ws contents g d (figures_in f) owed, weights.0, weights.1)
+  passing_fits None owed = let weights = failing_weights file ws contents g d owed in (tt, weights.0, weights.1)
+
+  -- and what is then said is owed for the input.
+  pub quote_owed : (passing : Option Judged.Figures) → OwedVerdict ws (weighed.judgement passing) (judged_weights file ws) → (b : Answer)
+      → OwedPassing passing ws contents g d b → Owed ws contents g d b (judged file ws contents g d)
+  quote_owed (Some f) owed b given = quote_passing file ws contents g d (figures_in f) owed b given
+  quote_owed None owed b given =
+      let zeros : Figures = record { base = 0; most_states = 0; per_progress = 0; per_doubling = 0 } in
+      quote_failing file ws contents g d owed zeros b (given zeros)
+
 -- ---- what the answer says
 
 -- The answer hands back a ceiling.
@@ -219,7 +244,4 @@ one_to_one (Ok q) (Ok r) e =
     λ i. Ok (record { ceiling = ceilings i; class = classes i })
 one_to_one (Ok q) (Err f) e = cc
 one_to_one (Err f) (Ok q) e = cc
-one_to_one (Err f) (Err h) e =
-    let n : number_of f.refusal ≡ number_of h.refusal = cc in
-    let q : f.place ≡ h.place = cc in
-    ap Err (same_fault f h n q)
+one_to_one (Err f) (Err h) e = ap Err (same_fault f h (cc) (cc))

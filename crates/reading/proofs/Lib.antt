@@ -1,3 +1,2 @@
--- Laws of counting, and of the answers.
-pub mod CountLaws
+-- Laws of the answers.
 pub mod OneToOne

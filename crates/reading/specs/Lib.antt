@@ -1,3 +1,2 @@
 -- The answers of the call that only reads.
 pub mod Answers
-pub mod Inner

@@ -1,3 +1,2 @@
--- What the kind of a row says, and what it is to have stored bytes.
-pub mod Kinds
+-- What it is to have stored bytes.
 pub mod Stores

@@ -1,55 +1,67 @@
-// The bytes of a row, stored in a buffer one behind the other. Every field is stored, and where its bit does not stand the next one takes
-// its place: a store is cheaper than a jump that cannot be foreseen. No entry point: `written_rows` and `writing` call it.
+// The bytes of a plant file, stored in a lent buffer one behind the other. Every field of a row is stored, and where its bit does not stand the next one
+// takes its place: a store is cheaper than a jump that cannot be foreseen. No entry point: `written_rows` and `writing` call it.
 #![tactic(auto)]
 
-ghost use Rattle.std.specs.Prelude.{◌≡◌, cond, ℕ, ◌+◌, ◌≤◌, ◌<◌, length, eqb};
+ghost use Rattle.std.specs.Prelude.{◌≡◌, ℕ, ◌+◌, ◌≤◌, ◌<◌, length};
 ghost use Rattle.plant.specs.Limits.{most_row_bytes};
-ghost use Rattle.plant_files.specs.Files.{byte_if, map_with, row_bytes};
-ghost use Rattle.plant_lists.specs.Inner.Rows.{row_listed, RowThere};
-ghost use Rattle.row_bytes.specs.Kinds.{sends, takes};
+ghost use Rattle.plant_rows.specs.Rows.{fields_row};
+ghost use Rattle.plant_files.specs.Files.{byte_if, type_bytes, shortest_map, row_bytes};
 ghost use Rattle.row_bytes.specs.Stores.{Stored};
 
-// Stores a byte, and hands back the offset after it, or the same one if it does not stand.
-pub fn put(file: &mut [u8], pos: usize, byte: u8, stands: bool) -> usize
-    requires { pos < length file.old }
-    ensures stored { Stored file.old file.new pos (byte_if stands byte) result }
-    ensures upper_bound { result ≤ pos + 1 }
+use plant_rows::RowFields;
+
+// The map byte of a row before which a state is implied.
+fn map_of(row: &RowFields, implied: u8) -> u8
+    ensures { (m : ℕ) → result ≡ shortest_map implied (fields_row m row.now) }
 {
-    file[pos] = byte;
-    pos + usize::from(stands)
+    let states = u8::from(row.left != implied) + u8::from(row.entered != row.left) * 2;
+    let types = u8::from(row.sent.is_some()) * 4 + u8::from(row.taken.is_some()) * 8;
+    states + types + u8::from(row.progress) * 16
 }
 
-// The map byte of a row of this kind: kind 1 sends, kind 2 takes, and kind 3 has the bits of both.
-fn map_of(left: bool, entered: bool, kind: u16, progress: u16) -> u8
-    requires { (kind < 4) × (progress < 2) }
-    ensures { result ≡ map_with left entered (sends kind) (takes kind) (eqb progress 1) }
-{
-    u8::from(left) + u8::from(entered) * 2 + kind as u8 * 4 + progress as u8 * 16
+// A plant file in a lent buffer, as far as it was stored.
+#[derive(Drop)]
+pub struct PlantFile<'a> {
+    pub bytes: &'a mut [u8],
+    pub end: usize,
 }
 
-// The number that has the type sent: the sixth, where the fourth has the type taken.
-fn sent_byte(kind: u16, message: u16, sent: u16) -> u8
-    requires { (message < 64) × (sent < 64) }
-    ensures { result ≡ cond (eqb kind 3) sent message }
-{
-    if kind == 3 { sent as u8 } else { message as u8 }
-}
+impl PlantFile<'_> {
+    // Stores a byte. If it does not stand, the next one takes its place.
+    pub fn put(&mut self, byte: u8, stands: bool)
+        requires { self.old.end < length self.old.bytes.now }
+        ensures same_list { self.new.bytes.ghost_name ≡ self.old.bytes.ghost_name }
+        ensures stored { Stored self.old.bytes.now self.new.bytes.now self.old.end (byte_if stands byte) self.new.end }
+        ensures upper_bound { self.new.end ≤ self.old.end + 1 }
+        ensures long { length self.new.bytes.now ≡ length self.old.bytes.now }
+    {
+        self.bytes[self.end] = byte;
+        self.end += usize::from(stands);
+    }
 
-// Stores the row whose six numbers begin at `at`, before which a state is implied, and hands back the offset after it.
-pub fn put_row(numbers: &[u16], at: usize, implied: u16, file: &mut [u8], pos: usize) -> usize
-    requires { RowThere numbers.now at × (pos + most_row_bytes ≤ length file.old) }
-    ensures by_index { (m : ℕ) → Stored file.old file.new pos (row_bytes implied (row_listed m numbers.now at)) result }
-    ensures upper_bound { result ≤ pos + most_row_bytes }
-{
-    let left = numbers[at];
-    let entered = numbers[at + 1];
-    let kind = numbers[at + 2];
-    let message = numbers[at + 3];
-    let map = map_of(left != implied, entered != left, kind, numbers[at + 4]);
-    let after_map = put(file, pos, map, true);
-    let after_left = put(file, after_map, left as u8, left != implied);
-    let after_entered = put(file, after_left, entered as u8, entered != left);
-    let sent = sent_byte(kind, message, numbers[at + 5]);
-    let after_sent = put(file, after_entered, sent, kind % 2 == 1);
-    put(file, after_sent, message as u8, 2 <= kind)
+    // Stores a type, where there is one.
+    fn put_type(&mut self, message: Option<u8>)
+        requires { self.old.end < length self.old.bytes.now }
+        ensures same_list { self.new.bytes.ghost_name ≡ self.old.bytes.ghost_name }
+        ensures stored { Stored self.old.bytes.now self.new.bytes.now self.old.end (type_bytes message) self.new.end }
+        ensures upper_bound { self.new.end ≤ self.old.end + 1 }
+        ensures long { length self.new.bytes.now ≡ length self.old.bytes.now }
+    {
+        self.put(message.unwrap_or(0), message.is_some());
+    }
+
+    // Stores a row before which a state is implied.
+    pub fn put_row(&mut self, row: &RowFields, implied: u8)
+        requires { self.old.end + most_row_bytes ≤ length self.old.bytes.now }
+        ensures same_list { self.new.bytes.ghost_name ≡ self.old.bytes.ghost_name }
+        ensures by_index { (m : ℕ) → Stored self.old.bytes.now self.new.bytes.now self.old.end (row_bytes implied (fields_row m row.now)) self.new.end }
+        ensures upper_bound { self.new.end ≤ self.old.end + most_row_bytes }
+        ensures long { length self.new.bytes.now ≡ length self.old.bytes.now }
+    {
+        self.put(map_of(row, implied), true);
+        self.put(row.left, row.left != implied);
+        self.put(row.entered, row.entered != row.left);
+        self.put_type(row.sent);
+        self.put_type(row.taken);
+    }
 }

@@ -1,26 +1,21 @@
--- A type below a count of at most 64 stands in a column as itself.
-use mathlib.Core.Path.{◌≡◌, sym}
-use mathlib.Core.Option.{some}
-use mathlib.Core.List.{List}
-use Prim.Native.Nat.{ℕ, ◌≤◌, ◌<◌}
+-- A type that was read is below the count of types.
+use Rattle.std.proofs.Common.{◌≡◌, sym, Bool, true, false, List, ℕ, ◌≤◌, ◌<◌, length}
+use Rattle.std.specs.Prelude.{Option, Some, None}
+use Rattle.std.specs.Option.{ForSome}
+use Rattle.std.proofs.lemmas.Option.{none-some, same_Some}
 use native.Mathlib.Omega.{arith}
-use borrow.Author.Tests.{lt-ltb}
-use Rattle.plant.specs.Found.{found, and_then}
-use Rattle.plant.specs.Reading.{byte_in}
-use Rattle.plant.specs.Steps.{type_of, field_found}
-use Rattle.std.specs.Prelude.{Result, Ok, Err}
-use Rattle.plant.specs.declared.Fault.{Fault}
-use Rattle.plant.specs.declared.Field.{Field}
-use Rattle.plant.proofs.Bounds.{byte_in_each, each_found}
-use Rattle.row_fields.specs.Fields.{type_found}
+use Rattle.plant.specs.Found.{found}
+use Rattle.plant.specs.Reading.{type_field}
+use Rattle.plant.proofs.Bounds.{Each, got, each_found, each_then, byte_in_each}
 
-type_itself : (b : ℕ) → b < 64 → type_of b ≡ some b
-type_itself b l = simp (lt-ltb b 64 l)
+module _ (types : ℕ) (few : types ≤ 64) (s : List ℕ) (at : ℕ) where
+  type_each : (stands : Bool) → Each (λ o next. ForSome o (λ t. t < 64)) (length s) (type_field stands types s at)
+  unfolding type_field
+  type_each true =
+      each_then (byte_in_each s at 0 types 6 (omega arith) (omega arith))
+      (λ b next h. got {a = Some b} (λ t e. omega (arith, few, h.1.1, same_Some b t e)))
+  type_each false = got {a = None} (λ t e. absurd (none-some t e))
 
--- What a type field means where its bit stands: the byte, as a type.
-pub type_of_byte : (types : ℕ) (s : List ℕ) (at : ℕ) (r : Result (Field ℕ) Fault) → types ≤ 64 → field_found r ≡ byte_in 0 types 6 s at
-    → type_found r ≡ and_then (byte_in 0 types 6 s at) (λ b next. found (some b) next)
-type_of_byte types s at (Ok f) l e =
-    let h = each_found f.value f.next (byte_in_each s at 0 types 6 (omega arith) (omega arith)) (sym e) in
-    rw (← e, type_itself f.value (omega (arith, h.1.1)))
-type_of_byte types s at (Err f) l e = rw (← e)
+  -- So it is below 64, where there are at most 64 types.
+  pub type_below : (stands : Bool) (o : Option ℕ) (next : ℕ) → found o next ≡ type_field stands types s at → ForSome o (λ t. t < 64)
+  type_below stands o next e = each_found o next (type_each stands) (sym e)

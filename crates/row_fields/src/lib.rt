@@ -1,7 +1,7 @@
 // The fields of a row: its map byte, and a byte for each state and type whose bit stands. No entry point: `plant_rows` calls it.
 #![tactic(auto)]
 
-ghost use Rattle.std.specs.Prelude.{◌≡◌, ◌≤◌, ◌<◌};
+ghost use Rattle.std.specs.Prelude.{◌≡◌, ◌<◌};
 ghost use Rattle.plant.specs.Reading.{has_bit, map_byte, state_field, type_field};
 ghost use Rattle.plant.specs.Steps.{field_found};
 ghost use Rattle.row_fields.specs.Fields.{type_found};
@@ -43,16 +43,19 @@ pub fn state_field(
     }
 }
 
-// A type field, or 64.
-pub fn type_field(s: &[u8], at: usize, stands: bool, types: u8) -> Result<Field<u8>, Fault>
-    requires { types ≤ 64 }
+// A type field, or no type.
+pub fn type_field(s: &[u8], at: usize, stands: bool, types: u8) -> Result<Field<Option<u8>>, Fault>
     ensures { type_found result ≡ type_field stands types s.now at }
 {
     if stands {
-        byte_in(s, at, 0, types, Refusal::NotAType)
+        let byte = byte_in(s, at, 0, types, Refusal::NotAType)?;
+        Ok(Field {
+            value: Some(byte.value),
+            next: byte.next,
+        })
     } else {
         Ok(Field {
-            value: 64,
+            value: None,
             next: at,
         })
     }

@@ -1,10 +1,11 @@
-// The six numbers of a row in a list that says a plant, judged together, with their fault apart; and the row that they say. No entry point:
-// `written_rows` calls it.
+// A row of a list that says a plant: its six numbers, judged together, with their fault apart, and the row that they say. No entry point: `written_rows`
+// calls it.
 #![tactic(auto)]
 
 ghost use Rattle.std.specs.Prelude.{◌≡◌, false, ℕ, ◌+◌, ◌≤◌, ◌<◌, length};
-ghost use Rattle.plant.specs.Steps.{fault_found, type_of};
-ghost use Rattle.plant_rows.specs.Rows.{fields_row};
+ghost use Rattle.std.specs.Option.{ForSome};
+ghost use Rattle.plant.specs.Steps.{fault_found};
+ghost use Rattle.plant_rows.specs.Rows.{fields_row, row_found};
 ghost use Rattle.plant_lists.specs.Lists.{sent_by, taken_by, types_for, sent_types_for, listed_row};
 ghost use Rattle.plant_lists.specs.Inner.Rows.{number_passes, row_passes, row_listed, RowThere, number_fault};
 
@@ -23,6 +24,32 @@ fn sent_end(kind: u16, types: u8) -> u16
     ensures { result ≡ sent_types_for kind types }
 {
     if kind == 3 { u16::from(types) } else { 1 }
+}
+
+// The type that a row of this kind sends. A kind is tested where it decides: as an enum it would be made in one line and taken apart in the next. Chosen
+// without a jump, by `then_some`, the types took `write` 1.1 times as long.
+fn type_sent(kind: u16, message: u16, sent: u16) -> Option<u8>
+    requires { (message < 64) × (sent < 64) }
+    ensures value { result ≡ sent_by kind message sent }
+    ensures small { ForSome result (λ t. t < 64) }
+{
+    match kind {
+        1 => Some(message as u8),
+        3 => Some(sent as u8),
+        _ => None,
+    }
+}
+
+// The type that it takes.
+fn type_taken(kind: u16, message: u16) -> Option<u8>
+    requires { message < 64 }
+    ensures value { result ≡ taken_by kind message }
+    ensures small { ForSome result (λ t. t < 64) }
+{
+    match kind {
+        2 | 3 => Some(message as u8),
+        _ => None,
+    }
 }
 
 // Whether the six numbers of a row all pass. One test of the list's length serves them all.
@@ -88,29 +115,6 @@ pub fn row_fault(numbers: &[u16], at: usize, states: u8, types: u8) -> Fault
     Fault { refusal, place }
 }
 
-// The type that a row of this kind sends, or 64,
-fn type_sent(kind: u16, message: u16, sent: u16) -> u8
-    requires { (message < 64) × (sent < 64) }
-    ensures { type_of result ≡ sent_by kind message sent }
-{
-    match kind {
-        1 => message as u8,
-        3 => sent as u8,
-        _ => 64,
-    }
-}
-
-// and the type that it takes.
-fn type_taken(kind: u16, message: u16) -> u8
-    requires { message < 64 }
-    ensures { type_of result ≡ taken_by kind message }
-{
-    match kind {
-        2 | 3 => message as u8,
-        _ => 64,
-    }
-}
-
 // The row that the six numbers at `at` say, and the index after them.
 pub fn listed_row(numbers: &[u16], at: usize) -> Field<RowFields>
     requires { RowThere numbers.now at }
@@ -129,4 +133,20 @@ pub fn listed_row(numbers: &[u16], at: usize) -> Field<RowFields>
         },
         next: at + 6,
     }
+}
+
+// The row at `at`, or its fault. The six numbers are judged together: judged one by one, each with a fault of its own, `write` took 1.2 times as long.
+pub fn judged_row(
+    numbers: &[u16],
+    at: usize,
+    states: u8,
+    types: u8,
+) -> Result<Field<RowFields>, Fault>
+    requires { (at ≤ length numbers.now) × (states ≤ 64) × (types ≤ 64) }
+    ensures { (m : ℕ) → row_found m result ≡ listed_row m states types numbers.now at }
+{
+    if row_passes(numbers, at, states, types) {
+        return Ok(listed_row(numbers, at));
+    }
+    Err(row_fault(numbers, at, states, types))
 }

@@ -146,6 +146,18 @@ pub record Sought (g : Graph) (states limit : ℕ) (found : Option Start) (most 
   pub none : (a j : ℕ) → a < s → 1 ≤ j → j ≤ most → Closes g a j → ⊥
   pub closes : IfSome found (λ f. (f.start < states) × Closes g f.start f.length)
 
+-- After the last state what was found is the least from any, up to the limit.
+pub sought_all : {g : Graph} {states limit most s : ℕ} (found : Option Start) → states ≤ s → Sought g states limit found most s → LeastWithin g states limit found
+sought_all None e h =
+    record { some_edge = tt; few = tt; closes = tt; least = λ a j x y z q. h.none a j (omega (arith, e, x)) y (omega (arith, z, h.next)) q }
+sought_all (Some f) e h =
+    record {
+      some_edge = omega (arith, h.next);
+      few = h.within;
+      closes = h.closes;
+      least = λ a j x y z q. h.none a j (omega (arith, e, x)) y (omega (arith, z, h.next)) q;
+    }
+
 -- A walk with an edge begins at one of the states.
 begins_in : {g : Graph} {states : ℕ} → Searchable g states
     → (a t : ℕ) (es : List ℕ) → 0 < length es → All (IsEdge g) es → Walk g.src g.dst a es t → a < states
@@ -265,7 +277,7 @@ module _ {g : Graph} {states start k : ℕ} (ok : Searchable g states) (least : 
     walk_in = walk_end_in ok start s w.walk least.start_in w.edges w.joined
 
     -- and the first edge of the walk on is noted.
-    pub walk_leads : (noted : List ℕ) → i < k → FirstEdges g states start k noted → FirstEdge g start (k - i - 1) s (entry noted ((k - i - 1) * 64) s)
+    pub walk_leads : (noted : List (List ℕ)) → i < k → FirstEdges g states start k noted → FirstEdge g start (k - i - 1) s (entry noted (k - i - 1) s)
     walk_leads noted l first =
         let q : k - i ≡ suc (k - i - 1) = omega arith in
         first (k - i - 1) s (omega arith) walk_in (rw q at walk_alive)

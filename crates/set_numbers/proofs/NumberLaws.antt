@@ -82,10 +82,10 @@ module _ (rows : ℕ) (set : List ℕ) (at end : ℕ) where
       row_stops number place e = rw e at one_more
 
       -- one that is read joins those before it,
-      pub row_goes_on : (next : ℕ) → number_in 0 rows set i ≡ found (get_or set i 0) next → RowsSoFar (i + 1)
-      row_goes_on next e =
-          let r = number_read 0 rows set i (get_or set i 0) next e in
-          (rw (part_next set at i from r.there) (sym (behind (part set at i) (get_or set i 0) (rows_at (end - (i + 1)) rows set (i + 1))) ∙ (rw (e, r.next_is) at one_more)))
+      pub row_goes_on : (v next : ℕ) → number_in 0 rows set i ≡ found v next → RowsSoFar (i + 1)
+      row_goes_on v next e =
+          let r = number_read 0 rows set i v next e in
+          rw (part_next set at i from r.there, ← r.is) (sym (behind (part set at i) v (rows_at (end - (i + 1)) rows set (i + 1))) ∙ (rw (e, r.next_is) at one_more))
 
     -- and behind the last all are read.
     pub rows_end : i ≡ end → found (part set at end) end ≡ rows_at (end - at) rows set at

@@ -1,2 +1,3 @@
 -- The numbers of a cycle set.
 pub mod Numbers
+pub mod Heads

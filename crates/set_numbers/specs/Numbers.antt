@@ -1,9 +1,7 @@
 -- The numbers of a cycle set (document 01, "Cycle sets", and numbers 15, 16 and 18 of "Where each fault is found").
-use Rattle.std.specs.Prelude.{◌&&◌, cond, List, [], ◌∷◌, ℕ, zero, suc, ◌+◌, ◌-◌, length, get_or, take, drop, ltb, Result, Ok, Err}
+use Rattle.std.specs.Prelude.{◌&&◌, cond, List, [], ◌∷◌, ℕ, zero, suc, ◌+◌, ◌-◌, length, get_or, take, drop, ltb}
 use Rattle.plant.specs.Found.{Found, found, fault, and_then}
 use Rattle.plant.specs.Reading.{in_range}
-use Rattle.plant.specs.Steps.{fault_found}
-use Rattle.plant.specs.declared.Fault.{Fault}
 
 -- "set, any number | 15 | the list ends within the entry | list length" and "16 | … outside limits | index":
 -- the number at an index, at least `low` and below `end`.
@@ -24,11 +22,6 @@ first_numbers machines set at = and_then (number_in 0 machines set at) (λ m a. 
 -- and n more entries may come, before any of its numbers is read.
 unfoldable pub entry_begins : ℕ → List ℕ → ℕ → Found (Unit {0})
 entry_begins n set at = cond (ltb at (length set) && ltb 0 n) (found tt at) (fault 18 at)
-
--- What an end says of a value: that it was read, up to an index, or the fault.
-abbrev pub value_found : {A : Type 0} → A → Result ℕ Fault → Found A
-value_found a (Ok next) = found a next
-value_found a (Err f) = fault_found f
 
 -- The numbers of a list from index a up to, and not including, b.
 abbrev pub part : List ℕ → ℕ → ℕ → List ℕ

@@ -1,113 +1,80 @@
 -- Laws of the sums: what one row adds, and rows one after the other.
 use mathlib.Core.Path.{◌≡◌, refl, sym, ap, ◌∙◌, subst}
-use mathlib.Core.Bool.{Bool, true, false, cond}
-use mathlib.Core.Option.{Option, none, some}
+use mathlib.Core.Bool.{cond}
+use Rattle.std.specs.Prelude.{Option, None, Some}
+use Rattle.std.specs.Option.{ForSome}
 use mathlib.Core.List.{List, [], ◌∷◌, ◌++◌}
 use Prim.Native.Nat.{ℕ, ◌+◌, ◌*◌, ◌^◌, ◌≤◌, ◌<◌}
 use native.Mathlib.Decide.{ℕ_discrete}
 use native.Mathlib.Omega.{arith}
-use lib.Dec.{ltb, eqb}
-use lib.ListN.{length, get_or, set, length-set, length-append}
+use lib.Dec.{eqb}
+use lib.ListN.{length, get_or, length-set, length-append}
 use lib.Seq.{get_or-set_same, get_or-set_other}
 use lib.IntN.{ℤ, pos, neg_ℤ, nat_abs, ◌+ℤ◌}
-use mir.Syntax.{w64}
-use mir.Val.{to_z, of_z}
-use borrow.Author.Tests.{ltb-true, lt-ltb, le-ltb, eq-eqb, ne_eqb}
+use borrow.Author.Tests.{eq-eqb, ne_eqb}
 use Rattle.livelock.specs.Lists.{sum}
 use Rattle.livelock.specs.Plants.{Row}
 use Rattle.livelock.specs.Cycles.{is_of_type}
 use Rattle.livelock.proofs.SumLaws.{sum-append}
 use Rattle.livelock.specs.Differences.{Difference}
 use Rattle.livelock.proofs.Differences.{difference_shift, difference_plus, difference_neg}
-use Rattle.plant.specs.Steps.{type_of}
 use Rattle.tables.specs.Tables.{row_in}
 use Rattle.set_sums.specs.Sums.{raised, Within, having, Added}
-use Rattle.set_sums.proofs.SizeLaws.{size_plus, size_neg, sum_is}
+use Rattle.set_sums.proofs.SizeLaws.{size_plus, size_neg}
 
--- 1 where a byte is type t.
-abbrev one : ℕ → ℕ → ℕ
-one x t = cond (is_of_type (type_of x) t) 1 0
+-- 1 where a type is type t.
+abbrev one : Option ℕ → ℕ → ℕ
+one x t = cond (is_of_type x t) 1 0
 
 -- ---- one message
 
-module _ (s : List ℤ) where
-  -- The sums with z added to that of type t.
-  abbrev changed : ℕ → ℤ → List ℤ
-  changed t z = set s t (get_or s t (pos 0) +ℤ z)
+module _ (s : List ℤ) (room : length s ≡ 64) where
+  -- There are as many sums as before.
+  raised_room : (x : Option ℕ) (z : ℤ) → length (raised s x z) ≡ 64
+  raised_room None z = room
+  raised_room (Some x) z = length-set s x _ ∙ room
 
-  -- A message without a type changes no sum;
-  pub raised_none : (x : ℕ) (z : ℤ) → 64 ≤ x → raised s x z ≡ s
-  unfolding raised
-  raised_none x z l = rw (le-ltb x 64 l)
+  -- The sum of the type changes,
+  changed_same : (t : ℕ) (z : ℤ) → t < 64 → get_or (raised s (Some t) z) t (pos 0) ≡ get_or s t (pos 0) +ℤ z
+  changed_same t z l = get_or-set_same s t (get_or s t (pos 0) +ℤ z) (pos 0) (omega arith)
 
-  -- one with a type changes its sum, as the code stores it in 64 bits.
-  pub raised_stored : (x : ℕ) (z : ℤ) → x < 64 → Within (2 ^ 62) s → nat_abs z ≤ 1000000
-      → set s x (to_z w64 (of_z w64 (to_z w64 (of_z w64 (get_or s x (pos 0))) +ℤ to_z w64 (of_z w64 z)))) ≡ raised s x z
-  unfolding raised
-  raised_stored x z l small few = rw (lt-ltb x 64 l, sum_is (get_or s x (pos 0)) z (small x) few)
+  -- and the others stay.
+  changed_other : (t i : ℕ) (z : ℤ) → (i ≡ t → ⊥) → get_or (raised s (Some t) z) i (pos 0) ≡ get_or s i (pos 0)
+  changed_other t i z n = get_or-set_other s t i (get_or s t (pos 0) +ℤ z) (pos 0) n
 
-  module _ (room : length s ≡ 64) where
-    -- There are as many sums as before.
-    raised_room : (x : ℕ) (z : ℤ) → length (raised s x z) ≡ 64
-    unfolding raised
-    raised_room x z = go (ltb x 64)
-      where
-        go : (b : Bool) → length (cond b (changed x z) s) ≡ 64
-        go true = length-set s x _ ∙ room
-        go false = room
+  -- The sum of the message's type changes by z, where z is p − q, and the others stay.
+  raised_difference : (x : Option ℕ) (z : ℤ) (p q t a b : ℕ) → ForSome x (λ k. k < 64) → Difference z p q → Difference (get_or s t (pos 0)) a b
+      → Difference (get_or (raised s x z) t (pos 0)) (a + p * one x t) (b + q * one x t)
+  raised_difference None z p q t a b l i j = difference_shift (get_or s t (pos 0)) a b (a + p * 0) (b + q * 0) (omega arith) j
+  raised_difference (Some x) z p q t a b l i j = go (ℕ_discrete t x)
+    where
+      go : Dec (t ≡ x) → Difference (get_or (raised s (Some x) z) t (pos 0)) (a + p * cond (eqb t x) 1 0) (b + q * cond (eqb t x) 1 0)
+      go (yes e) =
+          rw (← e, eq-eqb t t refl, changed_same t z (omega (arith, l x refl)))
+          (difference_shift (get_or s t (pos 0) +ℤ z) (a + p) (b + q) (a + p * 1) (b + q * 1) (omega arith) (difference_plus (get_or s t (pos 0)) z a b p q j i))
+      go (no n) = rw (ne_eqb t x n, changed_other x t z n) (difference_shift (get_or s t (pos 0)) a b (a + p * 0) (b + q * 0) (omega arith) j)
 
-    -- The sum of the type changes,
-    changed_same : (t : ℕ) (z : ℤ) → t < 64 → get_or (changed t z) t (pos 0) ≡ get_or s t (pos 0) +ℤ z
-    changed_same t z l = get_or-set_same s t (get_or s t (pos 0) +ℤ z) (pos 0) (omega arith)
-
-    -- and the others stay.
-    changed_other : (t i : ℕ) (z : ℤ) → (i ≡ t → ⊥) → get_or (changed t z) i (pos 0) ≡ get_or s i (pos 0)
-    changed_other t i z n = get_or-set_other s t i (get_or s t (pos 0) +ℤ z) (pos 0) n
-
-    -- The sum of the message's type changes by z, where z is p − q, and the others stay.
-    raised_difference : (x : ℕ) (z : ℤ) (p q t a b : ℕ) → Difference z p q → Difference (get_or s t (pos 0)) a b
-        → Difference (get_or (raised s x z) t (pos 0)) (a + p * one x t) (b + q * one x t)
-    unfolding raised
-    raised_difference x z p q t a b i j = go (ltb x 64) refl
-      where
-        kept : (y : ℤ) → y ≡ get_or s t (pos 0) → Difference y (a + p * 0) (b + q * 0)
-        kept y e = rw e (difference_shift (get_or s t (pos 0)) a b (a + p * 0) (b + q * 0) (omega arith) j)
-
-        at_type : x < 64 → Dec (t ≡ x) → Difference (get_or (changed x z) t (pos 0)) (a + p * cond (eqb t x) 1 0) (b + q * cond (eqb t x) 1 0)
-        at_type h (yes e) =
-            rw (← e, eq-eqb t t refl, changed_same t z (omega arith))
-            (difference_shift (get_or s t (pos 0) +ℤ z) (a + p) (b + q) (a + p * 1) (b + q * 1) (omega arith) (difference_plus (get_or s t (pos 0)) z a b p q j i))
-        at_type h (no n) = rw (ne_eqb t x n) (kept _ (changed_other x t z n))
-
-        go : (h : Bool) → ltb x 64 ≡ h → Difference (get_or (cond h (changed x z) s) t (pos 0)) (a + p * cond (is_of_type (cond h (some x) none) t) 1 0) (b + q * cond (is_of_type (cond h (some x) none) t) 1 0)
-        go true e = at_type (ltb-true x 64 e) (ℕ_discrete t x)
-        go false e = kept _ refl
-
-    -- No sum grows by more than the size of z.
-    raised_within : (x : ℕ) (z : ℤ) (b y : ℕ) → nat_abs z ≤ y → Within b s → Within (b + y) (raised s x z)
-    unfolding raised
-    raised_within x z b y h w i = go (ltb x 64) refl
-      where
-        at_type : x < 64 → Dec (i ≡ x) → nat_abs (get_or (changed x z) i (pos 0)) ≤ b + y
-        at_type l (yes e) = rw (e, changed_same x z l) (omega (arith, w x, size_plus (get_or s x (pos 0)) z))
-        at_type l (no n) = rw (changed_other x i z n) (omega (arith, w i))
-
-        go : (h : Bool) → ltb x 64 ≡ h → nat_abs (get_or (cond h (changed x z) s) i (pos 0)) ≤ b + y
-        go true e = at_type (ltb-true x 64 e) (ℕ_discrete i x)
-        go false e = omega (arith, w i)
+  -- No sum grows by more than the size of z.
+  raised_within : (x : Option ℕ) (z : ℤ) (b y : ℕ) → ForSome x (λ k. k < 64) → nat_abs z ≤ y → Within b s → Within (b + y) (raised s x z)
+  raised_within None z b y l h w i = omega (arith, w i)
+  raised_within (Some x) z b y l h w i = go (ℕ_discrete i x)
+    where
+      go : Dec (i ≡ x) → nat_abs (get_or (raised s (Some x) z) i (pos 0)) ≤ b + y
+      go (yes e) = rw (e, changed_same x z (l x refl)) (omega (arith, w x, size_plus (get_or s x (pos 0)) z))
+      go (no n) = rw (changed_other x i z n) (omega (arith, w i))
 
 -- ---- one row
 
 module _ (table : List ℕ) (repeats : ℕ) (few : repeats ≤ 1000000) (rows : List ℕ) (before now : List ℤ) (h : Added table repeats rows before now) where
   -- One more message sent changes no sum by more than 1,000,000,
-  sent_within : (m x : ℕ) → Within x before → Within (x + length rows * 2000000 + 1000000) (raised now m (pos repeats))
-  sent_within m x w = raised_within now h.room m (pos repeats) (x + length rows * 2000000) 1000000 few (h.within x w)
+  sent_within : (m : Option ℕ) (x : ℕ) → ForSome m (λ k. k < 64) → Within x before → Within (x + length rows * 2000000 + 1000000) (raised now m (pos repeats))
+  sent_within m x l w = raised_within now h.room m (pos repeats) (x + length rows * 2000000) 1000000 l few (h.within x w)
 
   -- and leaves room in 64 bits to take one from the sums.
-  pub sent_small : Within (2 ^ 61) before → length rows < 64 → (m : ℕ) (z : ℤ) → z ≡ pos repeats → (mid : List ℤ) → mid ≡ raised now m z → Within (2 ^ 62) mid
-  sent_small small short m z is mid e = subst (Within (2 ^ 62)) (sym (e ∙ ap (raised now m) is)) (λ i. omega (arith, sent_within m (2 ^ 61) small i))
+  pub sent_small : Within (2 ^ 61) before → length rows < 64 → (m : Option ℕ) (z : ℤ) → ForSome m (λ k. k < 64) → z ≡ pos repeats → (mid : List ℤ) → mid ≡ raised now m z → Within (2 ^ 62) mid
+  sent_small small short m z l is mid e = subst (Within (2 ^ 62)) (sym (e ∙ ap (raised now m) is)) (λ i. omega (arith, sent_within m (2 ^ 61) l small i))
 
-  module _ (k x y : ℕ) (sends : type_of x ≡ (row_in table k).sent) (takes : type_of y ≡ (row_in table k).taken) where
+  module _ (k : ℕ) (x y : Option ℕ) (sends : x ≡ (row_in table k).sent) (takes : y ≡ (row_in table k).taken) (few_sent : ForSome x (λ t. t < 64)) (few_taken : ForSome y (λ t. t < 64)) where
     -- Row k adds to the sum of what it sends,
     abbrev up : List ℤ
     up = raised now x (pos repeats)
@@ -125,11 +92,11 @@ module _ (table : List ℕ) (repeats : ℕ) (few : repeats ≤ 1000000) (rows : 
         omega (
           arith,
           length-append rows (k ∷ []),
-          raised_within up up_room y (neg_ℤ (pos repeats)) (n + length rows * 2000000 + 1000000) 1000000 (omega (arith, size_neg repeats)) (sent_within x n w) i,
+          raised_within up up_room y (neg_ℤ (pos repeats)) (n + length rows * 2000000 + 1000000) 1000000 few_taken (omega (arith, size_neg repeats)) (sent_within x n few_sent w) i,
         )
 
     -- One more row that has a type.
-    one_more : (field : Row → Option ℕ) (z : ℕ) → type_of z ≡ field (row_in table k) → (t : ℕ)
+    one_more : (field : Row → Option ℕ) (z : Option ℕ) → z ≡ field (row_in table k) → (t : ℕ)
         → repeats * having field table t (rows ++ (k ∷ [])) ≡ repeats * having field table t rows + repeats * one z t
     unfolding sum
     one_more field z is t =
@@ -147,8 +114,8 @@ module _ (table : List ℕ) (repeats : ℕ) (few : repeats ≤ 1000000) (rows : 
           sums = λ t a b i.
               let a' : ℕ = a + repeats * having (λ r. r.sent) table t rows in
               let b' : ℕ = b + repeats * having (λ r. r.taken) table t rows in
-              let u = raised_difference now h.room x (pos repeats) repeats 0 t a' b' (omega arith) (h.sums t a b i) in
-              let d = raised_difference up up_room y (neg_ℤ (pos repeats)) 0 repeats t (a' + repeats * one x t) (b' + 0 * one x t) (difference_neg repeats) u in
+              let u = raised_difference now h.room x (pos repeats) repeats 0 t a' b' few_sent (omega arith) (h.sums t a b i) in
+              let d = raised_difference up up_room y (neg_ℤ (pos repeats)) 0 repeats t (a' + repeats * one x t) (b' + 0 * one x t) few_taken (difference_neg repeats) u in
               difference_shift (get_or down t (pos 0)) _ _ (a + repeats * having (λ r. r.sent) table t (rows ++ (k ∷ []))) (b + repeats * having (λ r. r.taken) table t (rows ++ (k ∷ []))) (omega (arith, one_more (λ r. r.sent) x sends t, one_more (λ r. r.taken) y takes t)) d;
           within = row_within;
         }

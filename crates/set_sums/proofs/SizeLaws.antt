@@ -1,5 +1,5 @@
 -- The size of signed numbers, and what fits 64 bits.
-use mathlib.Core.Path.{◌≡◌, ◌∙◌}
+use mathlib.Core.Path.{◌≡◌}
 use Prim.Native.Nat.{ℕ, zero, suc, ◌+◌, ◌^◌, ◌≤◌, ◌<◌, max}
 use native.Mathlib.Omega.{arith}
 use lib.IntN.{ℤ, pos, negsuc, neg_ℤ, nat_abs, ◌+ℤ◌, ◌-ℤ◌, +ℤ_idl}
@@ -34,16 +34,6 @@ size_fits (negsuc d) h = record { sfits = omega arith }
 -- A number comes back from 64 bits where it is small.
 back : (z : ℤ) → nat_abs z < 2 ^ 63 → to_z w64 (of_z w64 z) ≡ z
 back z h = to_z-of_z (size_fits z h)
-
--- A change of at most 1,000,000 either way, added to a small number in 64 bits.
-module _ (v z : ℤ) (small : nat_abs v ≤ 2 ^ 62) (few : nat_abs z ≤ 1000000) where
-  -- Their sum fits,
-  sum_fits : SFits w64 (to_z w64 (of_z w64 v) +ℤ to_z w64 (of_z w64 z))
-  sum_fits = rw (back v (omega arith), back z (omega arith)) (size_fits (v +ℤ z) (omega (arith, size_plus v z)))
-
-  -- and comes back.
-  pub sum_is : to_z w64 (of_z w64 (to_z w64 (of_z w64 v) +ℤ to_z w64 (of_z w64 z))) ≡ v +ℤ z
-  sum_is = to_z-of_z sum_fits ∙ rw (back v (omega arith), back z (omega arith))
 
 -- A number of repeats as 64 bits hold it, and the same below zero.
 module _ (z : ℤ) (repeats : ℕ) (is : z ≡ pos repeats) (few : repeats ≤ 1000000) where

@@ -1,6 +1,5 @@
 -- The sums of a set, one for each type, and what adding rows to them gives.
-use Rattle.std.specs.Prelude.{◌≡◌, cond, List, ℕ, ◌+◌, ◌*◌, ◌≤◌, ltb, length, get_or, ℤ, pos, nat_abs, ◌+ℤ◌}
-use Rattle.std.proofs.Math.Option.{Option}
+use Rattle.std.specs.Prelude.{◌≡◌, List, ℕ, ◌+◌, ◌*◌, ◌≤◌, length, get_or, ℤ, pos, nat_abs, ◌+ℤ◌, Option, None, Some}
 use Rattle.std.proofs.Math.ListN as Cells
 use Rattle.livelock.specs.Lists.{count}
 use Rattle.livelock.specs.Plants.{Row}
@@ -8,9 +7,10 @@ use Rattle.livelock.specs.Cycles.{is_of_type}
 use Rattle.livelock.specs.Differences.{Difference}
 use Rattle.tables.specs.Tables.{row_in}
 
--- The sums with z added to that of a type; 64 and above stand for no type, and then no sum changes.
-unfoldable pub raised : List ℤ → ℕ → ℤ → List ℤ
-raised sums x z = cond (ltb x 64) (Cells.set sums x (get_or sums x (pos 0) +ℤ z)) sums
+-- The sums with z added to that of a type; without a type no sum changes.
+abbrev pub raised : List ℤ → Option ℕ → ℤ → List ℤ
+raised sums None z = sums
+raised sums (Some x) z = Cells.set sums x (get_or sums x (pos 0) +ℤ z)
 
 -- Each sum is at most x either way.
 abbrev pub Within : ℕ → List ℤ → Type 0

@@ -16,8 +16,8 @@ use Rattle.livelock.proofs.QuietGraphs.{cycle_machine}
 use Rattle.decoding.specs.Tables.{plant_of}
 use Rattle.decoding.specs.declared.Shape.{Shape}
 use Rattle.edge_lists.specs.declared.Edge.{Edge}
-use Rattle.edge_lists.specs.EdgeLists.{edge_in}
-use Rattle.deciding.specs.Rounds.{edge_graph, EdgesIn, NoneBelow, SomeZeroOrMore}
+use Rattle.edge_lists.specs.EdgeLists.{edge_in, EdgesIn}
+use Rattle.deciding.specs.Rounds.{edge_graph, NoneBelow, SomeZeroOrMore}
 use Rattle.closed_walks.proofs.WalkLaws.{edges_searchable}
 use Rattle.searching.specs.Searches.{Written, ShownWithin}
 use Rattle.searching.proofs.SearchLaws.{cycle_few, none_at_all}

@@ -2,13 +2,12 @@
 use mathlib.Core.Path.{◌≡◌, refl, sym, ap, ap₂, ◌∙◌}
 use mathlib.Core.List.{List}
 use Prim.Native.Nat.{ℕ, zero, suc, ◌-◌, ◌*◌, ◌/◌, ◌%◌, ◌^◌, ◌<◌, min, max}
-use native.Mathlib.Nat.{zero-lt-suc, mod-lt, not-suc-le-zero, div-eq_of_lt, pow-suc}
+use native.Mathlib.Nat.{zero-lt-suc, mod-lt, not-suc-le-zero, div-eq_of_lt}
 use native.Mathlib.Decide.{ℕ_discrete}
 use native.Mathlib.Omega.{arith}
 use lib.ListN.{get_or, get_or-replicate}
 use lib.Arith.{digits_mod}
 use lib.Bits.{bit_and, bit_or, bit_xor, differ, and_step, xor_step, and_shr, xor_shr, shifted_half, shifted_even}
-use lib.Count.{count_trailing_zeros, under}
 use lib.Pow.{pow_pos, pow_mono}
 use Rattle.livelock.proofs.ListLaws.{get_d_replicate_default}
 use Rattle.livelock.proofs.BitLaws.{or_bit}
@@ -156,10 +155,6 @@ module _ (into : List ℕ) (start free : ℕ) where
       spared : (x : ℕ) → x < 24 → mark marks x ≡ 0 → mark live x ≡ 1 → mark (bit_or marks (bit_xor live 16777215)) x ≡ 0
       spared x l e v = omega (arith, e, v, mark_or x l marks (bit_xor live 16777215), mark_not x l live)
 
--- As they were, marks are kept, and no state is marked.
-pub closed_same : (into : List ℕ) (start : ℕ) (marks : List ℕ) → Closed into start marks marks
-closed_same into start marks = record { kept = λ x l e. e; to_start = λ x a l i e. e; onward = λ x y a l m i o e. e }
-
 -- ---- single bits
 
 -- Where bit s alone stands, no other state is marked.
@@ -185,13 +180,3 @@ below_only s one e =
       above = λ x h l.
           mark_bit 24 (one - 1) x l ∙ ap (λ (z : ℕ). z % 2) (div-eq_of_lt {n = one - 1} {m = 2 ^ x} (omega (arith, e, pow_mono h, pow_pos s)));
     }
-
--- Below a number's lowest bit there are fewer zeros than it has digits.
-pub trailing_below : (k n : ℕ) → n < 2 ^ k → (n ≡ 0 → ⊥) → count_trailing_zeros k n < k
-unfolding count_trailing_zeros
-trailing_below zero n l h = absurd (h (omega arith))
-trailing_below (suc k) n l h = go (n % 2) refl (trailing_below k (n / 2) (omega (arith, pow-suc 2 k, bit_lt n)))
-  where
-    go : (d : ℕ) → n % 2 ≡ d → ((n / 2 ≡ 0 → ⊥) → count_trailing_zeros k (n / 2) < k) → under d (count_trailing_zeros k (n / 2)) < suc k
-    go zero e later = let r = later (λ z. h (omega (arith, e, z))) in omega arith
-    go (suc d) e later = omega arith

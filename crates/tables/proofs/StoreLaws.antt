@@ -9,6 +9,7 @@ use lib.ListN.{length, get_or, set, length-set}
 use lib.Seq.{get_or-set_same, get_or-set_other}
 use lib.Dec.{eqb}
 use mir.Val.{bool_byte}
+use Rattle.plant.specs.Steps.{type_of}
 use Rattle.plant_rows.specs.declared.RowFields.{RowFields}
 use Rattle.plant_rows.specs.Rows.{fields_row}
 use Rattle.tables.specs.Tables.{row_in, RoomFor, Stored}
@@ -88,9 +89,10 @@ module _ (t : List ℕ) (at a b c d e f : ℕ) where
     is_5 = get_or-set_same t5 (at + 5) f 0 (simp length-set (omega arith))
 
 -- Six bytes that are stored at 8 × k are row k, and every other row is kept.
-module _ (t : List ℕ) (k m : ℕ) (r : RowFields) (p : ℕ) (bit : p ≡ bool_byte r.progress) (room : RoomFor (k + 1) t) where
+module _ (t : List ℕ) (k m : ℕ) (r : RowFields) (x y p : ℕ)
+    (sent : type_of x ≡ r.sent) (taken : type_of y ≡ r.taken) (bit : p ≡ bool_byte r.progress) (room : RoomFor (k + 1) t) where
   abbrev after : List ℕ
-  after = six t (8 * k) m r.left r.entered r.sent r.taken p
+  after = six t (8 * k) m r.left r.entered x y p
 
   within : 8 * k + 6 ≤ length t
   within = omega (arith, room)
@@ -101,24 +103,26 @@ module _ (t : List ℕ) (k m : ℕ) (r : RowFields) (p : ℕ) (bit : p ≡ bool_
       record {
         stored =
             rw (
-              is_0 t (8 * k) m r.left r.entered r.sent r.taken p within,
-              is_1 t (8 * k) m r.left r.entered r.sent r.taken p within,
-              is_2 t (8 * k) m r.left r.entered r.sent r.taken p within,
-              is_3 t (8 * k) m r.left r.entered r.sent r.taken p within,
-              is_4 t (8 * k) m r.left r.entered r.sent r.taken p within,
-              is_5 t (8 * k) m r.left r.entered r.sent r.taken p within,
+              is_0 t (8 * k) m r.left r.entered x y p within,
+              is_1 t (8 * k) m r.left r.entered x y p within,
+              is_2 t (8 * k) m r.left r.entered x y p within,
+              is_3 t (8 * k) m r.left r.entered x y p within,
+              is_4 t (8 * k) m r.left r.entered x y p within,
+              is_5 t (8 * k) m r.left r.entered x y p within,
+              sent,
+              taken,
               bit,
               bit_is r.progress,
             );
         others =
             λ i n.
             rw (
-              kept t (8 * k) m r.left r.entered r.sent r.taken p (8 * i) (λ y l q. apart i k 0 y n (omega arith) l (add-zero (8 * i) ∙ q)),
-              kept t (8 * k) m r.left r.entered r.sent r.taken p (8 * i + 1) (λ y. apart i k 1 y n (omega arith)),
-              kept t (8 * k) m r.left r.entered r.sent r.taken p (8 * i + 2) (λ y. apart i k 2 y n (omega arith)),
-              kept t (8 * k) m r.left r.entered r.sent r.taken p (8 * i + 3) (λ y. apart i k 3 y n (omega arith)),
-              kept t (8 * k) m r.left r.entered r.sent r.taken p (8 * i + 4) (λ y. apart i k 4 y n (omega arith)),
-              kept t (8 * k) m r.left r.entered r.sent r.taken p (8 * i + 5) (λ y. apart i k 5 y n (omega arith)),
+              kept t (8 * k) m r.left r.entered x y p (8 * i) (λ z l q. apart i k 0 z n (omega arith) l (add-zero (8 * i) ∙ q)),
+              kept t (8 * k) m r.left r.entered x y p (8 * i + 1) (λ z. apart i k 1 z n (omega arith)),
+              kept t (8 * k) m r.left r.entered x y p (8 * i + 2) (λ z. apart i k 2 z n (omega arith)),
+              kept t (8 * k) m r.left r.entered x y p (8 * i + 3) (λ z. apart i k 3 z n (omega arith)),
+              kept t (8 * k) m r.left r.entered x y p (8 * i + 4) (λ z. apart i k 4 z n (omega arith)),
+              kept t (8 * k) m r.left r.entered x y p (8 * i + 5) (λ z. apart i k 5 z n (omega arith)),
             );
-        long = six_long t (8 * k) m r.left r.entered r.sent r.taken p;
+        long = six_long t (8 * k) m r.left r.entered x y p;
       }

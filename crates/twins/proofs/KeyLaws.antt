@@ -1,34 +1,28 @@
 -- Laws of keys: rows of one machine have the same key exactly if they are equal, so that a row is a twin exactly if its key is kept.
 use mathlib.Core.Path.{◌≡◌, refl, sym, ap, ◌∙◌, subst}
-use mathlib.Core.Bool.{Bool, true, false, ◌&&◌, ◌||◌, cond, false≢true, or-false, or_assoc}
-use Rattle.std.specs.Prelude as Std
-use mathlib.Core.Option.{Option, none, some}
-use mathlib.Core.List.{List, [], ◌∷◌, ◌++◌, map, map-append}
+use mathlib.Core.Bool.{Bool, true, false, ◌||◌, cond, false≢true, or-false, or_assoc}
+use Rattle.std.specs.Prelude.{Option, None, Some}
+use mathlib.Core.List.{List, [], ◌∷◌, ◌++◌, map}
 use Prim.Native.Nat.{ℕ, ◌+◌, ◌*◌, ◌/◌, ◌%◌, ◌^◌, ◌<◌}
 use native.Mathlib.Nat.{mul_comm, mod-lt, zero-lt-suc, mul-div_cancel}
 use native.Mathlib.Numerals.{add-one}
 use native.Mathlib.Omega.{arith}
-use lib.ListN.{length, get_or, take, set, length-set}
-use lib.Seq.{take-suc, take-suc-set}
-use lib.Dec.{eqb, ltb}
+use lib.ListN.{length, get_or, take}
+use lib.Seq.{take-suc}
+use lib.Dec.{eqb}
 use lib.Arith.{digits_div, digits_mod}
 use lib.Bits.{bit_or}
 use lib.Pow.{pow_pos}
 use mir.Val.{bool_byte}
-use borrow.Author.Tests.{eqb-true, eq-eqb, ltb-true}
+use borrow.Author.Tests.{eqb-true, eq-eqb}
 use Rattle.livelock.specs.Lists.{All}
 use Rattle.livelock.specs.Plants.{Row, TypeIn}
-use Rattle.livelock.proofs.ListLaws.{all_append, all_weaken}
 use Rattle.livelock.proofs.BitLaws.{bit_same, or_bit}
 use Rattle.livelock.proofs.Tests.{same_test}
 use Rattle.plant.specs.Limits.{rows_in}
-use Rattle.plant.specs.Steps.{type_of}
 use Rattle.plant.specs.Twins.{same_row, has_twin}
-use Rattle.plant.proofs.MachineRows.{rows_in_machine, rows_in-append, rows_in_own}
-use Rattle.plant.proofs.TwinLaws.{same_row_iff, own_twin}
-use Rattle.plant_rows.specs.Rows.{fields_row}
-use Rattle.plant_rows.specs.declared.RowFields.{RowFields}
-use Rattle.twins.specs.Keys.{type_number, key_of, Small, is_in, state_bit, RowsKept, RowKept}
+use Rattle.plant.proofs.TwinLaws.{same_row_iff}
+use Rattle.twins.specs.Keys.{type_number, key_of, Small, is_in, state_bit, RowsKept}
 
 -- A truth value as a number.
 pub bit_is : (b : Bool) → bool_byte b ≡ cond b 1 0
@@ -45,14 +39,14 @@ digit d a b x y l m e =
 
 -- Types below 64 have different numbers, and so has no type.
 number_below : (o : Option ℕ) → TypeIn 64 o → type_number o < 128
-number_below none h = omega arith
-number_below (some t) h = omega (arith, h)
+number_below None h = omega arith
+number_below (Some t) h = omega (arith, h)
 
 number_same : (o p : Option ℕ) → TypeIn 64 o → TypeIn 64 p → type_number o ≡ type_number p → o ≡ p
-number_same none none h g e = refl
-number_same none (some u) h g e = absurd (omega (arith, g, e))
-number_same (some t) none h g e = absurd (omega (arith, h, e))
-number_same (some t) (some u) h g e = ap some e
+number_same None None h g e = refl
+number_same None (Some u) h g e = absurd (omega (arith, g, e))
+number_same (Some t) None h g e = absurd (omega (arith, h, e))
+number_same (Some t) (Some u) h g e = ap Some e
 
 -- Small rows of one machine with the same key are equal, digit by digit from the lowest.
 key_same : (q r : Row) → Small q → Small r → q.machine ≡ r.machine → key_of q ≡ key_of r → q ≡ r
@@ -91,13 +85,13 @@ key_tells q r f g m =
     )
 
 -- Among rows of its machine a row has a twin exactly if its key is one of theirs.
-key_is_in : (m : ℕ) (r : Row) (qs : List Row) → r.machine ≡ m → Small r → All (λ q. q.machine ≡ m) qs → All Small qs → is_in (key_of r) (map key_of qs) ≡ has_twin r qs
+pub key_is_in : (m : ℕ) (r : Row) (qs : List Row) → r.machine ≡ m → Small r → All (λ q. q.machine ≡ m) qs → All Small qs → is_in (key_of r) (map key_of qs) ≡ has_twin r qs
 unfolding is_in All
 key_is_in m r [] e g own small = refl
 key_is_in m r (q ∷ qs) e g own small = rw (key_tells q r small.0 g (own.0 ∙ sym e)) (ap (λ b. same_row q r || b) (key_is_in m r qs e g own.1 small.1))
 
 -- A row with a twin leaves a state whose bit stands.
-bit_of_twin : (states : ℕ) (r : Row) (qs : List Row) → All (λ q. state_bit states q.left ≡ 1) qs → has_twin r qs ≡ true → state_bit states r.left ≡ 1
+pub bit_of_twin : (states : ℕ) (r : Row) (qs : List Row) → All (λ q. state_bit states q.left ≡ 1) qs → has_twin r qs ≡ true → state_bit states r.left ≡ 1
 unfolding All
 bit_of_twin states r [] h t = absurd (false≢true t)
 bit_of_twin states r (q ∷ qs) h t = go (same_row q r) refl t (bit_of_twin states r qs h.1)
@@ -109,11 +103,11 @@ bit_of_twin states r (q ∷ qs) h t = go (same_row q r) refl t (bit_of_twin stat
 -- ---- the bits of states
 
 -- A union keeps the bits,
-bit_kept : (states more state : ℕ) → state_bit states state ≡ 1 → state_bit (bit_or states more) state ≡ 1
+pub bit_kept : (states more state : ℕ) → state_bit states state ≡ 1 → state_bit (bit_or states more) state ≡ 1
 bit_kept states more state h = omega (arith, or_bit states more (state % 64), h, mod-lt (more / 2 ^ (state % 64)) (zero-lt-suc 1))
 
 -- and has the bit that is put.
-bit_put : (states state : ℕ) → state_bit (bit_or states (1 * 2 ^ (state % 64))) state ≡ 1
+pub bit_put : (states state : ℕ) → state_bit (bit_or states (1 * 2 ^ (state % 64))) state ≡ 1
 bit_put states state =
     let own : 1 * 2 ^ (state % 64) / 2 ^ (state % 64) ≡ 1 = mul-div_cancel 1 (pow_pos (state % 64)) in
     omega (arith, or_bit states (1 * 2 ^ (state % 64)) (state % 64), ap (λ (x : ℕ). x % 2) own, mod-lt (states / 2 ^ (state % 64)) (zero-lt-suc 1))
@@ -124,72 +118,3 @@ bit_put states state =
 pub none_kept : (m : ℕ) (rows : List Row) (keys : List ℕ) → rows_in m rows ≡ [] → RowsKept m 0 rows keys 0
 unfolding All
 none_kept m rows keys e = record { keys_are = rw e; leave = rw e tt; small = rw e tt }
-
-module _ (m n : ℕ) (rows : List Row) (keys : List ℕ) (states : ℕ) (k : RowsKept m n rows keys states) (r : Row) (own : r.machine ≡ m) (g : Small r) where
-  -- The next row is a twin exactly if the bit of the state that it leaves stands and its key is kept;
-  pub twin_told : (eqb (state_bit states r.left) 1 && is_in (key_of r) (take n keys)) ≡ has_twin r rows
-  twin_told =
-      rw (k.keys_are, key_is_in m r (rows_in m rows) own g (rows_in_machine m rows) k.small, own_twin m r rows own)
-      (and_implied _ _ λ t. eq-eqb _ _ (bit_of_twin states r (rows_in m rows) k.leave t))
-    where
-      and_implied : (a b : Bool) → (b ≡ true → a ≡ true) → (a && b) ≡ b
-      and_implied true b h = refl
-      and_implied false true h = h refl
-      and_implied false false h = refl
-
-  -- and its key is kept behind the others, with the bit of that state.
-  pub one_kept : n < length keys → RowsKept m (n + 1) (rows ++ (r ∷ [])) (set keys n (key_of r)) (bit_or states (1 * 2 ^ (r.left % 64)))
-  unfolding All
-  one_kept l =
-      let more : rows_in m (rows ++ (r ∷ [])) ≡ rows_in m rows ++ (r ∷ []) = rows_in-append m rows (r ∷ []) ∙ ap (λ (l : List Row). rows_in m rows ++ l) (rows_in_own m (r ∷ []) (own, tt)) in
-      record {
-        keys_are = rw (more, add-one n, take-suc-set keys n (key_of r) l, k.keys_are, map-append key_of (rows_in m rows) (r ∷ []));
-        leave =
-            rw more
-            (all_append _ (rows_in m rows) (r ∷ [])
-            (all_weaken (λ q. state_bit states q.left ≡ 1) _ (λ q. bit_kept states (1 * 2 ^ (r.left % 64)) q.left) (rows_in m rows) k.leave)
-            (bit_put states r.left, tt));
-        small = rw more (all_append _ (rows_in m rows) (r ∷ []) k.small (g, tt));
-      }
-
--- ---- the next row
-
-type_below : (x : ℕ) → TypeIn 64 (type_of x)
-type_below x = go (ltb x 64) refl
-  where
-    go : (b : Bool) → ltb x 64 ≡ b → TypeIn 64 (cond b (some x) none)
-    go true e = ltb-true x 64 e
-    go false e = tt
-
-module _ (n : ℕ) (f : RowFields) (states : ℕ) (keys : List ℕ) (left : f.left < 256) (entered : f.entered < 256) (key : ℕ) (is : key ≡ key_of (fields_row 0 f)) where
-  small_row : (m : ℕ) → Small (fields_row m f)
-  small_row m = record { left = left; entered = entered; sent = type_below f.sent; taken = type_below f.taken }
-
-  -- The key has nothing of the machine.
-  key_in : (m : ℕ) → key ≡ key_of (fields_row m f)
-  unfolding key_of
-  key_in m = is
-
-  told_is : (kept : Bool) → kept ≡ (eqb (state_bit states f.left) 1 && is_in key (take n keys)) → (m : ℕ) (rows : List Row) → RowsKept m n rows keys states
-      → kept ≡ has_twin (fields_row m f) rows
-  told_is kept e m rows k =
-      e
-      ∙ (ap (λ (x : ℕ). eqb (state_bit states f.left) 1 && is_in x (take n keys)) (key_in m)
-      ∙ twin_told m n rows keys states k (fields_row m f) refl (small_row m))
-
-  -- What is told of a twin,
-  pub row_twin : (kept : Bool) → kept ≡ (eqb (state_bit states f.left) 1 && is_in key (take n keys)) → kept ≡ true
-      → RowKept n f states keys keys Std.None
-  row_twin kept e t = record { long = refl; told = λ m rows k. sym t ∙ told_is kept e m rows k; kept = λ m rows k more e. absurd cc }
-
-  -- and of a row that is none.
-  pub row_fresh : (kept : Bool) → kept ≡ (eqb (state_bit states f.left) 1 && is_in key (take n keys)) → kept ≡ false → n < length keys
-      → (more : ℕ) → more ≡ bit_or states (1 * 2 ^ (f.left % 64)) → RowKept n f states keys (set keys n key) (Std.Some more)
-  row_fresh kept e t l more is-more =
-      record {
-        long = length-set keys n key;
-        told = λ m rows k. sym t ∙ told_is kept e m rows k;
-        kept = λ m rows k other u.
-            let same : more ≡ other = cc in
-            rw (← same, is-more, key_in m) (one_kept m n rows keys states k (fields_row m f) refl (small_row m) l);
-      }

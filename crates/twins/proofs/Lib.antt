@@ -1,2 +1,4 @@
 -- Laws of keys and of rows that are kept.
 pub mod KeyLaws
+pub mod KeptLaws
+pub mod LentLaws

@@ -1,8 +1,7 @@
 -- Rows as numbers, and what is kept of the rows of a machine that were read, so that a twin is found among them. No definition of an answer rests on
 -- these.
-use Rattle.std.specs.Prelude.{◌≡◌, Bool, false, ◌||◌, cond, List, [], ◌∷◌, ◌++◌, map, ℕ, ◌+◌, ◌*◌, ◌/◌, ◌%◌, ◌^◌, ◌<◌, length, take, eqb}
+use Rattle.std.specs.Prelude.{◌≡◌, Bool, false, ◌||◌, cond, List, [], ◌∷◌, ◌++◌, map, ℕ, ◌+◌, ◌*◌, ◌/◌, ◌%◌, ◌^◌, ◌<◌, length, take, eqb, Option, None, Some}
 use Rattle.std.specs.Prelude as Std
-use Rattle.std.proofs.Math.Option.{Option, none, some}
 use Rattle.livelock.specs.Lists.{All}
 use Rattle.livelock.specs.Plants.{Row, TypeIn}
 use Rattle.plant.specs.Limits.{rows_in}
@@ -12,8 +11,8 @@ use Rattle.plant_rows.specs.declared.RowFields.{RowFields}
 
 -- The number of a type, or 64.
 abbrev pub type_number : Option ℕ → ℕ
-type_number none = 64
-type_number (some t) = t
+type_number None = 64
+type_number (Some t) = t
 
 -- The key of a row: its fields as the digits of one number, the state left lowest.
 unfoldable pub key_of : Row → ℕ

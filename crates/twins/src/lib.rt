@@ -2,19 +2,37 @@
 // them the states that they leave, as the bits of another. No entry point: `reading`, `decoding` and `written_rows` call it.
 #![tactic(auto)]
 
-ghost use Rattle.std.specs.Prelude.{◌≡◌, ◌&&◌, ◌*◌, ◌^◌, ◌%◌, ◌<◌, ◌≤◌, length, eqb};
+ghost use Rattle.std.specs.Prelude.{◌≡◌, List, [], ℕ, ◌&&◌, ◌*◌, ◌^◌, ◌%◌, ◌<◌, ◌≤◌, length, eqb};
+ghost use Rattle.std.specs.Option.{ForSome};
 ghost use Rattle.std.specs.Int.Bits.{bit_or};
-ghost use Rattle.plant.specs.Steps.{type_of};
+ghost use Rattle.livelock.specs.Plants.{Row};
+ghost use Rattle.plant.specs.Limits.{rows_in};
 ghost use Rattle.plant_rows.specs.Rows.{fields_row};
 ghost use Rattle.twins.specs.Keys.{type_number, key_of, is_in, state_bit, RowKept};
 
+use arrayvec::ArrayVec;
+use plant::{Fault, Refusal};
 use plant_rows::RowFields;
 
+// A machine has at most so many rows,
+pub const MOST_ROWS: usize = 255;
+
+// and a file of at most so many bytes has no more than these, so that it needs no long list of keys, which has to be cleared.
+pub const FEW_ROWS: usize = 32;
+
+// What is kept of the rows of a machine that were read: their keys, and the states that they leave, as bits.
+#[derive(Drop)]
+pub struct Keys<const N: usize> {
+    keys: ArrayVec<u32, N>,
+    states: u64,
+}
+
 // The number of a type, or 64.
-fn type_number(column: u8) -> u32
-    ensures { (result ≡ type_number (type_of column)) × (result ≤ 64) }
+fn type_number(kind: Option<u8>) -> u32
+    requires { ForSome kind (λ t. t < 64) }
+    ensures { (result ≡ type_number kind) × (result ≤ 64) }
 {
-    u32::from(column.min(64))
+    u32::from(kind.unwrap_or(64))
 }
 
 // The key of a row, whatever its machine: below 2 ^ 31.
@@ -55,8 +73,8 @@ fn with_state(states: u64, state: u8) -> u64
     states | (1 << (state % 64))
 }
 
-// Keeps the key of a row behind those of the `n` rows of its machine before it, and hands back the states that all these rows leave; a twin of one of
-// them is not kept, and there are none.
+// Keeps the key of a row behind those of the `n` rows of its machine before it, in a lent list, and hands back the states that all these rows leave; a twin
+// of one of them is not kept, and there are none. For `written_rows`, where the count and the states of `Keys` would stay in memory.
 pub fn keep_row(keys: &mut [u32], n: usize, states: u64, row: RowFields) -> Option<u64>
     requires { n < length keys.old }
     ensures { RowKept n row states keys.old keys.new result }
@@ -67,4 +85,47 @@ pub fn keep_row(keys: &mut [u32], n: usize, states: u64, row: RowFields) -> Opti
     }
     keys[n] = key;
     Some(with_state(states, row.left))
+}
+
+impl<const N: usize> Keys<N> {
+    ghost use Rattle.twins.specs.Kept.{kept_count, RowsKept, RowKept as Kept};
+
+    // Before the first row of a machine nothing is kept.
+    pub fn new() -> Self
+        ensures none { kept_count result ≡ 0 }
+        ensures no_state { result.states ≡ 0 }
+        ensures kept { (m : ℕ) (rows : List Row) → rows_in m rows ≡ [] → RowsKept m rows result }
+    {
+        Keys {
+            keys: ArrayVec::new(),
+            states: 0,
+        }
+    }
+
+    // For the rows of the next machine: nothing is kept of those of this one.
+    pub fn clear(&mut self)
+        ensures none { kept_count self.new ≡ 0 }
+        ensures no_state { self.new.states ≡ 0 }
+        ensures kept { (m : ℕ) (rows : List Row) → rows_in m rows ≡ [] → RowsKept m rows self.new }
+    {
+        self.keys.clear();
+        self.states = 0;
+    }
+
+    // Keeps a row, which begins at `place`, with those of its machine before it; a twin of one of them is refused.
+    pub fn keep(&mut self, row: RowFields, place: usize) -> Result<(), Fault>
+        requires { kept_count self.old < N }
+        ensures { Kept row place self.old self.new result }
+    {
+        let key = key_of(row);
+        if is_kept(self.keys.as_slice(), self.states, row.left, key) {
+            return Err(Fault {
+                refusal: Refusal::TwinRow,
+                place,
+            });
+        }
+        self.keys.push(key);
+        self.states = with_state(self.states, row.left);
+        Ok(())
+    }
 }

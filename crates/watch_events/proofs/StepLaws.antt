@@ -3,7 +3,7 @@ use mathlib.Core.Path.{◌≡◌, refl, sym, ap, subst}
 use mathlib.Core.Bool.{true, ◌&&◌, false≢true}
 use mathlib.Core.List.{List}
 use Prim.Native.Nat.{ℕ, ◌<◌}
-use Rattle.std.specs.Prelude.{Result, Ok, Err}
+use Rattle.std.specs.Prelude.{Some, Result, Ok, Err}
 use Rattle.plant.specs.declared.Fault.{Fault}
 use Rattle.livelock.specs.Runs.{row, doubling}
 use Rattle.livelock.proofs.Tests.{and_iff}
@@ -70,7 +70,7 @@ module _ (s : Kept) (t : ℕ) (held : message_held s.sizes s.contents t ≡ true
       (subst (Steps s (doubling t) (refused 29 0)) (kept s counts c) (steps_late_doubling s t held l))
 
   -- It was counted, and the message added.
-  pub doubling_taken : (contents counts : List ℕ) → CountedUpTo 2 1000000 (per_doubling_in s.sizes) s.counts counts (Ok tt) → Adds t s.contents contents
+  pub doubling_taken : (contents counts : List ℕ) → CountedUpTo 2 1000000 (per_doubling_in s.sizes) s.counts counts (Ok tt) → Adds (Some t) s.contents contents
       → Steps s (doubling t) (remaining (left_in counts)) (moved s s.states contents counts)
   doubling_taken contents counts (at_most l c h) adds = absurd (false≢true cc)
   doubling_taken contents counts (one_more l c h) adds =

@@ -2,8 +2,20 @@
 use Rattle.std.specs.Prelude.{◌≡◌, Bool, true, false, List, Result, Ok, Err, ℕ, ◌+◌, ◌-◌, ◌≤◌, ◌<◌, get_or}
 use Rattle.plant.specs.declared.Fault.{Fault}
 use Rattle.plant.specs.declared.Refusal.TheVariants as Refusals
-use Rattle.watched_runs.specs.Keeping.{left_in, progress_in, doublings_in}
+use Rattle.watched_runs.specs.Keeping.{per_progress_in, per_doubling_in, left_in, progress_in, doublings_in}
+use Rattle.watch_events.specs.declared.Counted.{Counted}
+use Rattle.watch_events.specs.declared.Counted.TheVariants as Sorts
 use Rattle.watched_runs.specs.Inner.Counts.{capped, CountsAre}
+
+-- The place of the count of a sort of events,
+abbrev pub place_of : Counted → ℕ
+place_of Sorts.ProgressRow = 1
+place_of Sorts.Doubling = 2
+
+-- and how much an event of it adds to what is left: G, or n × w.
+abbrev pub added_by : Counted → List ℕ → ℕ
+added_by Sorts.ProgressRow sizes = per_progress_in sizes
+added_by Sorts.Doubling sizes = per_doubling_in sizes
 
 -- One event more of the sort that is counted at `at`, and so much more that is left; the other count stays.
 pub record EventCounted (at more : ℕ) (before after : List ℕ) : Type 0 where

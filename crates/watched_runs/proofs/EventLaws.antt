@@ -1,7 +1,7 @@
 -- Laws of the last event of a list: what it leaves, what it counts, and how large contents grow.
 use mathlib.Core.Path.{◌≡◌, refl, ap}
 use mathlib.Core.Bool.{Bool, true, false, cond, not}
-use mathlib.Core.Option.{Option, none, some}
+use Rattle.std.specs.Prelude.{Option, None, Some}
 use mathlib.Core.List.{List, [], ◌∷◌, ◌++◌}
 use Prim.Native.Nat.{ℕ, ◌+◌, ◌-◌, ◌≤◌}
 use native.Mathlib.Decide.{ℕ_discrete}
@@ -41,16 +41,16 @@ module _ (P : Plant) where
 
   -- Removing adds nothing, and adding adds one at most.
   removed_most : (content : ℕ → ℕ) (o : Option ℕ) (t : ℕ) → removed content o t ≤ content t
-  removed_most content none t = omega arith
-  removed_most content (some u) t = go (ℕ_discrete t u)
+  removed_most content None t = omega arith
+  removed_most content (Some u) t = go (ℕ_discrete t u)
     where
       go : Dec (t ≡ u) → update content u (content u - 1) t ≤ content t
       go (yes e) = omega (arith, update_same content u (content u - 1) t e, ap content e)
       go (no n) = omega (arith, update_other content u (content u - 1) t n)
 
   added_most : (content : ℕ → ℕ) (o : Option ℕ) (t : ℕ) → added content o t ≤ content t + 1
-  added_most content none t = omega arith
-  added_most content (some u) t = go (ℕ_discrete t u)
+  added_most content None t = omega arith
+  added_most content (Some u) t = go (ℕ_discrete t u)
     where
       go : Dec (t ≡ u) → update content u (content u + 1) t ≤ content t + 1
       go (yes e) = omega (arith, update_same content u (content u + 1) t e, ap content e)
@@ -70,12 +70,12 @@ module _ (P : Plant) where
   one_most c (loss u) t = go (can_happen P c (loss u))
     where
       go : (b : Bool) → (cond b (changed P c (loss u)) c).content t ≤ c.content t + cond b 0 0 + cond b 0 0 + cond b 0 0
-      go true = omega (arith, removed_most c.content (some u) t)
+      go true = omega (arith, removed_most c.content (Some u) t)
       go false = omega arith
   one_most c (doubling u) t = go (can_happen P c (doubling u))
     where
       go : (b : Bool) → (cond b (changed P c (doubling u)) c).content t ≤ c.content t + cond b 0 0 + cond b 0 0 + cond b 1 0
-      go true = omega (arith, added_most c.content (some u) t)
+      go true = omega (arith, added_most c.content (Some u) t)
       go false = omega arith
 
   -- So contents stay within those of the opening, the rows and the doublings that happened, for every list of events.

@@ -5,25 +5,26 @@ use mathlib.Core.List.{List}
 use Prim.Native.Nat.{ℕ, ◌+◌, ◌-◌, ◌≤◌, ◌<◌}
 use native.Mathlib.Decide.{dec_lt}
 use native.Mathlib.Omega.{arith}
-use lib.ListN.{get_or}
+use lib.ListN.{length, get_or, get_or-eq_default}
+use Rattle.std.specs.Prelude.{Some}
+use Rattle.std.specs.Option.{ForSome}
 use lib.Dec.{ltb}
 use borrow.Author.Tests.{lt-ltb, ltb-true}
 use Rattle.livelock.specs.Plants.{Row, row_at, row_count, has_progress}
-use Rattle.livelock.specs.Runs.{Event, row, loss, doubling, removed, added, can_happen, changed, is_quiet_row, is_progress_row, is_doubling}
+use Rattle.livelock.specs.Runs.{Event, row, loss, doubling, can_happen, changed, is_quiet_row, is_progress_row, is_doubling}
 use Rattle.livelock.proofs.CycleWeights.{row_fits}
 use Rattle.livelock.proofs.Tests.{and_iff}
 use Rattle.plant.proofs.FileBounds.{within_limits}
 use Rattle.tables.specs.Tables.{row_in, row_of}
 use Rattle.tables.specs.declared.TableRow.{TableRow}
 use Rattle.tables.proofs.RowLaws.{row_progress}
-use Rattle.configurations.specs.Configurations.{content_in, Removes, Adds, RowCan, RowMoves}
-use Rattle.configurations.proofs.StoreLaws.{a_type}
+use Rattle.configurations.specs.Configurations.{Removes, Adds, RowCan, RowMoves}
 use Rattle.watched_runs.specs.Answers.{Answer, remaining, refused}
 use Rattle.watched_runs.specs.WatchedRuns.{WatchedRun, impossible}
 use Rattle.watched_runs.specs.Keeping.{Kept, rows_in, types_in, per_progress_in, per_doubling_in, left_in, progress_in, doublings_in, configuration_of, Holds}
 use Rattle.watched_runs.specs.Owed.{Stepped, Steps}
 use Rattle.watched_runs.specs.Inner.Counts.{capped, CountsAre, row_held, message_held}
-use Rattle.watched_runs.proofs.StepLaws.{moved, OnPlant, with_row_lem, with_type, few_rows, few_types, no_row, no_type_lost, no_type_doubled}
+use Rattle.watched_runs.proofs.StepLaws.{moved, OnPlant, OfType, loss_of, doubling_of, with_row_lem, with_type, few_rows, few_types, no_row, no_type}
 use Rattle.watched_runs.proofs.StepLaws.{room, progress_fits, doubling_fits, cannot_happen, late_row, late_doubling, some_left, accepted_step}
 
 -- Two tests that are true.
@@ -138,23 +139,17 @@ module _ (s : Kept) (k : ℕ) (l : k < rows_in s.sizes) where
 
 -- ---- a loss and a doubling
 
-module _ (s : Kept) (t : ℕ) (l : t < types_in s.sizes) (w : WatchedRun) (holds : Holds s w) where
-  abbrev on : OnPlant s w
-  on = with_type s w holds t l
+module _ (s : Kept) (t : ℕ) (e : Event) (of : OfType t e) where
+  module _ (l : t < types_in s.sizes) (w : WatchedRun) (holds : Holds s w) where
+    abbrev on : OnPlant s w
+    on = with_type s w holds t l
 
-  -- A loss and a doubling can happen exactly where a message of their type is there.
-  type_there : ltb t on.P.types ≡ true
-  type_there = lt-ltb t on.P.types (omega (arith, on.plant.types))
+    -- They can happen exactly where a message of their type is there.
+    there_is : (b : Bool) → ltb 0 (get_or s.contents t 0) ≡ b → can_happen on.P (configuration_of s) e ≡ b
+    there_is b h =
+        of.test on.P (configuration_of s)
+        ∙ (ap (λ (x : Bool). x && ltb 0 (get_or s.contents t 0)) (lt-ltb t on.P.types (omega (arith, on.plant.types))) ∙ h)
 
-  can_lose : (b : Bool) → ltb 0 (get_or s.contents t 0) ≡ b → can_happen on.P (configuration_of s) (loss t) ≡ b
-  unfolding can_happen
-  can_lose b h = ap (λ (x : Bool). x && ltb 0 (get_or s.contents t 0)) type_there ∙ h
-
-  can_double : (b : Bool) → ltb 0 (get_or s.contents t 0) ≡ b → can_happen on.P (configuration_of s) (doubling t) ≡ b
-  unfolding can_happen
-  can_double b h = ap (λ (x : Bool). x && ltb 0 (get_or s.contents t 0)) type_there ∙ h
-
-module _ (s : Kept) (t : ℕ) where
   -- The lists have no such type, or no message of it: no plant has more than 64 types.
   module _ (h : message_held s.sizes s.contents t ≡ false) where
     none : (w : WatchedRun) (holds : Holds s w) → t < types_in s.sizes → ltb 0 (get_or s.contents t 0) ≡ false
@@ -163,25 +158,18 @@ module _ (s : Kept) (t : ℕ) where
         sym (ap (λ (b : Bool). b && (ltb t 64 && ltb 0 (get_or s.contents t 0))) (lt-ltb t (types_in s.sizes) l)
         ∙ ap (λ (b : Bool). b && ltb 0 (get_or s.contents t 0)) (lt-ltb t 64 few)) ∙ h
 
-    absent : (w : WatchedRun) (holds : Holds s w) (e : Event) → impossible e ≡ 28
-        → (types_in s.sizes ≤ t → Stepped w e (refused 28 0) s)
-        → ((l : t < types_in s.sizes) → can_happen (with_type s w holds t l).P (configuration_of s) e ≡ false)
-        → Dec (t < types_in s.sizes) → Stepped w e (refused 28 0) s
-    absent w holds e i unknown cannot (no n) = unknown (omega (arith, n))
-    absent w holds e i unknown cannot (yes l) =
-        subst (λ (x : ℕ). Stepped w e (refused x 0) s) i (cannot_happen s w holds (with_type s w holds t l) e (cannot l))
+    absent : (w : WatchedRun) (holds : Holds s w) → Dec (t < types_in s.sizes) → Stepped w e (refused (impossible e) 0) s
+    absent w holds (no n) = no_type s w holds t e of (omega (arith, n))
+    absent w holds (yes l) = cannot_happen s w holds (with_type s w holds t l) e (there_is l w holds false (none w holds l))
 
-    pub steps_none_lost : Steps s (loss t) (refused 28 0) s
-    steps_none_lost =
-        refuses s (loss t) 28
-        (λ w holds.
-        absent w holds (loss t) refl (no_type_lost s w holds t) (λ l. can_lose s t l w holds false (none w holds l)) (dec_lt t (types_in s.sizes)))
+    steps_none : Steps s e (refused (impossible e) 0) s
+    steps_none = refuses s e (impossible e) (λ w holds. absent w holds (dec_lt t (types_in s.sizes)))
 
-    pub steps_none_doubled : Steps s (doubling t) (refused 28 0) s
-    steps_none_doubled =
-        refuses s (doubling t) 28
-        (λ w holds.
-        absent w holds (doubling t) refl (no_type_doubled s w holds t) (λ l. can_double s t l w holds false (none w holds l)) (dec_lt t (types_in s.sizes)))
+pub steps_none_lost : (s : Kept) (t : ℕ) → message_held s.sizes s.contents t ≡ false → Steps s (loss t) (refused 28 0) s
+steps_none_lost s t h = steps_none s t (loss t) (loss_of t) h
+
+pub steps_none_doubled : (s : Kept) (t : ℕ) → message_held s.sizes s.contents t ≡ false → Steps s (doubling t) (refused 28 0) s
+steps_none_doubled s t h = steps_none s t (doubling t) (doubling_of t) h
 
 -- A message is there:
 module _ (s : Kept) (t : ℕ) (held : message_held s.sizes s.contents t ≡ true) where
@@ -194,34 +182,45 @@ module _ (s : Kept) (t : ℕ) (held : message_held s.sizes s.contents t ≡ true
   abbrev known : t < types_in s.sizes
   known = parts.0
 
+  abbrev plant_on : (w : WatchedRun) (holds : Holds s w) → OnPlant s w
+  plant_on w holds = with_type s w holds t known
+
   one : ltb 0 (get_or s.contents t 0) ≡ true
   one = lt-ltb 0 (get_or s.contents t 0) parts.2
 
+  -- Its type has a place among the contents, which are zero behind the last:
+  has_place : ForSome (Some t) (λ u. u < length s.contents)
+  has_place u is = let e : t ≡ u = cc in subst (λ (v : ℕ). v < length s.contents) e (go (dec_lt t (length s.contents)))
+    where
+      go : Dec (t < length s.contents) → t < length s.contents
+      go (yes l) = l
+      go (no n) = let k : length s.contents ≤ t = omega (arith, n) in absurd (omega (arith, parts.2, get_or-eq_default s.contents 0 {n = t} k))
+
   -- a loss leaves the counts,
-  pub steps_lost : (contents : List ℕ) → Removes t s.contents contents → Steps s (loss t) (remaining (left_in s.counts)) (moved s s.states contents s.counts)
+  pub steps_lost : (contents : List ℕ) → Removes (Some t) s.contents contents → Steps s (loss t) (remaining (left_in s.counts)) (moved s s.states contents s.counts)
   unfolding changed is_quiet_row is_progress_row is_doubling
   steps_lost contents r =
       remains s (moved s s.states contents s.counts) (loss t) (left_in s.counts)
       (λ w holds.
-      accepted_step s w holds (on s t known w holds) (loss t) (can_lose s t known w holds true one) false false false refl refl refl
+      accepted_step s w holds (plant_on w holds) (loss t) (there_is s t (loss t) (loss_of t) known w holds true one) false false false refl refl refl
       (λ x. absurd (false≢true x)) (λ x. absurd (false≢true x)) s.states contents s.counts
-      (λ i. record { state = λ m. get_or s.states m 0; content = (r.removes ∙ ap (removed (content_in s.contents)) (a_type t parts.1)) i })
+      (λ i. record { state = λ m. get_or s.states m 0; content = r.removes i })
       (omega arith) (omega arith) (omega arith))
 
   -- and a doubling is one too many or adds n × w.
   pub steps_late_doubling : 1000000 ≤ doublings_in s.counts → Steps s (doubling t) (refused 29 0) s
-  steps_late_doubling n = refuses s (doubling t) 29 (λ w holds. late_doubling s w holds (on s t known w holds) t (can_double s t known w holds true one) n)
+  steps_late_doubling n = refuses s (doubling t) 29 (λ w holds. late_doubling s w holds (plant_on w holds) t (there_is s t (doubling t) (doubling_of t) known w holds true one) n)
 
-  pub steps_doubled : (contents counts : List ℕ) → Adds t s.contents contents → doublings_in s.counts < 1000000
+  pub steps_doubled : (contents counts : List ℕ) → Adds (Some t) s.contents contents → doublings_in s.counts < 1000000
       → CountsAre (capped (left_in s.counts + per_doubling_in s.sizes)) (progress_in s.counts) (doublings_in s.counts + 1) counts
       → Steps s (doubling t) (remaining (left_in counts)) (moved s s.states contents counts)
   unfolding changed is_quiet_row is_progress_row is_doubling
   steps_doubled contents counts a n c =
       remains s (moved s s.states contents counts) (doubling t) (left_in counts)
       (λ w holds.
-      accepted_step s w holds (on s t known w holds) (doubling t) (can_double s t known w holds true one) false false true refl refl refl
+      accepted_step s w holds (plant_on w holds) (doubling t) (there_is s t (doubling t) (doubling_of t) known w holds true one) false false true refl refl refl
       (λ x. absurd (false≢true x)) (λ x. n) s.states contents counts
-      (λ i. record { state = λ m. get_or s.states m 0; content = (a.adds (room s w holds (on s t known w holds)) ∙ ap (added (content_in s.contents)) (a_type t parts.1)) i })
-      (omega (arith, c.left_is, doubling_fits s w holds (on s t known w holds)))
+      (λ i. record { state = λ m. get_or s.states m 0; content = a.adds (room s w holds (plant_on w holds)) has_place i })
+      (omega (arith, c.left_is, doubling_fits s w holds (plant_on w holds)))
       (omega (arith, c.progress_is))
       (omega (arith, c.doublings_is)))

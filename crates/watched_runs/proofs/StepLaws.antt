@@ -9,7 +9,7 @@ use lib.Dec.{leb}
 use borrow.Author.Tests.{le-ltb, le-leb, lt-leb}
 use Rattle.livelock.specs.Lists.{count}
 use Rattle.livelock.specs.Plants.{Plant, row_count}
-use Rattle.livelock.specs.Runs.{Configuration, Event, row, loss, doubling, can_happen, changed, run, is_quiet_row, is_progress_row, is_doubling}
+use Rattle.livelock.specs.Runs.{Configuration, Event, row, loss, doubling, type_present, can_happen, changed, run, is_quiet_row, is_progress_row, is_doubling}
 use Rattle.livelock.specs.Figures.{per_progress, per_doubling}
 use Rattle.plant.specs.Found.{Found, found, fault}
 use Rattle.plant.specs.Reading.{read_plant}
@@ -52,6 +52,18 @@ pub record OnPlant (s : Kept) (w : WatchedRun) : Type 0 where
   pub run : HoldsRun s w P
   pub limited : Limited w P
 
+-- An event of a message of type t, a loss or a doubling: it can happen where that type is present.
+pub record OfType (t : ℕ) (e : Event) : Type 0 where
+  pub test : (P : Plant) (c : Configuration) → can_happen P c e ≡ type_present P c t
+
+pub loss_of : (t : ℕ) → OfType t (loss t)
+unfolding can_happen
+loss_of t = record { test = λ P c. refl }
+
+pub doubling_of : (t : ℕ) → OfType t (doubling t)
+unfolding can_happen
+doubling_of t = record { test = λ P c. refl }
+
 module _ (s : Kept) (w : WatchedRun) (holds : Holds s w) where
   -- ---- refusals
 
@@ -85,22 +97,15 @@ module _ (s : Kept) (w : WatchedRun) (holds : Holds s w) where
   pub no_row : (k : ℕ) → rows_in s.sizes ≤ k → Stepped w (row k) (refused 27 0) s
   no_row k h = refused_step (row k) 27 (row_behind (read_plant w.file) k refl holds.inside h)
 
-  -- and a type behind the last with 28.
-  type_behind : (x : Found Plant) (t : ℕ) → read_plant w.file ≡ x → Inside s w x → types_in s.sizes ≤ t
-      → (judged w (loss t) ≡ fault 28 0) × (judged w (doubling t) ≡ fault 28 0)
-  unfolding judged_in can_happen
-  type_behind (fault number place) t e inside h = (ap (judged_in w (loss t)) e, ap (judged_in w (doubling t)) e)
-  type_behind (found P end) t e (a_plant plant run limited) h =
-      let l : P.types ≤ t = omega (arith, plant.types) in (
-        ap (judged_in w (loss t)) e ∙ simp (le-ltb t P.types l),
-        ap (judged_in w (doubling t)) e ∙ simp (le-ltb t P.types l),
-      )
+  -- and an event of a message whose type is behind the last with 28.
+  type_behind : (x : Found Plant) (t : ℕ) (e : Event) → OfType t e → read_plant w.file ≡ x → Inside s w x → types_in s.sizes ≤ t → judged w e ≡ fault (impossible e) 0
+  unfolding judged_in
+  type_behind (fault number place) t e of reads inside h = ap (judged_in w e) reads
+  type_behind (found P end) t e of reads (a_plant plant run limited) h =
+      let l : P.types ≤ t = omega (arith, plant.types) in ap (judged_in w e) reads ∙ simp (of.test P (reached P w), le-ltb t P.types l)
 
-  pub no_type_lost : (t : ℕ) → types_in s.sizes ≤ t → Stepped w (loss t) (refused 28 0) s
-  no_type_lost t h = refused_step (loss t) 28 (type_behind (read_plant w.file) t refl holds.inside h).0
-
-  pub no_type_doubled : (t : ℕ) → types_in s.sizes ≤ t → Stepped w (doubling t) (refused 28 0) s
-  no_type_doubled t h = refused_step (doubling t) 28 (type_behind (read_plant w.file) t refl holds.inside h).1
+  pub no_type : (t : ℕ) (e : Event) → OfType t e → types_in s.sizes ≤ t → Stepped w e (refused (impossible e) 0) s
+  no_type t e of h = refused_step e (impossible e) (type_behind (read_plant w.file) t e of refl holds.inside h)
 
   module _ (o : OnPlant s w) where
     abbrev P : Plant

@@ -2,10 +2,12 @@
 use mathlib.Core.Path.{◌≡◌, refl, sym, ap, ◌∙◌, subst}
 use mathlib.Core.Bool.{false≢true}
 use mathlib.Core.List.{List, [], ◌∷◌}
-use Prim.Native.Nat.{ℕ, ◌≤◌, ◌<◌}
+use Prim.Native.Nat.{ℕ, zero, suc, ◌+◌, ◌≤◌, ◌<◌}
 use native.Mathlib.Nat.{mul-le-mul}
-use native.Mathlib.Decide.{dec_lt}
+use native.Mathlib.Decide.{ℕ_discrete, dec_lt}
 use native.Mathlib.Omega.{arith}
+use denote.Param.Members.{Mut, Called}
+use Rattle.std.specs.Array.{IsFromFnResultFrom}
 use lib.ListN.{length, get_or, take, get_or-eq_default}
 use Rattle.livelock.specs.Lists.{sum}
 use Rattle.livelock.specs.Plants.{Plant}
@@ -36,13 +38,28 @@ use Rattle.watched_runs.specs.WatchedRuns.{stopped, opened_on, unopened, ceiling
 use Rattle.watched_runs.specs.Keeping.{Kept, HoldsPlant, HoldsRun, Limited, Inside, no_plant, a_plant, Holds}
 use Rattle.watched_runs.specs.Owed.{blank, Opens}
 use Rattle.watched_runs.proofs.WholeListLaws.{empty_reads, reads_plant}
-use Rattle.watchers.specs.Inner.Openings.{Widened, FiguresFor, Tabled, Begun}
+use Rattle.watchers.specs.Inner.Openings.{Widened, Passing, FiguresFor, Readable, Tabled, Begun}
 
 -- ---- contents in 64 bits
 
--- Nothing is stored yet.
-pub widened_start : (xs wide : List ℕ) → ((t : ℕ) → get_or wide t 0 ≡ 0) → Widened xs wide 0
-widened_start xs wide h = record { front = λ t l. absurd (omega arith); behind = λ t l. h t }
+-- An array of n numbers from index i on that calls made, each of which gives the value of v at its index and leaves the closure as it was.
+pub made_at : {F : Type 0} (g : Mut F (ℕ × Unit {0}) ℕ) (v : ℕ → ℕ) (f : F) → ((k y : ℕ) (q : F) → Called g f (k, tt) y q → (y ≡ v k) × (q ≡ f))
+    → (ys : List ℕ) (i n : ℕ) → IsFromFnResultFrom g f ys i n → (t : ℕ) → i ≤ t → t < i + n → get_or ys t 0 ≡ v t
+made_at g v f step ys i zero h t low high = absurd (omega arith)
+made_at g v f step ys i (suc n) (q, y, is, call, rest) t low high =
+    go (ℕ_discrete t i) (made_at g v f step ys (i + 1) n (subst (λ p. IsFromFnResultFrom g p ys (i + 1) n) (step i y q call).1 rest) t)
+  where
+    go : Dec (t ≡ i) → (i + 1 ≤ t → t < i + 1 + n → get_or ys t 0 ≡ v t) → get_or ys t 0 ≡ v t
+    go (yes e) more = rw e (is.1 0 ∙ (step i y q call).0)
+    go (no e) more = more (omega arith) (omega arith)
+
+-- As many numbers as there are types: those of a list that is no longer, and zeros behind them.
+pub widened_by : (xs wide : List ℕ) → length xs ≤ 64 → length wide ≡ 64 → ((t : ℕ) → t < 64 → get_or wide t 0 ≡ get_or xs t 0) → Widened xs wide (length xs)
+widened_by xs wide few long each = record { front = λ t l. each t (omega arith); behind = λ t l. go t l (dec_lt t 64) }
+  where
+    go : (t : ℕ) → length xs ≤ t → Dec (t < 64) → get_or wide t 0 ≡ 0
+    go t l (yes h) = each t h ∙ get_or-eq_default xs 0 l
+    go t l (no n) = get_or-eq_default wide 0 {n = t} (omega arith)
 
 -- The two lists say the same of every type.
 wide_is : (xs wide : List ℕ) → Widened xs wide (length xs) → (t : ℕ) → get_or wide t 0 ≡ get_or xs t 0
@@ -114,9 +131,12 @@ module _ (file ws contents : List ℕ) (figure class : ℕ)
       let a = contents_good contents (0 ∷ 0 ∷ []) x.0 P x.1 quotable.1 x.3 in
       (x.1, subst (λ (Q : Plant). judged_weights file ws ≡ found Q x.1) a.same x.2, a.one_each ∙ ap (λ (Q : Plant). Q.types) a.same)
 
-  -- What copying asks for.
-  pub lengths : (length file ≤ 8192) × (length contents ≤ 64)
-  lengths = (omega (arith, longest_file_lem file P reading.0 reading.1), omega (arith, checked.2, within.limits.few_types))
+  -- What the figures and the lists ask for.
+  pub passing : Passing file ws
+  passing = (P, checked.0, checked.1, quotable.3)
+
+  pub lengths : (length file ≤ 8192) × (length contents ≤ 64) × Readable file
+  lengths = (omega (arith, longest_file_lem file P reading.0 reading.1), omega (arith, checked.2, within.limits.few_types), (P, reading.0, reading.1))
 
   -- No ceiling that can come is above the largest.
   largest : ceiling_from P ws (stopped contents) 1000000 1000000 ≤ Quoting.largest_ceiling

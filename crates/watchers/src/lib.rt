@@ -5,26 +5,26 @@ ghost use Rattle.std.specs.Prelude.{◌≡◌, ◌≤◌, length, take};
 ghost use Rattle.watched_runs.specs.Answers.{answer_of};
 ghost use Rattle.watched_runs.specs.Owed.{blank, Opens};
 ghost use Rattle.watchers.specs.Watchers.{kept_in};
-ghost use Rattle.watchers.specs.Inner.Openings.{Widened, FiguresFor, Begun};
+ghost use Rattle.watchers.specs.Inner.Openings.{Widened, Passing, FiguresFor, Readable, Begun};
 
 use figures::Figures;
 use plant::Fault;
+use std::array;
 
 // What a watcher keeps: a copy of the file, and the table of its rows; the sizes, which are the file's length, the counts of rows and of types, G and
 // n × w; the states and the contents; and the counts, which are the quiet rows left, the progress rows so far and the doublings so far.
-#[derive(Drop)]
+#[derive(Debug, PartialEq, Eq, Drop)]
 pub struct Watcher {
-    pub copy: [u8; 8192],
-    pub table: [u8; 8192],
+    pub copy: [u8; tables::LONGEST],
+    pub table: [u8; tables::LONGEST],
     pub sizes: [u64; 5],
     pub states: [u8; 16],
     pub contents: [u64; 64],
     pub counts: [u64; 3],
 }
 
-// A watcher, and the answer of the call that handed it back: how many quiet rows are left. A refusal comes with a watcher too, so this is no plain
-// Result: a refused opening's is of zeros alone, and a refused event's is as it was.
-#[derive(Drop)]
+// What opening hands back: a watcher, and how many quiet rows are left. A refusal comes with a watcher too, of zeros alone, so this is no plain Result.
+#[derive(Debug, PartialEq, Eq, Drop)]
 pub struct Opened {
     pub watcher: Watcher,
     pub answer: Result<u64, Fault>,
@@ -35,8 +35,8 @@ fn unopened() -> Watcher
     ensures { kept_in result ≡ blank }
 {
     Watcher {
-        copy: [0; 8192],
-        table: [0; 8192],
+        copy: [0; tables::LONGEST],
+        table: [0; tables::LONGEST],
         sizes: [0; 5],
         states: [0; 16],
         contents: [0; 64],
@@ -45,11 +45,11 @@ fn unopened() -> Watcher
 }
 
 // A file's bytes, and zeros behind them.
-fn copy_of(file: &[u8]) -> [u8; 8192]
+fn copy_of(file: &[u8]) -> [u8; tables::LONGEST]
     requires { length file.now ≤ 8192 }
     ensures { take (length file.now) result ≡ file.now }
 {
-    let mut copy = [0; 8192];
+    let mut copy = [0; tables::LONGEST];
     copy[..file.len()].copy_from_slice(file);
     copy
 }
@@ -59,40 +59,31 @@ fn widened(contents: &[u32]) -> [u64; 64]
     requires { length contents.now ≤ 64 }
     ensures { Widened contents.now result (length contents.now) }
 {
-    let mut all = [0; 64];
-    for (t, content) in contents.iter().enumerate() {
-        all[t] = u64::from(*content);
-    }
-    all
+    array::from_fn(|t| contents.get(t).map_or(0, |content| u64::from(*content)))
 }
 
-// The figures of weights that pass; of others zeros.
+// The figures of weights that pass.
 fn figures_for(file: &[u8], weights: &[u16]) -> Figures
+    requires { Passing file.now weights.now }
     ensures { FiguresFor file.now weights.now result }
 {
-    match weighing::judge(file, weights) {
-        Ok(Some(figures)) => figures,
-        _ => Figures::default(),
-    }
+    weighing::judge(file, weights).unwrap().unwrap()
 }
 
 // A watcher that has just opened, with the ceiling and the figures of its weights.
 fn begun(file: &[u8], contents: &[u32], ceiling: u64, figures: Figures) -> Watcher
-    requires { (length file.now ≤ 8192) × (length contents.now ≤ 64) }
+    requires { (length file.now ≤ 8192) × (length contents.now ≤ 64) × Readable file.now }
     ensures { Begun file.now contents.now ceiling figures (kept_in result) }
 {
-    let mut table = [0; 8192];
-    let (rows, types) = match decoding::decode(file, &mut table) {
-        Ok(shape) => (shape.rows as u64, u64::from(shape.types)),
-        Err(_) => (0, 0),
-    };
+    let mut table = [0; tables::LONGEST];
+    let shape = decoding::decode(file, &mut table).unwrap();
     Watcher {
         copy: copy_of(file),
         table,
         sizes: [
             file.len() as u64,
-            rows,
-            types,
+            shape.rows as u64,
+            u64::from(shape.types),
             figures.per_progress,
             figures.per_doubling,
         ],

@@ -3,14 +3,14 @@ use mathlib.Core.Path.{◌≡◌, refl, sym, ap, ◌∙◌, subst}
 use mathlib.Core.Logic.{◌↔◌, ◌⊎◌, inl, inr}
 use mathlib.Core.Bool.{Bool, true, false, false≢true}
 use mathlib.Core.List.{List, ◌++◌}
-use Prim.Native.Nat.{ℕ, ◌≤◌, ◌<◌}
+use Prim.Native.Nat.{ℕ, ◌≤◌}
 use native.Mathlib.Omega.{arith}
-use lib.ListN.{length, take, drop}
+use lib.ListN.{length, drop}
 use Rattle.edge_lists.specs.declared.Edge.{Edge}
 use Rattle.machines.specs.declared.Failing.{Failing}
 use Rattle.livelock.specs.Plants.{Plant, WellFormed}
 use Rattle.livelock.specs.Weights.{Passes, FailingCycle}
-use Rattle.livelock.specs.Figures.{most_states, figures_of}
+use Rattle.livelock.specs.Figures.{figures_of}
 use Rattle.livelock.specs.Figures as Theory
 use Rattle.livelock.proofs.QuietGraphs.{cycle_machine}
 use Rattle.livelock.proofs.Decision.{decision, not_both, fewest_as_many}
@@ -19,11 +19,11 @@ use Rattle.plant.specs.Found.{Found, found, fault, and_then}
 use Rattle.plant.specs.Reading.{read_plant}
 use Rattle.decoding.specs.Tables.{plant_of, Ready}
 use Rattle.std.specs.Prelude.{Option, Some, None, Result, Ok, Err}
-use Rattle.plant.specs.Refusals.{number_of}
 use Rattle.plant.specs.declared.Fault.{Fault}
 use Rattle.decoding.specs.declared.Shape.{Shape}
 use Rattle.plant.proofs.OneToOne.{same_fault}
-use Rattle.weight_checks.specs.Checks.{checked_weights, judged_weights, checked_room, judged, check_found, WeightsChecked, WeighingChecked}
+use Rattle.plant.specs.Checks.{check_found}
+use Rattle.weight_checks.specs.Checks.{checked_weights, judged_weights, checked_room, judged, WeightsChecked, WeighingChecked}
 use Rattle.weight_checks.proofs.CheckLaws.{none_above, judged_weights_lem, judged_good, judged_limits}
 use Rattle.weighing.specs.Answers.{Answer, passed, cycle, refused, answer_of, HasFigures, Judgement, judgement_of}
 use Rattle.weighing.specs.Answers as Answers
@@ -31,7 +31,7 @@ use Rattle.weighing.specs.Weighing.{OnPassing, OnFailing, Owed, for_fault, for_p
 use Rattle.machines.specs.Machines.{Weighable, FirstFailing}
 use Rattle.machines.proofs.TurnLaws.{machines_are, one_fails}
 use Rattle.weighing.specs.Inner.Judging.{OwedTable, OwedTableVerdict}
-use Rattle.figures.specs.FigureSums.{figures_in, FiguresOf}
+use Rattle.figures.specs.FigureSums.{figures_in}
 use Rattle.shortest_cycles.specs.ShortestCycles.{ShownShortest}
 use Rattle.figures.specs.declared.Figures.{Figures}
 use Rattle.weighing.specs.declared.Weighed.{Weighed}
@@ -41,15 +41,8 @@ use Rattle.figures.proofs.FigureLaws.{same_figures}
 -- ---- the machines of a table
 
 module _ (s : Shape) (table ws : List ℕ) (ok : Weighable s table ws) where
-  module _ (f : Figures) (figures : FiguresOf (take s.machines s.states) ws f) where
-    -- The figures f are the plant's,
-    figures_are : figures_in f ≡ figures_of (plant_of s table) ws
-    figures_are = figures (plant_of s table) refl (sym ok.one_each)
-
-    -- and so is n among them.
-    pub most_is : f.most_states ≡ most_states (plant_of s table)
-    most_is = ap (λ (x : Theory.Figures). x.most_states) figures_are
-
+  -- The figures f are the plant's.
+  module _ (f : Figures) (figures_are : figures_in f ≡ figures_of (plant_of s table) ws) where
     -- Where the weights pass, the bound holds; the verdict with these figures is owed,
     pub passing_verdict : Passes (plant_of s table) ws → OwedTableVerdict s table ws (Answers.passing (figures_in f))
     passing_verdict p end =
@@ -211,10 +204,7 @@ one_to_one (Ok (Variants.Cycle k)) (Ok (Variants.Cycle k')) e = cc
 one_to_one (Ok (Variants.Cycle k)) (Err g) e = cc
 one_to_one (Err f) (Ok (Variants.Passed g)) e = cc
 one_to_one (Err f) (Ok (Variants.Cycle k')) e = cc
-one_to_one (Err f) (Err g) e =
-    let n : number_of f.refusal ≡ number_of g.refusal = cc in
-    let q : f.place ≡ g.place = cc in
-    ap Err (same_fault f g n q)
+one_to_one (Err f) (Err g) e = ap Err (same_fault f g (cc) (cc))
 
 -- ---- what a verdict says
 
@@ -283,7 +273,4 @@ verdicts_differ (Ok None) (Ok None) e = refl
 verdicts_differ (Ok None) (Err g) e = cc
 verdicts_differ (Err f) (Ok (Some g)) e = cc
 verdicts_differ (Err f) (Ok None) e = cc
-verdicts_differ (Err f) (Err g) e =
-    let n : number_of f.refusal ≡ number_of g.refusal = cc in
-    let q : f.place ≡ g.place = cc in
-    ap Err (same_fault f g n q)
+verdicts_differ (Err f) (Err g) e = ap Err (same_fault f g (cc) (cc))

@@ -1,3 +1,4 @@
 -- Laws of the checks.
 pub mod BasicExamples
 pub mod CheckLaws
+pub mod WalkLaws

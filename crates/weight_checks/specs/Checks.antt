@@ -1,9 +1,9 @@
 -- How the input of weighing is judged (document 01, "Where each fault is found", 9 to 11), and what the functions that check it give.
-use Rattle.std.specs.Prelude.{◌≡◌, cond, List, [], ◌∷◌, ℕ, suc, ◌≤◌, ◌<◌, length, eqb, ltb, Option, MatchOption, Result, Ok, Err}
+use Rattle.std.specs.Prelude.{◌≡◌, cond, List, [], ◌∷◌, ℕ, suc, ◌≤◌, ◌<◌, length, eqb, ltb, Option, MatchOption, Result}
 use Rattle.livelock.specs.Plants.{Plant}
 use Rattle.plant.specs.Found.{Found, found, fault, and_then}
 use Rattle.plant.specs.Reading.{read_plant}
-use Rattle.plant.specs.Steps.{fault_found}
+use Rattle.plant.specs.Checks.{check_found}
 use Rattle.plant.specs.declared.Fault.{Fault}
 
 -- The index of the first number above a limit, or the length if none is.
@@ -34,11 +34,6 @@ checked_room room P end = cond (ltb room 64) (fault 11 0) (found P end)
 -- "weighing checks 9, 10, 11": the plant to weigh, or the fault.
 abbrev pub judged : List ℕ → List ℕ → ℕ → Found Plant
 judged file ws room = and_then (judged_weights file ws) (checked_room room)
-
--- What a check says of a plant.
-abbrev pub check_found : Result (Unit {0}) Fault → Plant → ℕ → Found Plant
-check_found (Ok u) P end = found P end
-check_found (Err f) P end = fault_found f
 
 -- For every plant with so many types, wherever reading ended: the checks 9 and 10.
 abbrev pub WeightsChecked : ℕ → List ℕ → Result (Unit {0}) Fault → Type 0

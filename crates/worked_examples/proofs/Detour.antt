@@ -1,7 +1,7 @@
 -- The plant with a detour: a longer cycle comes first, and the shortest is shown.
 use mathlib.Core.Path.{◌≡◌, refl}
 use mathlib.Core.Bool.{true, false}
-use mathlib.Core.Option.{none, some}
+use Rattle.std.specs.Prelude.{None, Some}
 use mathlib.Core.List.{[], ◌∷◌}
 use native.Mathlib.Nat.{le_refl}
 use lib.IntN.{pos}
@@ -26,20 +26,20 @@ with_detour =
       types = 2;
       states = 2 ∷ 2 ∷ 5 ∷ 4 ∷ [];
       rows =
-          row_with 0 0 1 (some 0) none false
-          ∷ row_with 0 1 0 none (some 1) true
-          ∷ row_with 1 0 1 none (some 0) false
-          ∷ row_with 1 1 0 (some 1) none false
-          ∷ row_with 2 0 1 none none false
-          ∷ row_with 2 1 2 none none false
-          ∷ row_with 2 2 3 none none false
-          ∷ row_with 2 3 4 none none false
-          ∷ row_with 2 4 0 none none false
-          ∷ row_with 3 0 1 none none false
-          ∷ row_with 3 1 2 none none false
-          ∷ row_with 3 2 3 none none false
-          ∷ row_with 3 3 0 none none false
-          ∷ row_with 3 1 0 none none false
+          row_with 0 0 1 (Some 0) None false
+          ∷ row_with 0 1 0 None (Some 1) true
+          ∷ row_with 1 0 1 None (Some 0) false
+          ∷ row_with 1 1 0 (Some 1) None false
+          ∷ row_with 2 0 1 None None false
+          ∷ row_with 2 1 2 None None false
+          ∷ row_with 2 2 3 None None false
+          ∷ row_with 2 3 4 None None false
+          ∷ row_with 2 4 0 None None false
+          ∷ row_with 3 0 1 None None false
+          ∷ row_with 3 1 2 None None false
+          ∷ row_with 3 2 3 None None false
+          ∷ row_with 3 3 0 None None false
+          ∷ row_with 3 1 0 None None false
           ∷ [];
     }
 

@@ -1,7 +1,7 @@
 -- The plants that the files of the starred examples read as, and which weights pass in them.
 use mathlib.Core.Path.{◌≡◌, refl}
 use mathlib.Core.Bool.{Bool, true, false}
-use mathlib.Core.Option.{none}
+use Rattle.std.specs.Prelude.{None}
 use mathlib.Core.List.{List, [], ◌∷◌}
 use Prim.Native.Nat.{ℕ}
 use lib.Dec.{lit<}
@@ -31,7 +31,7 @@ row_plant mark =
     record {
       types = 0;
       states = 1 ∷ [];
-      rows = row_with 0 0 0 none none mark ∷ [];
+      rows = row_with 0 0 0 None None mark ∷ [];
     }
 
 -- ---- reading

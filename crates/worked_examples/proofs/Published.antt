@@ -1,7 +1,7 @@
 -- The published test's running example, and its answers.
 use mathlib.Core.Path.{◌≡◌, refl, sym}
 use mathlib.Core.Bool.{true, false}
-use mathlib.Core.Option.{none, some}
+use Rattle.std.specs.Prelude.{None, Some}
 use mathlib.Core.List.{List, [], ◌∷◌, ◌++◌}
 use Prim.Native.Nat.{ℕ}
 use native.Mathlib.Nat.{le_refl}
@@ -30,14 +30,14 @@ use Rattle.worked_examples.proofs.AnswerLaws.{figures_owed}
 -- The rows of the clients, machines 0 and 1. Types 0 to 2 are client 0's request, acknowledgement and release, types 3 to 5 are client 1's.
 unfoldable client_rows : List Row
 client_rows =
-    row_with 0 0 1 (some 0) none false
-    ∷ row_with 0 1 2 none (some 1) false
-    ∷ row_with 0 2 3 none none true
-    ∷ row_with 0 3 0 (some 2) none false
-    ∷ row_with 1 0 1 (some 3) none false
-    ∷ row_with 1 1 2 none (some 4) false
-    ∷ row_with 1 2 3 none none false
-    ∷ row_with 1 3 0 (some 5) none false
+    row_with 0 0 1 (Some 0) None false
+    ∷ row_with 0 1 2 None (Some 1) false
+    ∷ row_with 0 2 3 None None true
+    ∷ row_with 0 3 0 (Some 2) None false
+    ∷ row_with 1 0 1 (Some 3) None false
+    ∷ row_with 1 1 2 None (Some 4) false
+    ∷ row_with 1 2 3 None None false
+    ∷ row_with 1 3 0 (Some 5) None false
     ∷ []
 
 -- The plant with a server of so many states and these rows, machine 2.
@@ -48,24 +48,24 @@ served states server = record { types = 6; states = 4 ∷ 4 ∷ states ∷ []; r
 unfoldable choosing : Plant
 choosing =
     served 5
-    (row_with 2 0 1 none (some 0) false
-    ∷ row_with 2 1 2 (some 1) none false
-    ∷ row_with 2 2 0 none (some 2) false
-    ∷ row_with 2 0 3 none (some 3) false
-    ∷ row_with 2 3 4 (some 4) none false
-    ∷ row_with 2 4 0 none (some 5) false
+    (row_with 2 0 1 None (Some 0) false
+    ∷ row_with 2 1 2 (Some 1) None false
+    ∷ row_with 2 2 0 None (Some 2) false
+    ∷ row_with 2 0 3 None (Some 3) false
+    ∷ row_with 2 3 4 (Some 4) None false
+    ∷ row_with 2 4 0 None (Some 5) false
     ∷ [])
 
 -- The server that serves the clients in turn.
 unfoldable in_turn : Plant
 in_turn =
     served 6
-    (row_with 2 0 1 none (some 0) false
-    ∷ row_with 2 1 2 (some 1) none false
-    ∷ row_with 2 2 3 none (some 2) false
-    ∷ row_with 2 3 4 none (some 3) false
-    ∷ row_with 2 4 5 (some 4) none false
-    ∷ row_with 2 5 0 none (some 5) false
+    (row_with 2 0 1 None (Some 0) false
+    ∷ row_with 2 1 2 (Some 1) None false
+    ∷ row_with 2 2 3 None (Some 2) false
+    ∷ row_with 2 3 4 None (Some 3) false
+    ∷ row_with 2 4 5 (Some 4) None false
+    ∷ row_with 2 5 0 None (Some 5) false
     ∷ [])
 
 reads_choosing : read_plant two_clients_file ≡ found choosing 59

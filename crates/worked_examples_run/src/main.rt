@@ -7,7 +7,6 @@ use printing::{Cycle, Entries};
 use std::fmt::Display;
 use weighing::Weighed;
 
-mod plants;
 mod printing;
 
 fn read(rt: &impl Print, title: &str, file: &[u8]) {
@@ -42,7 +41,7 @@ fn weigh_two(rt: &impl Print, name: &str, file: &[u8], first: u16, second: u16) 
 }
 
 fn weigh_a(rt: &impl Print, first: u16, second: u16) {
-    weigh_two(rt, "A", &plants::PLANT_A, first, second);
+    weigh_two(rt, "A", &example_plants::PLANT_A, first, second);
 }
 
 // Weighs a plant without types.
@@ -52,7 +51,7 @@ fn weigh_untyped(rt: &impl Print, title: &str, file: &[u8]) {
 
 // Quotes for plant A with weights 2, 1, contents 3, 4 and g 1.
 fn quote_a(rt: &impl Print, title: &str, d: u32) {
-    let _ = match quoting::quote(&plants::PLANT_A, &[2, 1], &[3, 4], 1, d) {
+    let _ = match quoting::quote(&example_plants::PLANT_A, &[2, 1], &[3, 4], 1, d) {
         Ok(quoted) => println!(rt;
             "{title}: ceiling {}, class {}",
             quoted.ceiling, quoted.class
@@ -83,9 +82,9 @@ fn confirm(rt: &impl Print, title: &str, file: &[u8], set: &[u32]) {
 
 // The examples stand in small functions, since the time of a check grows faster than the number of arrays that a function lends.
 fn reading(rt: &impl Print) {
-    read(rt, "A", &plants::PLANT_A);
-    read(rt, "One machine of 64 states", &plants::STATES_64);
-    read(rt, "One machine of 65 states", &plants::STATES_65);
+    read(rt, "A", &example_plants::PLANT_A);
+    read(rt, "One machine of 64 states", &example_plants::STATES_64);
+    read(rt, "One machine of 65 states", &example_plants::STATES_65);
 }
 
 fn weighing_a(rt: &impl Print) {
@@ -98,9 +97,9 @@ fn weighing_a(rt: &impl Print) {
 }
 
 fn weighing_one_state(rt: &impl Print) {
-    weigh_untyped(rt, "One state, no rows", &plants::ONE_STATE);
-    weigh_untyped(rt, "One state, row 00", &plants::QUIET_ROW);
-    weigh_untyped(rt, "One state, row 10", &plants::PROGRESS_ROW);
+    weigh_untyped(rt, "One state, no rows", &example_plants::ONE_STATE);
+    weigh_untyped(rt, "One state, row 00", &example_plants::QUIET_ROW);
+    weigh_untyped(rt, "One state, row 10", &example_plants::PROGRESS_ROW);
 }
 
 fn quoting_a(rt: &impl Print) {
@@ -124,14 +123,14 @@ fn listing_a(rt: &impl Print) {
     list(
         rt,
         "Listing A's machine 1, lent 3 entries",
-        &plants::PLANT_A,
+        &example_plants::PLANT_A,
         1,
         &mut three,
     );
     list(
         rt,
         "Listing A's machine 1, lent 2 entries",
-        &plants::PLANT_A,
+        &example_plants::PLANT_A,
         1,
         &mut two,
     );
@@ -141,31 +140,37 @@ fn sets_of_b(rt: &impl Print) {
     confirm(
         rt,
         "B, both cycles once",
-        &plants::PLANT_B,
+        &example_plants::PLANT_B,
         &[0, 1, 2, 0, 1, 1, 1, 2, 2, 3],
     );
-    weigh_two(rt, "B", &plants::PLANT_B, 2, 1);
-    weigh_two(rt, "B", &plants::PLANT_B, 1, 2);
+    weigh_two(rt, "B", &example_plants::PLANT_B, 2, 1);
+    weigh_two(rt, "B", &example_plants::PLANT_B, 1, 2);
     confirm(
         rt,
         "B, the panel's cycle alone",
-        &plants::PLANT_B,
+        &example_plants::PLANT_B,
         &[0, 1, 2, 0, 1],
     );
 }
 
 // Each tempting error gives another answer to one of these or of those in the next two functions.
 fn tempting_weights(rt: &impl Print) {
-    weigh_two(rt, "Weight zero is not good, A", &plants::PLANT_A, 3, 3);
+    weigh_two(
+        rt,
+        "Weight zero is not good, A",
+        &example_plants::PLANT_A,
+        3,
+        3,
+    );
     weigh_untyped(
         rt,
         "Cycles that miss state 0 are judged",
-        &plants::CYCLE_AT_STATE_1,
+        &example_plants::CYCLE_AT_STATE_1,
     );
     weigh_two(
         rt,
         "A progress row makes a cycle not quiet, A",
-        &plants::PLANT_A,
+        &example_plants::PLANT_A,
         5,
         1,
     );
@@ -177,14 +182,14 @@ fn tempting_listings(rt: &impl Print) {
     list(
         rt,
         "Parallel rows are listed, lent 8 entries",
-        &plants::PARALLEL_ROWS,
+        &example_plants::PARALLEL_ROWS,
         0,
         &mut eight,
     );
     list(
         rt,
         "Cycles stand in the order of their rows, lent 5 entries",
-        &plants::ROWS_BEFORE_STATES,
+        &example_plants::ROWS_BEFORE_STATES,
         0,
         &mut five,
     );
@@ -194,13 +199,13 @@ fn tempting_set_and_states(rt: &impl Print) {
     confirm(
         rt,
         "Progress cycles are in no set, A, both cycles once",
-        &plants::PLANT_A,
+        &example_plants::PLANT_A,
         &[0, 1, 2, 0, 1, 1, 1, 2, 2, 3],
     );
     weigh_untyped(
         rt,
         "n is the most states of all machines",
-        &plants::FIRST_SMALLER,
+        &example_plants::FIRST_SMALLER,
     );
 }
 
@@ -209,18 +214,18 @@ fn two_clients(rt: &impl Print) {
     read(
         rt,
         "Two clients, a server that chooses",
-        &plants::TWO_CLIENTS,
+        &example_plants::TWO_CLIENTS,
     );
     confirm(
         rt,
         "The second client and the server's second choice once each",
-        &plants::TWO_CLIENTS,
+        &example_plants::TWO_CLIENTS,
         &[1, 1, 4, 4, 5, 6, 7, 2, 1, 3, 11, 12, 13],
     );
     weigh(
         rt,
         "Weights 2, 0, 0, 0, 1, 0",
-        &plants::TWO_CLIENTS,
+        &example_plants::TWO_CLIENTS,
         &[2, 0, 0, 0, 1, 0],
     );
 }
@@ -229,18 +234,18 @@ fn two_clients_in_turn(rt: &impl Print) {
     read(
         rt,
         "Two clients served in turn",
-        &plants::TWO_CLIENTS_IN_TURN,
+        &example_plants::TWO_CLIENTS_IN_TURN,
     );
     confirm(
         rt,
         "The second client and the server once each",
-        &plants::TWO_CLIENTS_IN_TURN,
+        &example_plants::TWO_CLIENTS_IN_TURN,
         &[1, 1, 4, 4, 5, 6, 7, 2, 1, 6, 8, 9, 10, 11, 12, 13],
     );
     weigh(
         rt,
         "Weights 2, 0, 0, 0, 1, 0",
-        &plants::TWO_CLIENTS_IN_TURN,
+        &example_plants::TWO_CLIENTS_IN_TURN,
         &[2, 0, 0, 0, 1, 0],
     );
 }
@@ -250,7 +255,7 @@ fn detour(rt: &impl Print) {
     weigh(
         rt,
         "A fan's five rows, a feeder's four and two of these, weights 2, 1",
-        &plants::DETOUR,
+        &example_plants::DETOUR,
         &[2, 1],
     );
 }

@@ -20,13 +20,10 @@ impl fmt::Display for Entries<'_> {
 fn lowest(rows: &[u16]) -> usize
     ensures { result ≤ length rows.now }
 {
-    let mut low = 0;
-    for (i, row) in rows.iter().enumerate() {
-        if *row < rows[low] {
-            low = i;
-        }
-    }
-    low
+    rows.iter()
+        .enumerate()
+        .min_by_key(|(_, row)| **row)
+        .map_or(0, |(low, _)| low)
 }
 
 // The rows of a cycle from the lowest on: it may be shown from any of them.

@@ -93,19 +93,19 @@ module _ (n m states from : ℕ) (s : List ℕ) (p : Plant) (before : List ℕ) 
       -- at a twin,
       pub row_is_twin : (f : RowFields) (r : Row) (next : ℕ) (keys' : List ℕ) → fields_row m f ≡ r → listed_row m states p.types s at ≡ found r next
           → RowKept i f leave keys keys' None
-          → RowsStored n m p before file pos (listed_rows n m states s from p) (Err (record { refusal = Refusals.TwinRow; place = at }))
+          → RowsStored n m p before file pos end (listed_rows n m states s from p) (Err (record { refusal = Refusals.TwinRow; place = at }))
       row_is_twin f r next keys' is e h =
           let twin : has_twin r (p.rows ++ g.rs) ≡ true = ap (λ (q : Row). has_twin q (p.rows ++ g.rs)) (sym is) ∙ sym (h.told m (p.rows ++ g.rs) g.rows_kept) in
-          subst (λ (x : Found Plant). RowsStored n m p before file pos x (Err (record { refusal = Refusals.TwinRow; place = at }))) (sym (one_more ∙ rw (e, twin)) ∙ g.rest) rows_refused
+          subst (λ (x : Found Plant). RowsStored n m p before file pos end x (Err (record { refusal = Refusals.TwinRow; place = at }))) (sym (one_more ∙ rw (e, twin)) ∙ g.rest) rows_refused
 
       -- at a fault,
-      pub rows_stop : (f : Fault) → listed_row m states p.types s at ≡ fault_found f → RowsStored n m p before file pos (listed_rows n m states s from p) (Err f)
-      rows_stop f e = subst (λ (x : Found Plant). RowsStored n m p before file pos x (Err f)) (sym (one_more ∙ rw e) ∙ g.rest) rows_refused
+      pub rows_stop : (f : Fault) → listed_row m states p.types s at ≡ fault_found f → RowsStored n m p before file pos end (listed_rows n m states s from p) (Err f)
+      rows_stop f e = subst (λ (x : Found Plant). RowsStored n m p before file pos end x (Err f)) (sym (one_more ∙ rw e) ∙ g.rest) rows_refused
 
     -- and after the last row.
-    pub rows_finish : i ≤ n → n ≤ i → RowsStored n m p before file pos (listed_rows n m states s from p) (Ok (record { at = at; pos = end }))
+    pub rows_finish : i ≤ n → n ≤ i → RowsStored n m p before file pos end (listed_rows n m states s from p) (Ok at)
     rows_finish l d =
-        subst (λ (x : Found Plant). RowsStored n m p before file pos x (Ok (record { at = at; pos = end }))) done
+        subst (λ (x : Found Plant). RowsStored n m p before file pos end x (Ok at)) done
         (rows_stored g.rs (omega (arith, g.count)) g.machine g.stored)
       where
         none_left : (k : ℕ) → k ≡ 0 → found (with_rows p g.rs) at ≡ listed_rows k m states s at (with_rows p g.rs)

@@ -11,7 +11,6 @@ use Rattle.plant_files.specs.Files.{rows_bytes}
 use Rattle.plant_files.specs.Inner.Parts.{with_rows}
 use Rattle.plant_lists.specs.Lists.{listed_rows}
 use Rattle.row_bytes.specs.Stores.{Stored}
-use Rattle.written_rows.specs.declared.Point.{Point}
 
 -- Before the number at `at` is read and the byte at `pos` is stored, with so many bytes to come at most: the buffer has as many bytes as the
 -- longest file, or as the list has numbers, and no more bytes were stored than numbers read.
@@ -25,10 +24,10 @@ pub record Room (s file : List ℕ) (at pos bytes : ℕ) : Type 0 where
 abbrev pub ListKeyRoom : List ℕ → List ℕ → Type 0
 ListKeyRoom s keys = min (6 * 255) (length s) ≤ 6 * length keys
 
--- A step ends in the list, with no more bytes stored than numbers read, and at most at a limit.
-abbrev pub Near : List ℕ → ℕ → Result Point Fault → Type 0
-Near s limit (Ok p) = (p.at ≤ length s) × (p.pos ≤ p.at) × (p.pos ≤ limit)
-Near s limit (Err f) = Unit {0}
+-- What was read ends in the list, with no more bytes stored than numbers read, and at most up to a limit.
+abbrev pub Near : List ℕ → ℕ → ℕ → Result ℕ Fault → Type 0
+Near s limit end (Ok at) = (at ≤ length s) × (end ≤ at) × (end ≤ limit)
+Near s limit end (Err f) = Unit {0}
 
 -- The state that the last of these rows leaves.
 unfoldable pub last_left : ℕ → List Row → ℕ
@@ -36,10 +35,10 @@ last_left implied [] = implied
 last_left implied (r ∷ rs) = last_left r.left rs
 
 -- n rows of machine m were read behind those of p and stored, or there was a fault.
-pub data RowsStored (n m : ℕ) (p : Plant) (before after : List ℕ) (pos : ℕ) : Found Plant → Result Point Fault → Type 0 where
-  rows_stored : (rs : List Row) {next end : ℕ} → length rs ≡ n → All (λ r. r.machine ≡ m) rs → Stored before after pos (rows_bytes 0 rs) end
-      → RowsStored n m p before after pos (found (with_rows p rs) next) (Ok (record { at = next; pos = end }))
-  rows_refused : {f : Fault} → RowsStored n m p before after pos (fault_found f) (Err f)
+pub data RowsStored (n m : ℕ) (p : Plant) (before after : List ℕ) (pos end : ℕ) : Found Plant → Result ℕ Fault → Type 0 where
+  rows_stored : (rs : List Row) {next : ℕ} → length rs ≡ n → All (λ r. r.machine ≡ m) rs → Stored before after pos (rows_bytes 0 rs) end
+      → RowsStored n m p before after pos end (found (with_rows p rs) next) (Ok next)
+  rows_refused : {f : Fault} → RowsStored n m p before after pos end (fault_found f) (Err f)
 
 -- After i of n rows, which are kept: what is left to read, behind the rows rs, gives what the whole gives.
 pub record RowsGoing (n m states from : ℕ) (s : List ℕ) (p : Plant) (before : List ℕ) (pos i at : ℕ) (file : List ℕ) (end implied : ℕ) (keys : List ℕ) (leave : ℕ) : Type 0 where

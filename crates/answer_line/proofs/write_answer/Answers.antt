@@ -10,12 +10,12 @@ use Rattle.answer_line.proofs.write_answer.Goals as goal
 pub slice_bounds-write_cycle-end : goal.slice_bounds-write_cycle-end
 slice_bounds-write_cycle-end c =
     let few = c.requires.0.few _ (ap answer_of c.in-Ok-Cycle.is ∙ ap weighed_answer (rw c.in-Ok-Cycle.is at c.in-Ok-Cycle.field-0-is)) in
-    sym (length-take-le c.in-Ok-Cycle.rows c.args.cycle.now (omega (arith, few, c.requires.1)))
+    sym (length-take-le c.in-Ok-Cycle.rows c.args.cycle.now (omega (arith, few)))
 
 pub write_cycle-requires : goal.write_cycle-requires
 write_cycle-requires c =
     let few = c.requires.0.few _ (ap answer_of c.in-Ok-Cycle.is ∙ ap weighed_answer (rw c.in-Ok-Cycle.is at c.in-Ok-Cycle.field-0-is)) in
-    (omega (arith, few, length-take-le c.in-Ok-Cycle.rows c.args.cycle.now (omega (arith, few, c.requires.1))), c.requires.2)
+    (omega (arith, few, length-take-le c.in-Ok-Cycle.rows c.args.cycle.now (omega (arith, few))), c.requires.1)
 
 pub returns-in-Ok-Passed : goal.returns-in-Ok-Passed
 returns-in-Ok-Passed c =

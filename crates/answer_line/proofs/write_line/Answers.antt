@@ -7,7 +7,7 @@ use Rattle.answer_line.proofs.OwedLaws.{few_rows, printed}
 use Rattle.answer_line.proofs.write_line.Goals as goal
 
 pub write_answer-requires : goal.write_answer-requires
-write_answer-requires c = (few_rows c.weigh-answer.ensures, omega arith, c.requires)
+write_answer-requires c = (few_rows c.weigh-answer.ensures, c.requires)
 
 pub returns : goal.returns
 returns c =

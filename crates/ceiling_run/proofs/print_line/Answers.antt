@@ -12,6 +12,6 @@ write_owed-requires g c =
     let plant = c.args.plant in
     let weights = c.args.weights in
     let line = take c.write_line-end.result c.write_line-end.new.line in
-    held_line plant.buffer.now weights.buffer.now line plant.count weights.count c.requires.2 c.requires.3
+    held_line plant.buffer.now weights.buffer.now line plant.count weights.count c.requires.0 c.requires.1
     (subst (λ (s : List ℕ). Printed (take plant.count plant.buffer.now) s line) c.bytes-2.ensures
     (subst (λ (s : List ℕ). Printed s c.bytes-2.result.now line) c.bytes.ensures c.write_line-end.ensures.0))

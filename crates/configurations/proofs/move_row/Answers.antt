@@ -6,4 +6,4 @@ use Rattle.configurations.proofs.move_row.Goals as goal
 pub returns : goal.returns
 returns c =
     let a = c.args in
-    rw c.from.ensures (row_moves a.row a.states.now a.contents.now _ _ (search rules) c.remove.ensures c.add.ensures)
+    rw c.from.ensures (row_moves a.row a.states.now a.contents.now _ _ (search rules) (search rules) c.remove.ensures c.add.ensures)

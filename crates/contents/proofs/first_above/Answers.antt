@@ -11,10 +11,10 @@ use Rattle.contents.proofs.first_above.Goals as goal
 use Rattle.contents.proofs.first_above.Goals.{After-position}
 
 -- The search gives the first content above 1,000,000.
-first : (c : After-position) → FirstAbove 1000000 c.args.contents.now c.position.result
+first : (c : After-position) → FirstAbove 1000000 c.args.given.contents.now c.position.result
 first c =
     first_found _ _ _
-    (IsFirst-from_position _ _ _ (λ x. 1000000 < x) (λ x. x ≤ 1000000) c.position.ensures.ran (YieldsList-from_slice c.args.contents.now cc)
+    (IsFirst-from_position _ _ _ (λ x. 1000000 < x) (λ x. x ≤ 1000000) c.position.ensures.ran (YieldsList-from_slice c.args.given.contents.now cc)
     (λ x q k. search (rules, tests))
     (λ x q k. search (rules, tests)))
 

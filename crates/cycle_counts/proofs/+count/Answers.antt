@@ -1,18 +1,16 @@
-use mathlib.Core.Path.{◌≡◌, ap}
-use Prim.Native.Nat.{ℕ, suc, ◌-◌, ◌<◌, ◌≤◌}
+use mathlib.Core.Path.{ap}
+use Prim.Native.Nat.{ℕ, ◌-◌, ◌<◌, ◌≤◌}
 use native.Mathlib.Omega.{arith}
-use lib.ListN.{get_or, set}
 use Rattle.graphs.specs.Graphs.{entered_of, last_of}
 use Rattle.cycle_paths.specs.Cycles.{unleft}
 use Rattle.state_marks.specs.Marks.{column, marks_of}
 use Rattle.state_marks.proofs.MarkLaws.{marks_length}
-use Rattle.cycle_paths.proofs.MarkLaws.{unleft_falls}
-use Rattle.cycle_paths.proofs.ExtensionLaws.{enter_unleft, closed_unleft}
+use Rattle.cycle_paths.proofs.ExtensionLaws.{closed_unleft}
+use Rattle.cycle_paths.proofs.SearchLaws.{state_entered}
 use Rattle.cycle_counts.proofs.CountingLaws.{counting_named, counting_ends, counting_skip, counting_close, counting_enter, onward_counted, onward_closing}
 use Rattle.cycle_counts.proofs.BetweenLaws.{between_few, all_marked}
-use Rattle.cycle_paths.specs.declared.Step.TheVariants as Steps
 use Rattle.cycle_counts.proofs.+count.Goals as goal
-use Rattle.cycle_counts.proofs.+count.Goals.{In-loop-k, After-step_of, in-Skip, in-Close, in-Enter+then-closed-eq-ALL, in-Enter+else-closed-eq-ALL}
+use Rattle.cycle_counts.proofs.+count.Goals.{In-loop-k, in-Skip, in-Close, in-Enter+then-closed-eq-ALL, in-Enter+else-closed-eq-ALL}
 
 -- Row k is one of the linked rows,
 row_in : (t : ℕ) (c : goal.In-loop-k t) → (c.requires.first ≤ c.loop-k.k) × (c.loop-k.k < last_of c.args.search.graph.now)
@@ -24,23 +22,10 @@ row_in t c =
 state_in : (t : ℕ) (c : goal.In-loop-k t) → column (entered_of c.args.search.graph.now) c.loop-k.k < 24
 state_in t c = let r = row_in t c in c.requires.enter.below_24 c.loop-k.k r.0 r.1
 
--- A state that is entered is the row's, and not yet left;
-enters : (t : ℕ) (c : goal.After-step_of t) (state : ℕ) → c.step_of.result ≡ Steps.Enter state
-    → (state ≡ column (entered_of c.args.search.graph.now) c.loop-k.k) × (get_or (marks_of 24 c.args.marks) state 0 ≡ 0)
-enters t c state is = let a = c.args in enter_unleft (entered_of a.search.graph.now) a.search.start (marks_of 24 a.marks) _ _ c.step_of.ensures _ is
-
--- so it is below 24, and once it is left, one state less is not.
-entering : (t : ℕ) (c : goal.After-step_of t) (state : ℕ) → c.step_of.result ≡ Steps.Enter state → column (entered_of c.args.search.graph.now) c.loop-k.k < 24
-    → (state < 24) × (unleft (marks_of 24 c.args.marks) ≡ suc (unleft (set (marks_of 24 c.args.marks) state 1)))
-entering t c state is row_below =
-    let e = enters t c state is in
-    let l : state < 24 = omega (arith, e.0, row_below) in
-    (l, unleft_falls _ _ (omega (arith, l, marks_length 24 c.args.marks)) e.1)
-
 pub take_closing-rest-requires : goal.take_closing-rest-requires
 take_closing-rest-requires t c =
     let p = c.requires in
-    let g = entering t (goal.at.take_closing-rest-requires t c).After-step_of _ c.in-Enter.is (state_in t (goal.at.take_closing-rest-requires t c).In-loop-k) in
+    let g = state_entered (entered_of c.args.search.graph.now) c.args.search.start c.args.marks c.loop-k.k c.step_of.ensures (state_in t (goal.at.take_closing-rest-requires t c).In-loop-k) c.in-Enter.is in
     let s = c.in-Enter.state in
     let known = p.tables.pairs.known s _ g.0 p.start_in in
     let few = between_few p.left (entered_of c.args.search.graph.now) s c.args.search.start p.first (last_of c.args.search.graph.now - p.first) in
@@ -49,7 +34,7 @@ take_closing-rest-requires t c =
 pub count-rest-requires : goal.count-rest-requires
 count-rest-requires t c =
     let p = c.requires in
-    let g = entering t (goal.at.count-rest-requires t c).After-step_of _ c.in-Enter.is (state_in t (goal.at.count-rest-requires t c).In-loop-k) in
+    let g = state_entered (entered_of c.args.search.graph.now) c.args.search.start c.args.marks c.loop-k.k c.step_of.ensures (state_in t (goal.at.count-rest-requires t c).In-loop-k) c.in-Enter.is in
     let h = p.tables.links.head_in c.in-Enter.state g.0 in
     let e = c.head_of.ensures in
     let last = c.last_of.ensures in
@@ -84,7 +69,7 @@ loop-k-preserved t c =
       | in-Skip w ↦ (low, counting_named _ w.rest-is (counting_skip l.invariant.1 l.invariant.0 h p.high_in step next w.in-Skip.is))
       | in-Close w ↦ (low, counting_named _ w.rest-is (counting_close l.invariant.1 l.invariant.0 h p.high_in step next w.in-Close.is _ w.saturating_sub-rest.ensures))
       | in-Enter+then-closed-eq-ALL w ↦
-          let g = entering t (goal.at.loop-k-preserved t c).After-step_of _ w.in-Enter.is (state_in t (goal.at.loop-k-preserved t c).In-loop-k) in
+          let g = state_entered (entered_of c.args.search.graph.now) c.args.search.start c.args.marks c.loop-k.k step (state_in t (goal.at.loop-k-preserved t c).In-loop-k) w.in-Enter.is in
           let marked = w.with_left-marked in
           let closed = w.after_leaving-closed in
           let onward =
@@ -92,7 +77,7 @@ loop-k-preserved t c =
           p.start_in (λ x b. all_marked closed.result x (omega (arith, w.if-closed-eq-ALL.true)) b) _ _ w.take_closing-rest.ensures in
           (low, counting_named _ w.rest-is (counting_enter l.invariant.1 l.invariant.0 h p.high_in step next w.in-Enter.state w.in-Enter.is g.0 g.1 _ onward))
       | in-Enter+else-closed-eq-ALL w ↦
-          let g = entering t (goal.at.loop-k-preserved t c).After-step_of _ w.in-Enter.is (state_in t (goal.at.loop-k-preserved t c).In-loop-k) in
+          let g = state_entered (entered_of c.args.search.graph.now) c.args.search.start c.args.marks c.loop-k.k step (state_in t (goal.at.loop-k-preserved t c).In-loop-k) w.in-Enter.is in
           let marked = w.with_left-marked in
           let closed = w.after_leaving-closed in
           let onward =

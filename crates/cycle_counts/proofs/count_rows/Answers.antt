@@ -8,15 +8,13 @@ use Rattle.graphs.specs.Graphs.{left_of, entered_of, next_of, head_of, into_of, 
 use Rattle.cycle_paths.specs.Cycles.{cycles_through}
 use Rattle.cycle_paths.specs.Entries.{all_entries}
 use Rattle.cycle_paths.specs.Rows.{Searchable}
-use Rattle.state_marks.specs.Marks.{column, marks_of}
-use Rattle.cycle_paths.specs.Extensions.{extensions}
-use Rattle.state_marks.proofs.MarkLaws.{marks_length}
-use Rattle.cycle_paths.proofs.ExtensionLaws.{searchable_last, closed_first, unleft_few, entries_closed, entries_end}
+use Rattle.cycle_paths.proofs.ExtensionLaws.{searchable_last, entries_end}
+use Rattle.cycle_paths.proofs.SearchLaws.{row_entries, unleft_in}
 use Rattle.cycle_counts.specs.Pairs.{Between}
 use Rattle.cycle_counts.specs.Inner.Counting.{Tables}
 use Rattle.cycle_counts.proofs.CountingLaws.{taking_part, taking_ends}
 use Rattle.cycle_counts.proofs.count_rows.Goals as goal
-use Rattle.cycle_counts.proofs.count_rows.Goals.{After-left_of-start, After-loop-row, In-loop-row}
+use Rattle.cycle_counts.proofs.count_rows.Goals.{After-from_row-search, After-loop-row}
 
 -- The tables of a graph that has its rows, up to the number that it keeps.
 tables_of : (graph : Graph) (first last : ℕ) → Searchable graph first last → Between (left_of graph) (entered_of graph) (between_of graph) first last
@@ -29,8 +27,8 @@ tables_of graph first last s pairs =
     }
 
 -- The state that a row leaves is below 24.
-state_in : (c : goal.After-left_of-start) → c.left_of-start.result < 24
-state_in c = omega (arith, c.left_of-start.ensures, c.requires.0.left_in.below_24 c.loop-row.row c.loop-row.auto.row c.loop-row-test.true)
+state_in : (c : goal.After-from_row-search) → c.from_row-search.result.start < 24
+state_in c = omega (arith, c.from_row-search.ensures.start, c.requires.0.left_in.below_24 c.loop-row.row c.loop-row.auto.row c.loop-row-test.true)
 
 -- At the end all is taken.
 all_taken : (c : goal.After-loop-row)
@@ -48,17 +46,17 @@ all_taken c =
 
 pub count-rest-requires : goal.count-rest-requires
 count-rest-requires c =
-    let marks = c.without_dead_ends-closed.result in
+    rw c.from_row-search.ensures.graph
     record {
       left = left_of c.args.graph.now;
       first = c.args.first;
       tables = tables_of c.args.graph.now c.args.first c.args.last c.requires.0 c.requires.1;
       enter = (searchable_last c.requires.0).entered_in;
-      start_in = state_in (goal.at.count-rest-requires c).After-left_of-start;
+      start_in = state_in (goal.at.count-rest-requires c).After-from_row-search;
       low_in = c.loop-row.auto.row;
       ordered = omega arith;
       high_in = omega (arith, c.loop-row-test.true, c.requires.0.last_is);
-      fits = omega (arith, unleft_few (marks_of 24 marks), marks_length 24 marks);
+      fits = omega (arith, unleft_in c.first_marks.result);
     }
 
 pub loop-row-preserved : goal.loop-row-preserved
@@ -66,17 +64,13 @@ loop-row-preserved c =
     let a = c.args in
     let g = a.graph.now in
     let l = c.loop-row in
-    let h = c.loop-row-test.true in
-    let start = c.left_of-start in
-    let closed = c.without_dead_ends-closed in
-    let marked = c.with_left-marked in
-    let low = c.below-low in
+    let search = c.from_row-search in
     let tables = tables_of g a.first a.last c.requires.0 c.requires.1 in
-    let shut = closed_first _ _ low.result marked.result _ (state_in (goal.at.loop-row-preserved c).After-left_of-start) low.ensures marked.ensures closed.ensures in
-    taking_part l.invariant (extensions (left_of g) (entered_of g) a.first (last_of g) start.result (marks_of 24 closed.result) [] (column (left_of g) l.row) l.row (l.row + 1 - l.row)) _
-    (entries_closed (left_of g) (entered_of g) a.first (last_of g) (into_of g) l.row start.result [] (marks_of 24 closed.result) start.ensures tables.from shut (marks_length 24 closed.result) l.auto.row (omega (arith, h, c.requires.0.last_is)))
+    let counted = rw search.ensures.graph at c.count-rest.ensures in
+    taking_part l.invariant _ _
+    (row_entries c.requires.0 _ search.ensures.start (rw search.ensures.graph at c.first_marks.ensures) l.auto.row c.loop-row-test.true)
     _
-    (c.count-rest.ensures [] refl (left_of g) a.first tables l.auto.row)
+    (counted [] refl (left_of g) a.first tables l.auto.row)
 
 pub overflow_sub-result : goal.overflow_sub-result
 overflow_sub-result c = omega (arith, all_taken c)

@@ -1,67 +1,69 @@
-use mathlib.Core.Path.{subst}
-use Prim.Native.Nat.{ℕ, ◌<◌}
+use mathlib.Core.Path.{ap, ◌∙◌}
+use Prim.Native.Nat.{◌<◌}
 use native.Mathlib.Omega.{arith}
+use Rattle.std.proofs.Common.{rules}
 use lib.ListN.{length}
-use Rattle.graphs.specs.Graphs.{left_of, entered_of, into_of, last_of}
+use Rattle.graphs.specs.Graphs.{left_of, entered_of, last_of}
 use Rattle.cycle_paths.specs.Cycles.{cycles_through}
-use Rattle.cycle_entries.specs.Entries.{Added}
-use Rattle.cycle_paths.specs.Entries.{all_entries}
-use Rattle.state_marks.specs.Marks.{marks_of}
-use Rattle.state_marks.proofs.MarkLaws.{marks_length}
-use Rattle.cycle_paths.proofs.FillingLaws.{added_in, adding_part, adding_ends}
-use Rattle.cycle_paths.proofs.ExtensionLaws.{closed_first, searchable_last, unleft_few, entries_closed, entries_end}
+use Rattle.cycle_paths.proofs.FillingLaws.{adding_part, adding_ends, adding_stops, added_named}
+use Rattle.cycle_paths.proofs.ExtensionLaws.{searchable_last, entries_end}
+use Rattle.cycle_paths.proofs.SearchLaws.{RowEntries, row_entries, unleft_in}
 use Rattle.cycle_paths.proofs.list_rows.Goals as goal
-use Rattle.cycle_paths.proofs.list_rows.Goals.{After-left_of-start}
+use Rattle.cycle_paths.proofs.list_rows.Goals.{After-from_row-search, After-first_marks-marks}
 
 -- The state that a row leaves is below 24.
-state_in : (c : goal.After-left_of-start) → c.left_of-start.result < 24
-state_in c = omega (arith, c.left_of-start.ensures, c.requires.0.left_in.below_24 c.loop-row.row c.loop-row.auto.row c.loop-row-test.true)
+state_in : (c : goal.After-from_row-search) → c.from_row-search.result.start < 24
+state_in c = omega (arith, c.from_row-search.ensures.start, c.requires.0.left_in.below_24 c.loop-row.row c.loop-row.auto.row c.loop-row-test.true)
 
-pub extend-used-requires : goal.extend-used-requires
-extend-used-requires c =
+-- What is left at a row is what its search adds, and what is left at the next row.
+first_part : (c : goal.After-first_marks-marks) → RowEntries c.args.graph.now c.args.first c.loop-row.row c.from_row-search.result.start c.first_marks-marks.result
+first_part c = row_entries c.requires.0 _ c.from_row-search.ensures.start (rw c.from_row-search.ensures.graph at c.first_marks-marks.ensures) c.loop-row.auto.row c.loop-row-test.true
+
+pub extend-requires : goal.extend-requires
+extend-requires c =
     let p = searchable_last c.requires.0 in
-    let g = c.loop-row.invariant.1 in
-    let marks = c.without_dead_ends-closed.result in
+    let g = c.loop-row.invariant.adding in
+    rw c.from_row-search.ensures.graph
     record {
       left = left_of c.args.graph.now;
       first = c.args.first;
       links = p.links;
       enter = p.entered_in;
       from = p.from;
-      start_in = state_in (goal.at.extend-used-requires c).After-left_of-start;
+      start_in = state_in (goal.at.extend-requires c).After-from_row-search;
       low_in = c.loop-row.auto.row;
       ordered = omega arith;
       high_in = omega (arith, c.loop-row-test.true, c.requires.0.last_is);
-      path_room = c.loop-row.invariant.0;
-      fits = omega (arith, unleft_few (marks_of 24 marks), marks_length 24 marks);
-      room_in = omega arith;
-      pos_in = omega (arith, g.same_length, g.in_limit);
-      limit_in = omega (arith, g.same_length, c.requires.1);
+      fits = omega (arith, unleft_in c.first_marks-marks.result, ap length c.loop-row.invariant.no_path);
+      pos_in = omega (arith, g.same_length, g.in_room);
+      room_in = omega (arith, g.same_length, c.requires.1);
     }
+
+pub returns-in_err-extend : goal.returns-in_err-extend
+unfolding cycles_through
+returns-in_err-extend c =
+    let g = c.args.graph.now in
+    let p = searchable_last c.requires.0 in
+    let added = rw (c.from_row-search.ensures.graph, c.loop-row.invariant.no_path) at c.in_err-extend.ensures.extended_in in
+    rw (c.from_residual.ensures, ← c.requires.0.last_is)
+    (adding_stops c.loop-row.invariant.adding _ _ (first_part (goal.at.returns-in_err-extend c).After-first_marks-marks) _ (added (left_of g) c.args.first p.links p.from c.loop-row.auto.row))
 
 pub loop-row-preserved : goal.loop-row-preserved
 loop-row-preserved c =
     let g = c.args.graph.now in
     let p = searchable_last c.requires.0 in
-    let l = c.loop-row in
-    let h = c.loop-row-test.true in
-    let start = c.left_of-start in
-    let closed = c.without_dead_ends-closed in
-    let marked = c.with_left-marked in
-    let low = c.below-low in
-    let shut = closed_first _ _ low.result marked.result _ (state_in (goal.at.loop-row-preserved c).After-left_of-start) low.ensures marked.ensures closed.ensures in (
-      c.extend-used.ensures.path_kept.path_room,
-      adding_part l.invariant.1 _ _ (entries_closed (left_of g) (entered_of g) c.args.first (last_of g) (into_of g) l.row start.result l.path (marks_of 24 closed.result) start.ensures p.from shut (marks_length 24 closed.result) l.auto.row (omega (arith, h, c.requires.0.last_is))) _ _ (omega arith)
-          (added_in l.invariant.1.same_length (c.extend-used.ensures.extended_in (left_of g) c.args.first p.links p.from l.auto.row)),
-    )
+    let i = c.loop-row.invariant in
+    let e = c.in_ok-extend.ensures in
+    let added = rw (c.from_row-search.ensures.graph, i.no_path) at e.extended_in in
+    record {
+      no_path = e.path_kept ∙ i.no_path;
+      same_list = e.same_list ∙ i.same_list;
+      adding = adding_part i.adding _ _ (first_part (goal.at.loop-row-preserved c).After-first_marks-marks) e.same_length (added (left_of g) c.args.first p.links p.from c.loop-row.auto.row);
+    }
 
 pub returns : goal.returns
 unfolding cycles_through
 returns c =
-    let a = c.args in
-    let g = a.graph.now in
-    let l = c.loop-row in
-    subst
-    (λ (z : ℕ). Added (length a.out.now) a.out.now 0 (all_entries (left_of g) (entered_of g) a.first z) l.used l.out)
-    c.requires.0.last_is
-    (adding_ends l.invariant.1 (entries_end (left_of g) (entered_of g) a.first (last_of g) l.row (omega (arith, c.loop-row-test.false, c.requires.0.last_is))))
+    let g = c.args.graph.now in
+    let ends = entries_end (left_of g) (entered_of g) c.args.first (last_of g) c.loop-row.row (omega (arith, c.loop-row-test.false, c.requires.0.last_is)) in
+    rw (← c.requires.0.last_is) (added_named (search rules) (adding_ends c.loop-row.invariant.adding ends))

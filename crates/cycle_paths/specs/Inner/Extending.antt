@@ -1,5 +1,5 @@
 -- What `extend` asks and gives.
-use Rattle.std.specs.Prelude.{◌≡◌, List, ℕ, suc, ◌+◌, ◌-◌, ◌≤◌, ◌<◌, ◌^◌, length, take}
+use Rattle.std.specs.Prelude.{List, ℕ, ◌+◌, ◌-◌, ◌≤◌, ◌<◌, ◌^◌, Option, length}
 use Rattle.graphs.specs.declared.Graph.{Graph}
 use Rattle.graphs.specs.Graphs.{entered_of, next_of, head_of, into_of, last_of}
 use Rattle.state_marks.specs.Marks.{column, RowsBelow, Sources}
@@ -8,9 +8,8 @@ use Rattle.cycle_paths.specs.Cycles.{unleft}
 use Rattle.cycle_paths.specs.Rows.{Linked}
 use Rattle.cycle_paths.specs.Extensions.{extensions}
 
--- What `extend` asks: the links of some rows, room for a path through all states not yet left, and a count so far that is at most one
--- above the limit.
-pub record Extendable (entered next head into : List ℕ) (last start : ℕ) (marks path : List ℕ) (depth low high room pos limit : ℕ) : Type 0 where
+-- What `extend` asks: the links of some rows, room for a path through all states not yet left, and no more used of the list than it has.
+pub record Extendable (entered next head into : List ℕ) (last start : ℕ) (marks path : List ℕ) (low high room pos : ℕ) : Type 0 where
   pub left : List ℕ
   pub first : ℕ
   pub links : Linked left next head first last
@@ -20,24 +19,17 @@ pub record Extendable (entered next head into : List ℕ) (last start : ℕ) (ma
   pub low_in : first ≤ low
   pub ordered : low ≤ high
   pub high_in : high ≤ last
-  pub path_room : length path ≡ 24
-  pub fits : depth + unleft marks ≤ 24
-  pub room_in : room ≤ limit
-  pub pos_in : pos ≤ suc limit
-  pub limit_in : limit < 2 ^ 63
-
--- The first rows of a path are kept.
-pub record PathKept (depth : ℕ) (before after : List ℕ) : Type 0 where
-  pub path_room : length after ≡ 24
-  pub same_rows : take depth after ≡ take depth before
+  pub fits : length path + unleft marks ≤ 24
+  pub pos_in : pos ≤ room
+  pub room_in : room < 2 ^ 63
 
 -- What `extend` gives, for all rows that have these links: the extensions of the path by the rows from `low` up to `high`.
-abbrev pub Extended : List ℕ → List ℕ → List ℕ → List ℕ → ℕ → ℕ → List ℕ → List ℕ → ℕ → ℕ → ℕ → List ℕ → ℕ → ℕ → List ℕ → Type 0
-Extended entered next head into last start marks rows low high limit before pos used after =
+abbrev pub Extended : List ℕ → List ℕ → List ℕ → List ℕ → ℕ → ℕ → List ℕ → List ℕ → ℕ → ℕ → List ℕ → ℕ → Option ℕ → List ℕ → Type 0
+Extended entered next head into last start marks rows low high before pos used after =
     (left : List ℕ) (first : ℕ) → Linked left next head first last → Sources left entered into first last → first ≤ low
-    → Added limit before pos (extensions left entered first last start marks rows (column left low) low (high - low)) used after
+    → Added (length before) before pos (extensions left entered first last start marks rows (column left low) low (high - low)) used after
 
--- The same of a graph, where the list's length is the limit.
-abbrev pub ExtendedIn : Graph → ℕ → List ℕ → List ℕ → ℕ → ℕ → List ℕ → ℕ → ℕ → List ℕ → Type 0
+-- The same of a graph.
+abbrev pub ExtendedIn : Graph → ℕ → List ℕ → List ℕ → ℕ → ℕ → List ℕ → ℕ → Option ℕ → List ℕ → Type 0
 ExtendedIn graph start marks rows low high before pos used after =
-    Extended (entered_of graph) (next_of graph) (head_of graph) (into_of graph) (last_of graph) start marks rows low high (length before) before pos used after
+    Extended (entered_of graph) (next_of graph) (head_of graph) (into_of graph) (last_of graph) start marks rows low high before pos used after

@@ -9,4 +9,4 @@ use Rattle.deciding.proofs.relax.Given as goal
 
 -- `relax` meets its contract: after i turns the first i edges are relaxed.
 abbrev pub invariant-loop-i : goal.invariant-loop-i
-invariant-loop-i l = (last : Option ℕ) × Pass (lengthened l.n (edge_graph l.edges)) l.i l.initial.heights l.heights last × (l.last ≡ unwrap_or last (length l.edges))
+invariant-loop-i l = (last : Option ℕ) × Pass (lengthened l.n (edge_graph l.edges.list.now)) l.i l.initial.heights l.heights last × (l.last ≡ unwrap_or last (length l.edges.list.now))

@@ -7,7 +7,7 @@ use mir.Syntax.{w64}
 use mir.Val.{SFits}
 use mir.Facts.{to_z_pos, to_z-of_z}
 use Rattle.livelock.proofs.Differences.{difference_times}
-use Rattle.deciding.specs.Signs.{rise, fall}
+use Rattle.edge_lists.specs.Signs.{rise, fall}
 use Rattle.deciding.proofs.SignLaws.{rise_fall, difference_fits, difference_length}
 use Rattle.deciding.proofs.row_length.Goals as goal
 

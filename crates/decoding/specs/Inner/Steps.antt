@@ -1,31 +1,41 @@
--- What the private functions that fill a table give.
-use Rattle.std.specs.Prelude.{◌≡◌, List, [], ◌∷◌, ◌++◌, map, ℕ, ◌+◌, ◌≤◌, ◌<◌, length, get_or, Result, IfOk}
-use Rattle.livelock.specs.Lists.{All, below}
-use Rattle.livelock.specs.Plants.{Plant}
+-- What the private functions that read a file into a store of rows give.
+use Rattle.std.specs.Prelude.{◌≡◌, List, [], ◌∷◌, ◌++◌, ℕ, ◌+◌, ◌≤◌, ◌<◌, length, get_or, Result}
+use Rattle.livelock.specs.Lists.{All}
+use Rattle.livelock.specs.Plants.{Row, Plant, row_count, machine_count}
+use Rattle.plant.specs.Limits.{rows_in, Numbered}
 use Rattle.plant.specs.Reading.{no_machines, read_rows, read_machine, read_machines}
-use Rattle.plant.specs.Steps.{read_found, end_found}
-use Rattle.tables.specs.Tables.{row_in, plant_in}
-use Rattle.decoding.specs.Tables.{plant_of, rows_before, Ready}
 use Rattle.plant.specs.declared.Fault.{Fault}
 use Rattle.plant.specs.declared.Field.{Field}
+use Rattle.decoding.specs.Tables.{rows_before}
+use Rattle.decoding.specs.Reads.{FoundAs, Shaped}
 use Rattle.decoding.specs.declared.Machine.{Machine}
 use Rattle.decoding.specs.declared.Shape.{Shape}
 
--- The rows that a table has so far are of machines before m.
-abbrev pub RowsBefore : ℕ → ℕ → List ℕ → Type 0
-RowsBefore m used table = All (λ r. r.machine < m) (map (row_in table) (below used))
+-- The plant q has n rows more than p, and the same types and states; where a store held the `used` rows of p, it holds those of q.
+pub record RowsMore (p : Plant) (n used : ℕ) (before after : List Row → Type 0) (q : Plant) : Type 0 where
+  pub types : q.types ≡ p.types
+  pub states : q.states ≡ p.states
+  pub rows : row_count q ≡ row_count p + n
+  pub kept : row_count p ≡ used → before p.rows → after q.rows
 
--- n rows of machine m were read behind the `used` rows that the table had, whatever the machines of the plant.
-pub record RowsRead (n m states types used : ℕ) (s before after : List ℕ) (e : Result ℕ Fault) : Type 0 where
-  pub long : length after ≡ length before
-  pub holds : (all : List ℕ) → end_found e (plant_in types all (used + n) after) ≡ read_rows n m states 0 s 0 (plant_in types all used before)
+-- n rows of machine m were read behind the `used` rows that a store held, whatever the plant so far, if only it has no rows of that machine.
+abbrev pub RowsRead : (n m states types used : ℕ) → List ℕ → (List Row → Type 0) → (List Row → Type 0) → Result ℕ Fault → Type 0
+RowsRead n m states types used s before after r =
+    (p : Plant) → p.types ≡ types → rows_in m p.rows ≡ []
+    → FoundAs (λ next q end. (end ≡ next) × RowsMore p n used before after q) r (read_rows n m states 0 s 0 p)
 
--- Machine m was read behind the machines before it and the `used` rows that the table had.
-pub record MachineRead (file : List ℕ) (at m types used : ℕ) (before after : List ℕ) (r : Result (Field Machine) Fault) : Type 0 where
-  pub long : length after ≡ length before
-  pub few_rows : IfOk r (λ f. f.value.rows ≤ 1024)
-  pub holds : (all : List ℕ) → length all ≡ m
-      → read_found (λ q. plant_in types (all ++ (q.states ∷ [])) q.rows after) r ≡ read_machine file at (plant_in types all used before)
+-- The plant q has one machine more than p, and a store holds all its rows.
+pub record MachineMore (p : Plant) (m : Machine) (held : List Row → Type 0) (q : Plant) : Type 0 where
+  pub types : q.types ≡ p.types
+  pub states : q.states ≡ p.states ++ (m.states ∷ [])
+  pub rows : row_count q ≡ m.rows
+  pub kept : held q.rows
+
+-- The machine at `at` was read behind the machines of a plant, of which a store held the `used` rows.
+abbrev pub MachineRead : List ℕ → (at m types used : ℕ) → (List Row → Type 0) → (List Row → Type 0) → Result (Field Machine) Fault → Type 0
+MachineRead file at m types used before after r =
+    (p : Plant) → p.types ≡ types → row_count p ≡ used → machine_count p ≡ m → Numbered p → before p.rows
+    → FoundAs (λ f q end. (end ≡ f.next) × MachineMore p f.value after q) r (read_machine file at p)
 
 -- A plant has rows of the machines before n only, and the first k entries of `first` are the first rows of the machines before k.
 pub record FirstRows (first : List ℕ) (k n : ℕ) (p : Plant) : Type 0 where
@@ -33,7 +43,8 @@ pub record FirstRows (first : List ℕ) (k n : ℕ) (p : Plant) : Type 0 where
   pub at : (m : ℕ) → m < k → get_or first m 0 ≡ rows_before p m
   pub numbered : All (λ r. r.machine < n) p.rows
 
--- n machines were read, the first of them at `from`; they end in the file.
-pub record MachinesRead (n : ℕ) (file : List ℕ) (from types : ℕ) (table : List ℕ) (r : Result (Field Shape) Fault) : Type 0 where
-  pub ready : IfOk r (λ f. Ready f.value table × (f.next ≤ length file))
-  pub holds : read_found (λ s. plant_of s table) r ≡ read_machines n file from (no_machines types)
+-- n machines were read, the first of them at `from`, and a store holds their rows; they end in the file.
+abbrev pub MachinesRead : ℕ → List ℕ → (from types : ℕ) → (List Row → Type 0) → Result (Field Shape) Fault → Type 0
+MachinesRead n file from types held r =
+    FoundAs (λ f q end. (end ≡ f.next) × (end ≤ length file) × (f.value.rows ≤ length file) × Shaped f.value q × held q.rows) r
+    (read_machines n file from (no_machines types))

@@ -22,9 +22,6 @@ states_in c =
 pub loop-k-init : goal.loop-k-init
 loop-k-init c = (c.requires.0.ordered, begun_none c.args.table.now c.args.last c.args.graph.now c.requires.0.few c.requires.1)
 
-pub row_in-requires : goal.row_in-requires
-row_in-requires c = omega (arith, c.requires.0.room, c.loop-k-test.true, c.loop-k.auto)
-
 pub add_row-requires : goal.add_row-requires
 add_row-requires c =
     let l = c.loop-k in

@@ -1,6 +1,6 @@
 -- `byte_in` meets its contract: what `byte_at` found, and its two tests.
 use Rattle.std.proofs.Common.{sym}
-use Rattle.std.proofs.lemmas.Result.{err_from_is_err_and}
+use Rattle.plant.proofs.Exits.{handed_on}
 use borrow.Author.Tests.{le-leb, lt-leb, lt-ltb, le-ltb}
 use Rattle.plant.specs.Reading.{byte_in}
 use Rattle.plant.proofs.ByteLaws.{byte_missing, byte_passes, byte_fails}
@@ -10,8 +10,7 @@ use Rattle.plant.proofs.byte_in.Goals.{else-low-byte-via-then-low-byte+else-byte
 pub returns-in_err-byte : goal.returns-in_err-byte
 unfolding byte_in
 returns-in_err-byte c =
-    let p = err_from_is_err_and c.from_residual.result c.from_residual.ensures.1 in
-    rw (p.1, p.2) (byte_missing _ _ _ _ _ _ (sym c.in_err-byte.ensures))
+    rw (handed_on _ c.from_residual.ensures.1) (byte_missing _ _ _ _ _ _ (sym c.in_err-byte.ensures))
 
 pub returns-then-byte-end : goal.returns-then-byte-end
 unfolding byte_in

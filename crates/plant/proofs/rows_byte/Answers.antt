@@ -1,6 +1,6 @@
 -- `rows_byte` meets its contract: what `byte_at` found, and its one test; a byte is at most 255.
 use Rattle.std.proofs.Common.{rules, arith, sym}
-use Rattle.std.proofs.lemmas.Result.{err_from_is_err_and}
+use Rattle.plant.proofs.Exits.{handed_on}
 use Prim.Native.Nat.{◌+◌}
 use borrow.Author.Tests.{le-leb, lt-leb}
 use Rattle.plant.specs.Reading.{rows_byte}
@@ -10,8 +10,7 @@ use Rattle.plant.proofs.rows_byte.Goals as goal
 pub returns-in_err-count : goal.returns-in_err-count
 unfolding rows_byte
 returns-in_err-count c =
-    let p = err_from_is_err_and c.from_residual.result c.from_residual.ensures.1 in
-    rw (p.1, p.2) (byte_missing _ _ _ _ _ _ (sym c.in_err-count.ensures))
+    rw (handed_on _ c.from_residual.ensures.1) (byte_missing _ _ _ _ _ _ (sym c.in_err-count.ensures))
 
 pub returns-then-used-from-le1024 : goal.returns-then-used-from-le1024
 unfolding rows_byte

@@ -29,7 +29,7 @@ row_listed m s at =
     (taken_by (get_or s (at + 2) 0) (get_or s (at + 3) 0))
     (eqb (get_or s (at + 4) 0) 1)
 
--- What storing such a row asks of its numbers: they are there, and small.
+-- What is known of six numbers that pass: they are there, and small.
 pub record RowThere (s : List ℕ) (at : ℕ) : Type 0 where
   pub inside : at + 6 ≤ length s
   pub left : get_or s at 0 < 256

@@ -1,7 +1,9 @@
 -- What the private functions of quoting ask and give.
-use Rattle.std.specs.Prelude.{◌≡◌, Bool, List, [], ◌∷◌, ℕ, ◌≤◌, length}
+use Rattle.std.specs.Prelude.{◌≡◌, Bool, true, false, List, [], ◌∷◌, ℕ, ◌≤◌, length, Option, Some, None}
 use Rattle.livelock.specs.Plants.{Plant}
 use Rattle.livelock.specs.Figures.{Figures, ceiling_of}
+use Rattle.figures.specs.FigureSums.{figures_in}
+use Rattle.figures.specs.declared.Figures as Judged
 use Rattle.plant.specs.Found.{Found, found, fault}
 use Rattle.quoting.specs.Answers.{Answer, quoted, refused}
 use Rattle.price_classes.specs.Classes.{class_of}
@@ -29,3 +31,8 @@ quoted_for f ws contents g d (found P end) =
 abbrev pub OwedChecked : Bool → Figures → List ℕ → List ℕ → ℕ → ℕ → Answer → Type 0
 OwedChecked passes f ws contents g d a =
     (P : Plant) (end : ℕ) → P.types ≡ length ws → a ≡ quoted_for f ws contents g d (checked_passing contents (g ∷ d ∷ []) passes P end)
+
+-- It is said with the figures, if the weights have some; otherwise they do not pass, and no figures are in what is said.
+abbrev pub OwedPassing : Option Judged.Figures → List ℕ → List ℕ → ℕ → ℕ → Answer → Type 0
+OwedPassing (Some f) ws contents g d a = OwedChecked true (figures_in f) ws contents g d a
+OwedPassing None ws contents g d a = (f : Figures) → OwedChecked false f ws contents g d a

@@ -14,23 +14,23 @@ pub returns-then-not-goes_on : goal.returns-then-not-goes_on
 returns-then-not-goes_on c =
     let a = c.args in
     let l = c.loop-k in
-    let is = c.goes_on.ensures ∙ ap (λ (r : Row). goes_on r a.m l.state l.seen) c.row_in-row.ensures in
-    whole a.table.now a.m a.rows.now (ap (λ (r : Row). r.left) c.row_in-start.ensures)
-    (row_fails a.table.now a.rows.now a.m _ l.state l.seen l.k-index _ l.invariant.1 c.loop-k-test.true _ is c.if-not-goes_on.true)
+    let is = c.goes_on.ensures ∙ ap (λ (r : Row). goes_on r a.entry.machine l.state l.seen) c.row_in-row.ensures in
+    whole a.entry.table.now a.entry.machine a.entry.rows.now (ap (λ (r : Row). r.left) c.row_in-start.ensures)
+    (row_fails a.entry.table.now a.entry.rows.now a.entry.machine _ l.state l.seen l.k-index _ l.invariant.1 c.loop-k-test.true _ is c.if-not-goes_on.true)
 
 pub loop-k-preserved : goal.loop-k-preserved
 loop-k-preserved c =
     let a = c.args in
     let l = c.loop-k in
-    let is = c.goes_on.ensures ∙ ap (λ (r : Row). goes_on r a.m l.state l.seen) c.row_in-row.ensures in
+    let is = c.goes_on.ensures ∙ ap (λ (r : Row). goes_on r a.entry.machine l.state l.seen) c.row_in-row.ensures in
     let enters = ap (λ (r : Row). r.entered) c.row_in-row.ensures in (
       length-set l.seen _ _ ∙ l.invariant.0,
-      rw (c.from.ensures, enters) (row_passes a.table.now a.rows.now a.m _ l.state l.seen l.k-index _ l.invariant.1 c.loop-k-test.true _ is c.if-not-goes_on.false),
+      rw (c.from.ensures, enters) (row_passes a.entry.table.now a.entry.rows.now a.entry.machine _ l.state l.seen l.k-index _ l.invariant.1 c.loop-k-test.true _ is c.if-not-goes_on.false),
     )
 
 pub returns : goal.returns
 returns c =
     let a = c.args in
     let l = c.loop-k in
-    whole a.table.now a.m a.rows.now (ap (λ (r : Row). r.left) c.row_in-start.ensures)
-    (rows_done a.table.now a.rows.now a.m _ l.state l.seen l.k-index _ l.invariant.1 c.loop-k-test.false)
+    whole a.entry.table.now a.entry.machine a.entry.rows.now (ap (λ (r : Row). r.left) c.row_in-start.ensures)
+    (rows_done a.entry.table.now a.entry.rows.now a.entry.machine _ l.state l.seen l.k-index _ l.invariant.1 c.loop-k-test.false)

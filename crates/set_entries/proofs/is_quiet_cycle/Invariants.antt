@@ -6,4 +6,4 @@ use Rattle.set_entries.proofs.is_quiet_cycle.Given as goal
 abbrev pub invariant-loop-k : goal.invariant-loop-k
 invariant-loop-k l =
     (length l.seen ≡ 256)
-    × (leads l.table l.m l.start l.state l.seen (drop l.k-index l.rows) ≡ leads l.table l.m l.start l.start (replicate 256 false) l.rows)
+    × (leads l.entry.table.now l.entry.machine l.start l.state l.seen (drop l.k-index l.entry.rows.now) ≡ leads l.entry.table.now l.entry.machine l.start l.start (replicate 256 false) l.entry.rows.now)

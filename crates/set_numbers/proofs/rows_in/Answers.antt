@@ -15,7 +15,7 @@ returns-in-Err c =
 pub loop-i-preserved : goal.loop-i-preserved
 loop-i-preserved c =
     let a = c.args in
-    (omega arith, row_goes_on a.rows a.set.now a.at a.end c.loop-i.i (omega arith) c.loop-i.invariant.1 (omega arith) _ (sym c.in_default.ensures))
+    (omega arith, row_goes_on a.rows a.set.now a.at a.end c.loop-i.i (omega arith) c.loop-i.invariant.1 (omega arith) _ _ (sym c.in_default.ensures))
 
 pub returns-then-stop-end : goal.returns-then-stop-end
 returns-then-stop-end c =

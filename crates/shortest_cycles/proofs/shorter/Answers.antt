@@ -3,4 +3,4 @@ use Rattle.shortest_cycles.proofs.ShortestLaws.{search_wider}
 use Rattle.shortest_cycles.proofs.shorter.Goals as goal
 
 pub returns : goal.returns
-returns c = search_wider c.requires.0 c.requires.1 c.min.ensures c.show.result c.show.ensures
+returns c = search_wider c.args.edges.within c.requires c.min.ensures c.show.result c.show.ensures

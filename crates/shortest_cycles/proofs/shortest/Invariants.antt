@@ -5,7 +5,8 @@ use Rattle.shortest_cycles.proofs.shortest.Given as goal
 
 -- `shortest` meets its contract: before each turn, the shortest cycle of the machines before machine `from` was written.
 abbrev pub invariant-loop-next : goal.invariant-loop-next
-invariant-loop-next l = ShortestOf (plant_of l.shape l.table) l.weights l.from l.least l.rows × (l.from ≤ l.shape.machines)
+invariant-loop-next l =
+    ShortestOf (plant_of l.plant.decoded.shape l.plant.decoded.table.now) l.plant.weights.now l.from l.least l.rows × (l.from ≤ l.plant.decoded.shape.machines)
 
 abbrev pub decreases-loop-next : goal.decreases-loop-next
-decreases-loop-next l = l.shape.machines - l.from
+decreases-loop-next l = l.plant.decoded.shape.machines - l.from

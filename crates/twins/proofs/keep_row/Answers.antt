@@ -1,6 +1,6 @@
 -- `keep_row` meets its contract: by whether the key is kept.
 use Rattle.std.proofs.Common.{rules}
-use Rattle.twins.proofs.KeyLaws.{row_twin, row_fresh}
+use Rattle.twins.proofs.LentLaws.{row_twin, row_fresh}
 use Rattle.twins.proofs.keep_row.Goals as goal
 
 pub returns-then-is_kept : goal.returns-then-is_kept

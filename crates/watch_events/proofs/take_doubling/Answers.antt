@@ -1,6 +1,6 @@
 -- `take_doubling` meets its contract: each way out is one way to answer the event.
 use Rattle.std.proofs.Common.{sym, ◌∙◌}
-use Rattle.std.proofs.lemmas.Result.{err_from_is_err_and}
+use Rattle.plant.proofs.Exits.{handed_on}
 use Rattle.watched_runs.proofs.EventSteps.{steps_none_doubled}
 use Rattle.watch_events.proofs.StepLaws.{doubling_late, doubling_taken}
 use Rattle.watch_events.proofs.take_doubling.Goals as goal
@@ -11,8 +11,7 @@ returns-then-not-has_message c = λ table states copy. steps_none_doubled _ c.ar
 pub returns-in_err-count_event : goal.returns-in_err-count_event
 returns-in_err-count_event c =
     let held = sym c.has_message.ensures ∙ c.if-not-has_message.false in
-    let p = err_from_is_err_and c.from_residual.result c.from_residual.ensures.1 in
-    λ table states copy. rw (p.1, p.2) (doubling_late _ c.args.t held _ _ c.in_err-count_event.ensures)
+    λ table states copy. rw (handed_on _ c.from_residual.ensures.1) (doubling_late _ c.args.t held _ _ c.in_err-count_event.ensures)
 
 pub returns : goal.returns
 returns c =

@@ -1,6 +1,6 @@
 -- `take_row` meets its contract: each way out is one way to answer the event.
 use Rattle.std.proofs.Common.{sym, ◌∙◌}
-use Rattle.std.proofs.lemmas.Result.{err_from_is_err_and}
+use Rattle.plant.proofs.Exits.{handed_on}
 use Rattle.watched_runs.proofs.EventSteps.{steps_no_row, steps_cannot}
 use Rattle.watch_events.proofs.StepLaws.{held_row, row_late, row_taken}
 use Rattle.watch_events.proofs.take_row.Goals as goal
@@ -18,8 +18,7 @@ pub returns-in_err-count_row : goal.returns-in_err-count_row
 returns-in_err-count_row c =
     let held = sym c.has_row.ensures ∙ c.if-not-has_row.false in
     let can = rw c.if-not-row_can.false at c.row_can.ensures in
-    let p = err_from_is_err_and c.from_residual.result c.from_residual.ensures.1 in
-    λ copy. rw (p.1, p.2) (row_late _ c.args.k held _ c.row_in-row.ensures can _ _ c.in_err-count_row.ensures)
+    λ copy. rw (handed_on _ c.from_residual.ensures.1) (row_late _ c.args.k held _ c.row_in-row.ensures can _ _ c.in_err-count_row.ensures)
 
 pub returns : goal.returns
 returns c =

@@ -17,6 +17,14 @@ pub record Widened (xs wide : List ℕ) (n : ℕ) : Type 0 where
   pub front : (t : ℕ) → t < n → get_or wide t 0 ≡ get_or xs t 0
   pub behind : (t : ℕ) → n ≤ t → get_or wide t 0 ≡ 0
 
+-- The weights pass in the plant that a file reads as,
+abbrev pub Passing : (file ws : List ℕ) → Type 0
+Passing file ws = (P : Plant) × (end : ℕ) × (judged_weights file ws ≡ found P end) × Passes P ws
+
+-- and a file reads as a plant.
+abbrev pub Readable : List ℕ → Type 0
+Readable file = (P : Plant) × (end : ℕ) × (read_plant file ≡ found P end)
+
 -- The figures of weights that pass.
 abbrev pub FiguresFor : (file ws : List ℕ) → Figures → Type 0
 FiguresFor file ws f = (P : Plant) (end : ℕ) → judged_weights file ws ≡ found P end → Passes P ws → figures_in f ≡ figures_of P ws

@@ -1,30 +1,13 @@
-use mathlib.Core.Path.{sym}
-use native.Mathlib.Omega.{arith}
-use Rattle.figures.proofs.FigureLaws.{states_limit}
-use Rattle.machines.proofs.TurnLaws.{machines_are}
-use Rattle.weighing.proofs.WeighingLaws.{most_is, none_fails, failing_verdict, passing_verdict}
+use Rattle.machines.proofs.TurnLaws.{weighable}
+use Rattle.weighing.proofs.WeighingLaws.{none_fails, failing_verdict, passing_verdict}
 use Rattle.weighing.proofs.judge_table.Goals as goal
 
 -- `judge_table` meets its contract: the weights pass exactly where no machine fails.
-pub slice_bounds-states-end : goal.slice_bounds-states-end
-slice_bounds-states-end c = let few = c.requires.0.ready.sound.few_machines in omega (arith, few)
-
-pub slice_bounds-figures_of-end : goal.slice_bounds-figures_of-end
-slice_bounds-figures_of-end c = sym (machines_are _ _ _ c.requires.0)
-
-pub figures_of-figures-requires : goal.figures_of-figures-requires
-figures_of-figures-requires c = let limits = c.requires.0.limits in (limits.some_machine, limits.few_machines, λ m l. (states_limit _ limits m l).0)
-
-pub first_failing-first-requires : goal.first_failing-first-requires
-first_failing-first-requires c =
-    let p = c.requires in
-    (p.0, omega arith, most_is _ _ _ p.0 c.figures_of-figures.result c.figures_of-figures.ensures, p.1)
-
 pub returns-in-None : goal.returns-in-None
 returns-in-None c =
-    let ok = c.requires.0 in
-    let figures = c.figures_of-figures in
-    passing_verdict _ _ _ ok figures.result figures.ensures (none_fails _ _ _ ok c.in-None.ensures)
+    let w = c.args.plant.now in
+    let ok = weighable w in
+    passing_verdict _ _ _ ok w.figures w.figures_are (none_fails _ _ _ ok c.in-None.ensures)
 
 pub returns-in-Some : goal.returns-in-Some
-returns-in-Some c = failing_verdict _ _ _ c.requires.0 _ c.in-Some.ensures
+returns-in-Some c = failing_verdict _ _ _ (weighable c.args.plant.now) _ c.in-Some.ensures

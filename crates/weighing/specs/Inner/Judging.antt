@@ -1,5 +1,5 @@
--- What the private functions that weigh a table give.
-use Rattle.std.specs.Prelude.{List, ℕ}
+-- What the private functions that weigh a table ask and give.
+use Rattle.std.specs.Prelude.{List, ℕ, ◌*◌, ◌≤◌, min}
 use Rattle.plant.specs.Found.{found}
 use Rattle.decoding.specs.Tables.{plant_of}
 use Rattle.decoding.specs.declared.Shape.{Shape}
@@ -13,3 +13,7 @@ OwedTable s table ws before after a = (end : ℕ) → Owed ws before after a (fo
 -- and the verdict.
 abbrev pub OwedTableVerdict : Shape → (table ws : List ℕ) → Judgement → Type 0
 OwedTableVerdict s table ws v = (end : ℕ) → OwedVerdict ws v (found (plant_of s table) end)
+
+-- A table of so many bytes has room for the rows of a file of n bytes, and a list of so many edges for those of a machine. Neither is larger than any file needs.
+abbrev pub RoomToWeigh : (n bytes edges : ℕ) → Type 0
+RoomToWeigh n bytes edges = (8 * min 1024 n ≤ bytes) × (bytes ≤ 8192) × (min 2048 bytes ≤ 8 * edges) × (edges ≤ 256)

@@ -1,37 +1,31 @@
 -- `write_plant` meets its contract: two counts are judged and stored, then the machines, and then the list ends.
 use mathlib.Core.Path.{sym}
-use Prim.Native.Nat.{◌+◌, ◌*◌}
 use native.Mathlib.Omega.{arith}
-use Rattle.std.specs.Prelude.{Ok}
-use Rattle.std.proofs.lemmas.Result.{err_from_is_err_and}
-use Rattle.plant.specs.Limits.{most_row_bytes, longest_file}
+use Rattle.std.proofs.Common.{rules}
+use Rattle.plant.proofs.Exits.{handed_on}
 use Rattle.plant_lists.proofs.NumberLaws.{found_inside, below_end}
-use Rattle.writing.proofs.MachineLaws.{near_more}
-use Rattle.writing.proofs.PlantLaws.{no_machine_count, no_type_count, plant_is, end_near}
+use Rattle.writing.proofs.PlantLaws.{no_machine_count, no_type_count, no_machine, no_end, plant_is}
 use Rattle.writing.proofs.write_plant.Goals as goal
 
-pub returns-in_err-machines : goal.returns-in_err-machines
-returns-in_err-machines c =
-    let p = err_from_is_err_and c.from_residual.result c.from_residual.ensures.1 in
-    rw (p.1, p.2) (record { plant_stored = no_machine_count c.args.numbers.now _ _ _ (sym c.in_err-machines.ensures); near = tt })
+pub returns-in_err-machines-clause-plant_stored : goal.returns-in_err-machines-clause-plant_stored
+returns-in_err-machines-clause-plant_stored c =
+    rw (handed_on _ c.from_residual.ensures.1) (no_machine_count c.args.numbers.now _ _ _ (sym c.in_err-machines.ensures))
 
-pub returns-in_err-types : goal.returns-in_err-types
-returns-in_err-types c =
-    let r = c.from_residual-in_err-types in
-    let p = err_from_is_err_and r.result r.ensures.1 in
-    rw (p.1, p.2) (record { plant_stored = no_type_count c.args.numbers.now _ _ _ _ (sym c.in_ok-machines.ensures) _ (sym c.in_err-types.ensures); near = tt })
+pub returns-in_err-types-clause-plant_stored : goal.returns-in_err-types-clause-plant_stored
+returns-in_err-types-clause-plant_stored c =
+    rw (handed_on _ c.from_residual-in_err-types.ensures.1) (no_type_count c.args.numbers.now _ _ _ _ (sym c.in_ok-machines.ensures) _ (sym c.in_err-types.ensures))
 
-pub put-after_machines-requires : goal.put-after_machines-requires
-put-after_machines-requires c =
+pub put-requires : goal.put-requires
+put-requires c =
     let first = found_inside _ _ _ _ _ (sym c.in_ok-machines.ensures) in
     let second = found_inside _ _ _ _ _ (sym c.in_ok-types.ensures) in
     omega (arith, first.1, second.0, c.requires.0)
 
-pub put-after_types-requires : goal.put-after_types-requires
-put-after_types-requires c =
+pub put-requires-2 : goal.put-requires-2
+put-requires-2 c =
     let first = found_inside _ _ _ _ _ (sym c.in_ok-machines.ensures) in
     let second = found_inside _ _ _ _ _ (sym c.in_ok-types.ensures) in
-    omega (arith, first.1, second.0, c.put-after_machines.ensures.upper_bound, c.put-after_machines.auto.file, c.requires.0)
+    omega (arith, first.1, second.0, c.put.ensures.upper_bound, c.put.ensures.long, c.requires.0)
 
 pub write_machines-requires : goal.write_machines-requires
 write_machines-requires c =
@@ -39,34 +33,33 @@ write_machines-requires c =
     let second = found_inside _ _ _ _ _ (sym c.in_ok-types.ensures) in (
       omega (arith, below_end 0 65 _ _ _ _ (sym c.in_ok-types.ensures)),
       record {
-        space = omega (arith, c.requires.0, c.put-after_machines.auto.file, c.put-after_types.auto.file);
+        space = omega (arith, c.requires.0, c.put.ensures.long, c.put-2.ensures.long);
         inside = omega (arith, second.0, second.1);
-        behind = omega (arith, first.1, second.1, c.put-after_machines.ensures.upper_bound, c.put-after_types.ensures.upper_bound);
+        behind = omega (arith, first.1, second.1, c.put.ensures.upper_bound, c.put-2.ensures.upper_bound);
         within =
-            omega (arith, c.from-n.ensures, below_end 1 17 _ _ _ _ (sym c.in_ok-machines.ensures), c.put-after_machines.ensures.upper_bound, c.put-after_types.ensures.upper_bound);
+            omega (arith, c.from-n.ensures, below_end 1 17 _ _ _ _ (sym c.in_ok-machines.ensures), c.put.ensures.upper_bound, c.put-2.ensures.upper_bound);
       },
       c.requires.1,
     )
 
-pub returns-in_err-end : goal.returns-in_err-end
-returns-in_err-end c =
-    let r = c.from_residual-in_err-end in
-    let p = err_from_is_err_and r.result r.ensures.1 in
-    rw (p.1, p.2) (record {
-      plant_stored = plant_is c.args.numbers.now _ _ _ _ (sym c.in_ok-machines.ensures) _ _ (sym c.in_ok-types.ensures) _ _ _ _ _ c.put-after_machines.ensures.stored c.put-after_types.ensures.stored
-          (rw c.from-n.ensures at c.in_err-end.ensures.machines_stored);
-      near = tt;
-    })
+pub returns-in_err-end-clause-plant_stored : goal.returns-in_err-end-clause-plant_stored
+returns-in_err-end-clause-plant_stored c =
+    rw (handed_on _ c.from_residual-in_err-end.ensures.1) (no_machine c.args.numbers.now _ _ _ _ (sym c.in_ok-machines.ensures) _ _ (sym c.in_ok-types.ensures) _ _ _ _ _
+    (rw c.from-n.ensures at c.in_err-end.ensures.machines_stored))
 
-pub returns : goal.returns
-returns c =
-    let s = c.args.numbers.now in
-    let n = c.in_ok-machines.machines.value in
-    let near = near_more s (c.put-after_types.result + (2 * n + most_row_bytes * 1024)) longest_file (Ok c.in_ok-end.end)
-    (omega (arith, below_end 1 17 _ _ _ _ (sym c.in_ok-machines.ensures), c.put-after_machines.ensures.upper_bound, c.put-after_types.ensures.upper_bound))
-    (rw c.from-n.ensures at c.in_ok-end.ensures.near) in
-    rw c.list_end.ensures (record {
-      plant_stored = plant_is s _ _ _ _ (sym c.in_ok-machines.ensures) _ _ (sym c.in_ok-types.ensures) _ _ _ _ _ c.put-after_machines.ensures.stored c.put-after_types.ensures.stored
-          (rw c.from-n.ensures at c.in_ok-end.ensures.machines_stored);
-      near = end_near s longest_file (Ok c.in_ok-end.end) near;
-    })
+pub returns-in_err-list_end-clause-plant_stored : goal.returns-in_err-list_end-clause-plant_stored
+returns-in_err-list_end-clause-plant_stored c =
+    rw (handed_on _ c.from_residual-in_err-list_end.ensures.1) (no_end c.args.numbers.now _ _ _ _ (sym c.in_ok-machines.ensures) _ _ (sym c.in_ok-types.ensures) _ _ _ _ _
+    (rw c.from-n.ensures at c.in_ok-end.ensures.machines_stored) _ c.in_err-list_end.ensures)
+
+pub returns-clause-plant_stored : goal.returns-clause-plant_stored
+returns-clause-plant_stored c =
+    plant_is c.args.numbers.now _ _ _ _ (sym c.in_ok-machines.ensures) _ _ (sym c.in_ok-types.ensures) _ _ _ _ _
+    (rw c.from-n.ensures at c.in_ok-end.ensures.machines_stored) _ _ c.put.ensures.stored c.put-2.ensures.stored c.in_ok-list_end.ensures (search rules)
+
+pub returns-clause-near : goal.returns-clause-near
+returns-clause-near c =
+    let near = c.in_ok-end.ensures.near in (
+      omega (arith, near),
+      omega (arith, near, c.from-n.ensures, below_end 1 17 _ _ _ _ (sym c.in_ok-machines.ensures), c.put.ensures.upper_bound, c.put-2.ensures.upper_bound),
+    )

@@ -4,17 +4,10 @@ use mir.Facts.{to_z_pos, to_z-of_z}
 use Rattle.deciding.proofs.SignLaws.{along_fits, greater}
 use Rattle.deciding.proofs.relaxing.raised.Goals as goal
 
--- `raised` meets its contract: the sum fits 64 bits, and the greater number is taken.
-pub overflow_cast-along : goal.overflow_cast-along
-overflow_cast-along c = record { sfits = omega (arith, c.requires.1) }
-
 pub overflow_add-along : goal.overflow_add-along
 overflow_add-along c =
     rw (to_z_pos w64 {n = c.args.next} (omega (arith, c.requires.1)), to_z-of_z c.ranges.length)
     (along_fits c.args.next c.args.length c.requires.1 c.requires.2 c.requires.3)
-
-pub overflow_cast-at : goal.overflow_cast-at
-overflow_cast-at c = record { sfits = omega (arith, c.requires.0) }
 
 pub overflow_cast-result : goal.overflow_cast-result
 overflow_cast-result c =

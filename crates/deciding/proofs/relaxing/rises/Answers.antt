@@ -3,21 +3,14 @@ use native.Mathlib.Omega.{arith}
 use lib.IntN.{pos, ◌+ℤ◌}
 use mir.Syntax.{w64}
 use mir.Facts.{to_z_pos, to_z-of_z}
-use Rattle.deciding.specs.Signs.{rise, fall}
+use Rattle.edge_lists.specs.Signs.{rise, fall}
 use Rattle.deciding.proofs.SignLaws.{difference_test, difference_sum_of, along_fits, along_is}
 use Rattle.deciding.proofs.relaxing.rises.Goals as goal
-
--- `rises` meets its contract: the sum fits 64 bits, and the test is that of the numbers.
-pub overflow_cast-result : goal.overflow_cast-result
-overflow_cast-result c = record { sfits = omega (arith, c.requires.1) }
 
 pub overflow_add-result : goal.overflow_add-result
 overflow_add-result c =
     rw (to_z_pos w64 {n = c.args.next} (omega (arith, c.requires.1)), to_z-of_z c.ranges.length)
     (along_fits c.args.next c.args.length c.requires.1 c.requires.2 c.requires.3)
-
-pub overflow_cast-result-2 : goal.overflow_cast-result-2
-overflow_cast-result-2 c = record { sfits = omega (arith, c.requires.0) }
 
 pub returns : goal.returns
 returns c =

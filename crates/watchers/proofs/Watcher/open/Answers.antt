@@ -1,6 +1,11 @@
 -- `Watcher::open` meets its contract: by the answer of quoting.
-use Rattle.watchers.proofs.OpeningLaws.{lengths, opens_refused, opens_quoted}
+use Rattle.watchers.proofs.OpeningLaws.{passing, lengths, opens_refused, opens_quoted}
 use Rattle.watchers.proofs.Watcher.open.Goals as goal
+
+pub figures_for-requires : goal.figures_for-requires
+figures_for-requires c =
+    let a = c.args in
+    passing a.file.now a.weights.now a.contents.now _ _ c.in-Ok.ensures
 
 pub begun-requires : goal.begun-requires
 begun-requires c =

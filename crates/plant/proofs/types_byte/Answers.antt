@@ -1,5 +1,0 @@
--- `types_byte` meets its contract: a byte in its range.
-use Rattle.plant.proofs.types_byte.Goals as goal
-
-pub returns : goal.returns
-returns c = c.byte_in.ensures

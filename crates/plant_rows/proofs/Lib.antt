@@ -1,0 +1,2 @@
+-- Laws of a row that was read.
+pub mod FieldLaws

@@ -1,9 +1,0 @@
-use Rattle.edge_lists.specs.EdgeLists.{edge_in}
-use Rattle.deciding.specs.Rounds.{edge_graph}
-use Rattle.searching.proofs.SearchLaws.{Walking}
-use Rattle.searching.proofs.show_noted.Given as goal
-
--- `show_noted` meets its contract: without a cycle of so few edges nothing is written; else, after i turns, the rows of a walk of i edges from the start
--- are written, and a heaviest walk leads on from its end.
-abbrev pub invariant-loop-i : goal.invariant-loop-i
-invariant-loop-i l = Walking (edge_graph l.edges) (λ e. (edge_in l.edges e).row) l.initial.s l.k l.initial.cycle l.s l.i l.cycle

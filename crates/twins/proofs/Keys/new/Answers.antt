@@ -1,0 +1,5 @@
+use Rattle.twins.proofs.KeptLaws.{none_kept}
+use Rattle.twins.proofs.Keys.new.Goals as goal
+
+pub returns-clause-kept : goal.returns-clause-kept
+returns-clause-kept g c = none_kept _ c.new.ensures

@@ -1,0 +1,2 @@
+-- The events of the theory.
+pub mod Events
