@@ -1,5 +1,5 @@
 -- A configuration in lists of states and of contents, and what the functions over such lists give.
-use Rattle.std.specs.Prelude.{◌≡◌, Bool, true, List, ℕ, ◌≤◌, ◌<◌, ◌^◌, length, get_or, Option}
+use Rattle.std.specs.Prelude.{◌≡◌, Bool, true, List, ℕ, ◌+◌, ◌-◌, ◌≤◌, ◌<◌, ◌^◌, min, length, get_or, set, Option}
 use Rattle.std.specs.Option.{ForSome}
 use Rattle.livelock.specs.Plants.{Plant, row_at, row_count}
 use Rattle.livelock.specs.Runs.{Configuration, row, removed, added, can_happen, changed}
@@ -27,9 +27,11 @@ pub record Removes (message : Option ℕ) (before after : List ℕ) : Type 0 whe
   pub removes : content_in after ≡ removed (content_in before) message
   pub long : length after ≡ length before
 
--- "adds … its one message", if there is one, where there is room for it; of a type without a place in the list none is added.
+-- "adds … its one message", if there is one, where there is room for it; a sum stops at 2^64 - 1, whatever the list holds; of a type without a place in
+-- the list none is added.
 pub record Adds (message : Option ℕ) (before after : List ℕ) : Type 0 where
   pub adds : Room before → ForSome message (λ t. t < length before) → content_in after ≡ added (content_in before) message
+  pub capped : ForSome message (λ t. t < length before → after ≡ set before t (min (get_or before t 0 + 1) (2 ^ 64 - 1)))
   pub behind : ForSome message (λ t. length before ≤ t) → after ≡ before
   pub long : length after ≡ length before
 

@@ -1,7 +1,7 @@
 // One entry of a listing, stored in a lent list: the row count and the rows of a cycle. No entry point: `cycle_paths` calls it.
 #![tactic(auto)]
 
-ghost use Rattle.std.specs.Prelude.{◌≡◌, suc, ◌+◌, ◌≤◌, ◌<◌, ◌^◌, length};
+ghost use Rattle.std.specs.Prelude.{◌≡◌, suc, ◌+◌, ◌≤◌, ◌<◌, ◌^◌, length, IsNone};
 ghost use Rattle.std.proofs.lemmas.List.Edits.{sets};
 ghost use Rattle.cycle_entries.specs.Entries.{entry_of, used_if, Added};
 
@@ -28,11 +28,12 @@ impl Listing<'_> {
         self.used = last + 1;
     }
 
-    // Adds a cycle to the entries so far, if the list has room for it.
+    // Adds a cycle to the entries so far, if the list has room for it; else they are as many as before.
     pub fn add_cycle(&mut self, path: &[u16], row: u16) -> Option<()>
         requires { (length path.now ≤ 24) × (self.old.used ≤ suc (length self.old.list.now)) × (length self.old.list.now < 2 ^ 63) }
         ensures same_list { self.new.list.ghost_name ≡ self.old.list.ghost_name }
         ensures same_length { length self.new.list.now ≡ length self.old.list.now }
+        ensures none_used { IsNone result → self.new.used ≡ self.old.used }
         ensures added { Added (length self.old.list.now) self.old.list.now self.old.used (entry_of path.now row) (used_if result self.new.used) self.new.list.now }
     {
         if self.used + path.len() + 2 > self.list.len() {

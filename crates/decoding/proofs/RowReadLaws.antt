@@ -53,6 +53,16 @@ module _ (n m states types used : ℕ) (s : List ℕ) (before : List Row → Typ
         rest = rw sub-zero;
       }
 
+  -- Of no rows it is what was found.
+  pub rows_none : n ≤ 0 → FoundWith (λ q end. (end ≡ 0) × RowsMore p n used before before q) (read_rows n m states 0 s 0 p)
+  rows_none none =
+      record {
+        plant = p;
+        end = 0;
+        is = rows_done m states 0 0 s n 0 _ p none (rw sub-zero);
+        holds = (refl, record { types = refl; states = refl; rows = omega (arith, none); kept = λ u h. h });
+      }
+
   module _ (after : List Row → Type 0) {N : ℕ} (keys : Keys N) (at implied i : ℕ) (g : RowsLeft n m states types used s before p after keys at implied i) where
     -- The row at `at`, with the types of the plant so far.
     row_is : (x : Found Row) → read_row m states types implied s at ≡ x → read_row m states g.plant.types implied s at ≡ x

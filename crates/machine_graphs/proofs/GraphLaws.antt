@@ -70,7 +70,7 @@ begun_none table last graph few g =
       copied = none_copied table last (left_of graph) (entered_of graph);
       links = linked_none (leaving table) (next_of graph) (head_of graph) last (omega (arith, few, next_long graph)) (omega (arith, g.head_long)) g.no_head;
       from = sources_none (leaving table) (entering table) (into_of graph) last;
-      pairs = between_none (leaving table) (entering table) (between_of graph) last g.no_pair;
+      pairs = between_none (leaving table) (entering table) (between_of graph) last (λ s t b d. g.no_pair s t b (omega (arith, d)));
       last_is = g.last_is;
     }
 

@@ -23,7 +23,7 @@ pub no_pair_room : PairRoom (replicate 24 (replicate 32 0))
 no_pair_room = record { rows = refl; long = λ s b. ap (λ (row : List ℕ). length row) (get_or-replicate 24 s (replicate 32 0) [] b) }
 
 -- and none in it.
-pub no_pairs : (s t : ℕ) → s < 24 → t < 24 → pair (replicate 24 (replicate 32 0)) s t ≡ 0
+pub no_pairs : (s t : ℕ) → s < 24 → t < 32 → pair (replicate 24 (replicate 32 0)) s t ≡ 0
 no_pairs s t b d = ap (λ (row : List ℕ). get_or row t 0) (get_or-replicate 24 s (replicate 32 0) [] b) ∙ get_d_replicate_default 32 0 t
 
 -- ---- one more for a pair

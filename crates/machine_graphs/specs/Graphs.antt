@@ -26,7 +26,7 @@ pub record NoRows (last : ℕ) (graph : Graph) : Type 0 where
   pub into_long : length (into_of graph) ≡ 32
   pub between_long : PairRoom (between_of graph)
   pub no_head : (s : ℕ) → s < 24 → get_or (head_of graph) s 0 ≡ last
-  pub no_pair : (s t : ℕ) → s < 24 → t < 24 → pair (between_of graph) s t ≡ 0
+  pub no_pair : (s t : ℕ) → s < 24 → t < 32 → pair (between_of graph) s t ≡ 0
   pub last_is : last_of graph ≡ last
 
 -- Two columns have the states that the rows of a table from `first` up to, and not including, `last` leave and enter.

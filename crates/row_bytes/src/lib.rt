@@ -11,10 +11,10 @@ ghost use Rattle.row_bytes.specs.Stores.{Stored};
 use plant_rows::RowFields;
 
 // The map byte of a row before which a state is implied.
-fn map_of(row: &RowFields, implied: u8) -> u8
+fn map_of(row: &RowFields, implied: u16) -> u8
     ensures { (m : ℕ) → result ≡ shortest_map implied (fields_row m row.now) }
 {
-    let states = u8::from(row.left != implied) + u8::from(row.entered != row.left) * 2;
+    let states = u8::from(u16::from(row.left) != implied) + u8::from(row.entered != row.left) * 2;
     let types = u8::from(row.sent.is_some()) * 4 + u8::from(row.taken.is_some()) * 8;
     states + types + u8::from(row.progress) * 16
 }
@@ -51,7 +51,7 @@ impl PlantFile<'_> {
     }
 
     // Stores a row before which a state is implied.
-    pub fn put_row(&mut self, row: &RowFields, implied: u8)
+    pub fn put_row(&mut self, row: &RowFields, implied: u16)
         requires { self.old.end + most_row_bytes ≤ length self.old.bytes.now }
         ensures same_list { self.new.bytes.ghost_name ≡ self.old.bytes.ghost_name }
         ensures by_index { (m : ℕ) → Stored self.old.bytes.now self.new.bytes.now self.old.end (row_bytes implied (fields_row m row.now)) self.new.end }
@@ -59,7 +59,7 @@ impl PlantFile<'_> {
         ensures long { length self.new.bytes.now ≡ length self.old.bytes.now }
     {
         self.put(map_of(row, implied), true);
-        self.put(row.left, row.left != implied);
+        self.put(row.left, u16::from(row.left) != implied);
         self.put(row.entered, row.entered != row.left);
         self.put_type(row.sent);
         self.put_type(row.taken);

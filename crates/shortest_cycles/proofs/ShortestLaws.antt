@@ -1,7 +1,7 @@
 -- Laws of the shortest cycle: one machine after the other is searched, and the rows are copied.
 use mathlib.Core.Path.{◌≡◌, refl, sym, ap, ◌∙◌, subst}
 use mathlib.Core.Bool.{true}
-use Rattle.std.specs.Prelude.{Option, Some, None, is_some}
+use Rattle.std.specs.Prelude.{Option, Some, None, is_some, IsSomeAnd}
 use Rattle.std.specs.Option.{unwrap_or}
 use mathlib.Core.List.{List, ◌++◌, map}
 use Prim.Native.Nat.{ℕ, ◌+◌, ◌-◌, ◌≤◌, ◌<◌, min}
@@ -133,11 +133,14 @@ module _ (s : Shape) (table ws : List ℕ) (ok : Weighable s table ws) where
           shown = subst (λ (y : List ℕ). FailingCycle (plant_of s table) ws (take least y)) (sym r.kept) h.shown;
         }
 
-  -- The first machine that fails is searched up to its number of states. It has a cycle that is zero or more (`search_some`), so one was written.
-  pub first_searched : {size k : ℕ} (f : Failing) {edges : List Edge} {before after : List ℕ} → FirstFailing s table ws 0 (Some f) edges → EdgesIn size (take f.count edges)
-      → ShownWithin (take f.count edges) size (Some k) before after → ShortestOf (plant_of s table) ws (f.machine + 1) k after
-  first_searched f failing in-edges r =
+  -- The first machine that fails is searched up to its number of states. It has a cycle that is zero or more, so one was written.
+  pub first_searched : {size : ℕ} (f : Failing) {edges : List Edge} (r : Option ℕ) {before after : List ℕ} → FirstFailing s table ws 0 (Some f) edges → EdgesIn size (take f.count edges)
+      → ShownWithin (take f.count edges) size r before after → IsSomeAnd r (λ k. ShortestOf (plant_of s table) ws (f.machine + 1) k after)
+  first_searched f (Some k) failing in-edges r =
       own_searched f.machine failing.fails.there failing.fails.rows (λ c g l. none_passing (Some f) failing g l (omega arith)) in-edges r
+  first_searched f None failing in-edges r =
+      let x = failing.fails.rows.zero_or_more in
+      absurd (omega (arith, r.fewest x.0 x.1 x.2, cycle_few (edges_searchable in-edges) x.0 x.1))
 
   -- One turn: the next machine that fails is searched.
   pub turn_searched : {from least : ℕ} (f : Failing) {edges : List Edge} (r : Option ℕ) {before after : List ℕ} → FirstFailing s table ws from (Some f) edges

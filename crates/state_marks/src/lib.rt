@@ -44,7 +44,8 @@ fn turned(bits: u32, state: u32) -> u32
 }
 
 // The marks, with dead ends marked as well: the states from which no path over states that are not marked leads back to `start`. The
-// others, `live`, are found backward from `start`; `todo` has those of them whose sources are not yet in `live`. Each state is to do at most once.
+// others, `live`, are found backward from `start`; `todo` has those of them whose sources are not yet in `live`. Each state is to do at most
+// once, and one turn more sees that none is.
 pub fn without_dead_ends(graph: &Graph, start: u8, marks: u32) -> u32
     requires { start < 24 }
     ensures { Closed (into_of graph.now) start (marks_of 24 marks) (marks_of 24 result) }
@@ -52,7 +53,7 @@ pub fn without_dead_ends(graph: &Graph, start: u8, marks: u32) -> u32
     let free = marks ^ ALL;
     let mut live = graph.into_of(usize::from(start)) & free;
     let mut todo = live;
-    for _ in 0..24 {
+    for _ in 0..25 {
         if todo == 0 {
             return marks | (live ^ ALL);
         }

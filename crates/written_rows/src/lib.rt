@@ -44,7 +44,7 @@ pub fn write_rows(
         };
         left = kept;
         file.put_row(&row.value, implied);
-        implied = row.value.left;
+        implied = u16::from(row.value.left);
         at = row.next;
     }
     Ok(at)

@@ -29,17 +29,17 @@ returns-in_err-count-clause-machine g c =
     let e = err_from_is_err_and r.result r.ensures.1 in
     λ p t u m numbered held. rw (e.1, e.2) (no_rows _ _ p _ _ _ u (sym c.in_ok-states.ensures) _ _ (sym c.in_err-count.ensures))
 
-pub slice_bounds-read_rows-count : goal.slice_bounds-read_rows-count
-slice_bounds-read_rows-count g c = (each_found _ _ (rows_byte_each _ _ _) (sym c.in_ok-count.ensures)).0.inside
+pub slice_bounds-read_any_rows-count : goal.slice_bounds-read_any_rows-count
+slice_bounds-read_any_rows-count g c = (each_found _ _ (rows_byte_each _ _ _) (sym c.in_ok-count.ensures)).0.inside
 
-pub slice_bounds-read_rows-start : goal.slice_bounds-read_rows-start
-slice_bounds-read_rows-start g c = (each_found _ _ (rows_byte_each _ _ _) (sym c.in_ok-count.ensures)).0.inside
+pub slice_bounds-read_any_rows-start : goal.slice_bounds-read_any_rows-start
+slice_bounds-read_any_rows-start g c = (each_found _ _ (rows_byte_each _ _ _) (sym c.in_ok-count.ensures)).0.inside
 
-pub read_rows-requires : goal.read_rows-requires
-read_rows-requires g c =
+pub read_any_rows-requires : goal.read_any_rows-requires
+read_any_rows-requires g c =
     let file = c.args.file.now in
     let from = c.in_ok-count.count.next in
-    let e = count_read g (goal.at.read_rows-requires g c).After-from-n in
+    let e = count_read g (goal.at.read_any_rows-requires g c).After-from-n in
     let r = each_found _ _ (rows_byte_each _ _ _) e in
     let s = given_found _ _ (byte_takes file c.args.at 1 65 3 (omega arith) (omega arith)) (sym c.in_ok-states.ensures) in
     let t = given_found _ _ (rows_byte_takes file _ _) e in

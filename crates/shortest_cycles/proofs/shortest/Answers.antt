@@ -1,5 +1,5 @@
 use native.Mathlib.Omega.{arith}
-use Rattle.std.specs.Prelude.{None}
+use Rattle.std.specs.Prelude.{Some, None}
 use Rattle.machines.proofs.TurnLaws.{weighable}
 use Rattle.shortest_cycles.proofs.ShortestLaws.{search_some, first_searched, turn_searched, passing_skipped}
 use Rattle.shortest_cycles.proofs.shortest.Goals as goal
@@ -12,7 +12,7 @@ pub loop-next-init : goal.loop-next-init
 loop-next-init c =
     let list = c.edges-list in
     let shown = rw (c.unwrap-least.ensures, list.ensures.list) at c.show.ensures in (
-      first_searched _ _ _ (weighable c.args.plant.now) c.args.first c.requires.failing (rw list.ensures.list at list.result.within) shown,
+      first_searched _ _ _ (weighable c.args.plant.now) c.args.first (Some _) c.requires.failing (rw list.ensures.list at list.result.within) shown,
       omega (arith, c.requires.failing.fails.there),
     )
 

@@ -64,8 +64,9 @@ loop-i-preserved c =
       record {
         going =
             λ m p t none.
-            row_next a.n m a.states a.start a.numbers.now p a.file.now.bytes.now a.file.now.end l.i l.at l.file.bytes.now l.file.end l.implied l.keys l.left (i.going m p t none) (omega (arith, c.loop-i-test.true)) row.value (fields_row m row.value) row.next _ _ _ _ refl refl
-            (rw t (sym (c.in_ok-row.ensures m))) c.in-Some.ensures (put.by_index m);
+            rw c.from-implied.ensures
+            (row_next a.n m a.states a.start a.numbers.now p a.file.now.bytes.now a.file.now.end l.i l.at l.file.bytes.now l.file.end l.implied l.keys l.left (i.going m p t none) (omega (arith, c.loop-i-test.true)) row.value (fields_row m row.value) row.next _ _ _ _ refl refl
+            (rw t (sym (c.in_ok-row.ensures m))) c.in-Some.ensures (put.by_index m));
         within = omega (arith, c.loop-i-test.true);
         reached = omega (arith, there, i.reached);
         inside = there.1;
