@@ -4,12 +4,11 @@
 
 ghost use Rattle.edge_lists.specs.EdgeLists.{EdgesIn};
 
-// An edge: the state that it leaves, the state that it enters, its weight, and the number of its row. It has eight bytes, so that an index alone says where
-// it stands: with states of eight bits it had six, and deciding took up to 1.25 times as long.
+// An edge: the state that it leaves, the state that it enters, its weight, and the number of its row.
 #[derive(Clone, Copy, Debug, Default, PartialEq, Eq)]
 pub struct Edge {
-    pub from: u16,
-    pub to: u16,
+    pub from: u8,
+    pub to: u8,
     pub weight: i16,
     pub row: u16,
 }

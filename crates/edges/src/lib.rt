@@ -41,8 +41,8 @@ pub fn edges_of(table: &[u8], rows: Range<usize>, weights: &[u16], edges: &mut [
         let row = tables::row_in(table, k);
         let weight = row_weight(row, weights);
         edges[count] = Edge {
-            from: u16::from(row.fields.left),
-            to: u16::from(row.fields.entered),
+            from: row.fields.left,
+            to: row.fields.entered,
             weight: weight as i16,
             row: k as u16,
         };

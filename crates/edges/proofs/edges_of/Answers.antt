@@ -18,5 +18,5 @@ loop-k-preserved c =
     let listed = next_listed _ _ _ x.k x.count x.edges x.invariant.2 x.invariant.0 room row.result row.ensures weight.result weight.ensures in (
       omega (arith, x.invariant.0),
       omega (arith, c.from-count.ensures, one_at_most (not row.result.fields.progress), x.invariant.1),
-      rw (c.from-count.ensures, c.from.ensures, c.from-in-loop-k.ensures, to_z-of_z {w = w64} {z = weight.result} (record { sfits = weight.type_inv }), to_z-of_z {w = w16} {z = weight.result} fits) listed,
+      rw (c.from-count.ensures, to_z-of_z {w = w64} {z = weight.result} (record { sfits = weight.type_inv }), to_z-of_z {w = w16} {z = weight.result} fits) listed,
     )
