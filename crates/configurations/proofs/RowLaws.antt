@@ -14,7 +14,7 @@ use Rattle.livelock.specs.Runs.{row, update, present, removed, added, can_happen
 use Rattle.livelock.proofs.SumLaws.{update_same, update_other}
 use Rattle.tables.specs.Tables.{row_of}
 use Rattle.tables.specs.declared.TableRow.{TableRow}
-use Rattle.configurations.specs.Configurations.{state_in, content_in, configuration_in, Room, Removes, Adds, RowCan, RowMoves}
+use Rattle.configurations.specs.Configurations.{state_in, content_in, configuration_in, Room, Removes, Adds, AddsWithRoom, RowCan, RowMoves}
 use Rattle.configurations.proofs.StoreLaws.{stored}
 
 -- ---- whether a row can happen
@@ -68,9 +68,13 @@ removed_room message before after h room u =
     go None = room u
     go (Some t) = step t (ℕ_discrete u t)
 
+-- What adds a message adds it where there is room.
+pub with_room : (message : Option ℕ) (before after : List ℕ) → Adds message before after → AddsWithRoom message before after
+with_room message before after a = record { adds = a.adds; behind = a.behind; long = a.long }
+
 -- The state entered is stored, one message removed and then one added.
 pub row_moves : (x : TableRow) (states contents between after : List ℕ) → x.machine < length states → length contents ≡ 64
-    → Removes x.fields.taken contents between → Adds x.fields.sent between after
+    → Removes x.fields.taken contents between → AddsWithRoom x.fields.sent between after
     → RowMoves x states contents (set states x.machine x.fields.entered) after
 unfolding changed
 row_moves x states contents between after h wide first second =

@@ -35,6 +35,12 @@ pub record Adds (message : Option ℕ) (before after : List ℕ) : Type 0 where
   pub behind : ForSome message (λ t. length before ≤ t) → after ≡ before
   pub long : length after ≡ length before
 
+-- The same, but for `capped`: it is left open what stands where there is no room.
+pub record AddsWithRoom (message : Option ℕ) (before after : List ℕ) : Type 0 where
+  pub adds : Room before → ForSome message (λ t. t < length before) → content_in after ≡ added (content_in before) message
+  pub behind : ForSome message (λ t. length before ≤ t) → after ≡ before
+  pub long : length after ≡ length before
+
 -- "A row can happen": the test is that of every plant that has this row.
 pub record RowCan (x : TableRow) (states contents : List ℕ) (can : Bool) : Type 0 where
   pub machine : can ≡ true → x.machine < 16

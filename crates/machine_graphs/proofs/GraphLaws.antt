@@ -15,7 +15,7 @@ use Rattle.state_marks.specs.Marks.{column, RowsBelow, Sources}
 use Rattle.cycle_paths.specs.Rows.{Linked}
 use Rattle.cycle_counts.specs.Pairs.{Between}
 use Rattle.cycle_counts.proofs.BetweenLaws.{between_few}
-use Rattle.machine_graphs.specs.Graphs.{PairRoom, Listable, NoRows, Copied, Graphed}
+use Rattle.machine_graphs.specs.Graphs.{PairRoom, Listable, NoRows, NoRowsOfStates, Copied, Graphed}
 use Rattle.machine_graphs.specs.Inner.Rows.{RowAdded}
 use Rattle.machine_graphs.proofs.RowLaws.{next_long}
 use Rattle.machine_graphs.proofs.LinkLaws.{linked_none, linked_more, linked_same}
@@ -61,8 +61,20 @@ pub record Begun (table : List ℕ) (k last : ℕ) (graph : Graph) : Type 0 wher
   pub pairs : Between (leaving table) (entering table) (between_of graph) k last
   pub last_is : last_of graph ≡ last
 
+-- A graph without rows has none between its states.
+pub none_of_states : (last : ℕ) (graph : Graph) → NoRows last graph → NoRowsOfStates last graph
+none_of_states last graph g =
+    record {
+      head_long = g.head_long;
+      into_long = g.into_long;
+      between_long = g.between_long;
+      no_head = g.no_head;
+      no_pair = λ s t b d. g.no_pair s t b (omega (arith, d));
+      last_is = g.last_is;
+    }
+
 -- At first it has none.
-pub begun_none : (table : List ℕ) (last : ℕ) (graph : Graph) → last ≤ 1024 → NoRows last graph → Begun table last last graph
+pub begun_none : (table : List ℕ) (last : ℕ) (graph : Graph) → last ≤ 1024 → NoRowsOfStates last graph → Begun table last last graph
 begun_none table last graph few g =
     record {
       into_long = g.into_long;

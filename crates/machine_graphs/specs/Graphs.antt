@@ -20,7 +20,16 @@ pub record PairRoom (table : List (List ℕ)) : Type 0 where
   pub rows : length table ≡ 24
   pub long : (s : ℕ) → s < 24 → length (get_or table s []) ≡ 32
 
--- A graph without rows, before `last`.
+-- A graph without rows between its 24 states, before `last`; what stands for a pair with a state behind these is left open.
+pub record NoRowsOfStates (last : ℕ) (graph : Graph) : Type 0 where
+  pub head_long : length (head_of graph) ≡ 24
+  pub into_long : length (into_of graph) ≡ 32
+  pub between_long : PairRoom (between_of graph)
+  pub no_head : (s : ℕ) → s < 24 → get_or (head_of graph) s 0 ≡ last
+  pub no_pair : (s t : ℕ) → s < 24 → t < 24 → pair (between_of graph) s t ≡ 0
+  pub last_is : last_of graph ≡ last
+
+-- A graph without rows, before `last`: none stands in all of the room for pairs.
 pub record NoRows (last : ℕ) (graph : Graph) : Type 0 where
   pub head_long : length (head_of graph) ≡ 24
   pub into_long : length (into_of graph) ≡ 32

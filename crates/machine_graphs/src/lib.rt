@@ -4,10 +4,13 @@
 
 ghost use Rattle.std.specs.Prelude.{◌≤◌, ◌<◌};
 ghost use Rattle.graphs.specs.Graphs.{between_of, pair};
-ghost use Rattle.machine_graphs.specs.Graphs.{Listable, NoRows, Graphed};
+ghost use Rattle.machine_graphs.specs.Graphs.{Listable, NoRows, NoRowsOfStates, Graphed};
 ghost use Rattle.machine_graphs.specs.Inner.Rows.{RowAdded};
 
 use graphs::Graph;
+
+#[cfg(test)]
+mod tests;
 
 // A graph without rows.
 pub fn without_rows(last: usize) -> Graph
@@ -42,10 +45,10 @@ fn add_row(graph: &mut Graph, k: usize, left: u8, entered: u8)
     graph.between[s][t] += 1;
 }
 
-// Adds the rows from `first` up to, and not including, `last` to a graph without rows; from the last row to the first, as `add_row` puts
-// each before those that are there.
+// Adds the rows from `first` up to, and not including, `last` to a graph without rows between its states; from the last row to the first, as
+// `add_row` puts each before those that are there.
 pub fn add_rows(table: &[u8], first: usize, last: usize, graph: &mut Graph)
-    requires { Listable table.now first last × NoRows last graph.old }
+    requires { Listable table.now first last × NoRowsOfStates last graph.old }
     ensures { Graphed table.now first last graph.new }
 {
     for k in (first..last).rev() {

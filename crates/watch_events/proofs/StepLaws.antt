@@ -12,7 +12,7 @@ use lib.Dec.{ltb}
 use borrow.Author.Tests.{ltb-true}
 use Rattle.tables.specs.Tables.{row_in, row_of}
 use Rattle.tables.specs.declared.TableRow.{TableRow}
-use Rattle.configurations.specs.Configurations.{Adds, RowCan, RowMoves}
+use Rattle.configurations.specs.Configurations.{AddsWithRoom, RowCan, RowMoves}
 use Rattle.watched_runs.specs.Answers.{answer_of, remaining, refused}
 use Rattle.watched_runs.specs.Keeping.{Kept, rows_in, types_in, left_in, per_progress_in, per_doubling_in}
 use Rattle.watched_runs.specs.Owed.{Steps}
@@ -70,7 +70,7 @@ module _ (s : Kept) (t : ℕ) (held : message_held s.sizes s.contents t ≡ true
       (subst (Steps s (doubling t) (refused 29 0)) (kept s counts c) (steps_late_doubling s t held l))
 
   -- It was counted, and the message added.
-  pub doubling_taken : (contents counts : List ℕ) → CountedUpTo 2 1000000 (per_doubling_in s.sizes) s.counts counts (Ok tt) → Adds (Some t) s.contents contents
+  pub doubling_taken : (contents counts : List ℕ) → CountedUpTo 2 1000000 (per_doubling_in s.sizes) s.counts counts (Ok tt) → AddsWithRoom (Some t) s.contents contents
       → Steps s (doubling t) (remaining (left_in counts)) (moved s s.states contents counts)
   doubling_taken contents counts (at_most l c h) adds = absurd (false≢true cc)
   doubling_taken contents counts (one_more l c h) adds =

@@ -18,7 +18,7 @@ use Rattle.plant.proofs.FileBounds.{within_limits}
 use Rattle.tables.specs.Tables.{row_in, row_of}
 use Rattle.tables.specs.declared.TableRow.{TableRow}
 use Rattle.tables.proofs.RowLaws.{row_progress}
-use Rattle.configurations.specs.Configurations.{Removes, Adds, RowCan, RowMoves}
+use Rattle.configurations.specs.Configurations.{Removes, AddsWithRoom, RowCan, RowMoves}
 use Rattle.watched_runs.specs.Answers.{Answer, remaining, refused}
 use Rattle.watched_runs.specs.WatchedRuns.{WatchedRun, impossible}
 use Rattle.watched_runs.specs.Keeping.{Kept, rows_in, types_in, per_progress_in, per_doubling_in, left_in, progress_in, doublings_in, configuration_of, Holds}
@@ -211,7 +211,7 @@ module _ (s : Kept) (t : ℕ) (held : message_held s.sizes s.contents t ≡ true
   pub steps_late_doubling : 1000000 ≤ doublings_in s.counts → Steps s (doubling t) (refused 29 0) s
   steps_late_doubling n = refuses s (doubling t) 29 (λ w holds. late_doubling s w holds (plant_on w holds) t (there_is s t (doubling t) (doubling_of t) known w holds true one) n)
 
-  pub steps_doubled : (contents counts : List ℕ) → Adds (Some t) s.contents contents → doublings_in s.counts < 1000000
+  pub steps_doubled : (contents counts : List ℕ) → AddsWithRoom (Some t) s.contents contents → doublings_in s.counts < 1000000
       → CountsAre (capped (left_in s.counts + per_doubling_in s.sizes)) (progress_in s.counts) (doublings_in s.counts + 1) counts
       → Steps s (doubling t) (remaining (left_in counts)) (moved s s.states contents counts)
   unfolding changed is_quiet_row is_progress_row is_doubling

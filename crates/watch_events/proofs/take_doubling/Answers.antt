@@ -1,6 +1,7 @@
 -- `take_doubling` meets its contract: each way out is one way to answer the event.
 use Rattle.std.proofs.Common.{sym, ◌∙◌}
 use Rattle.plant.proofs.Exits.{handed_on}
+use Rattle.configurations.proofs.RowLaws.{with_room}
 use Rattle.watched_runs.proofs.EventSteps.{steps_none_doubled}
 use Rattle.watch_events.proofs.StepLaws.{doubling_late, doubling_taken}
 use Rattle.watch_events.proofs.take_doubling.Goals as goal
@@ -16,4 +17,4 @@ returns-in_err-count_event c =
 pub returns : goal.returns
 returns c =
     let held = sym c.has_message.ensures ∙ c.if-not-has_message.false in
-    λ table states copy. doubling_taken _ c.args.t held _ _ c.in_ok-count_event.ensures c.add.ensures
+    λ table states copy. doubling_taken _ c.args.t held _ _ c.in_ok-count_event.ensures (with_room _ _ _ c.add.ensures)
