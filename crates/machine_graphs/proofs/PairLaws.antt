@@ -1,4 +1,4 @@
--- Laws of the numbers of rows from state to state: no row, and one row more.
+-- Laws of the numbers of rows from state to state: no row, one number stored, and one row more.
 use mathlib.Core.Path.{◌≡◌, refl, sym, ap, ◌∙◌}
 use mathlib.Core.List.{List, []}
 use Prim.Native.Nat.{ℕ, zero, suc, ◌+◌, ◌-◌, ◌<◌, ◌≤◌}
@@ -26,6 +26,42 @@ no_pair_room = record { rows = refl; long = λ s b. ap (λ (row : List ℕ). len
 pub no_pairs : (s t : ℕ) → s < 24 → t < 32 → pair (replicate 24 (replicate 32 0)) s t ≡ 0
 no_pairs s t b d = ap (λ (row : List ℕ). get_or row t 0) (get_or-replicate 24 s (replicate 32 0) [] b) ∙ get_d_replicate_default 32 0 t
 
+-- ---- one number stored for a pair
+
+-- A table of pairs with v for states s and t.
+abbrev with_pair : List (List ℕ) → ℕ → ℕ → ℕ → List (List ℕ)
+with_pair table s t v = set table s (set (get_or table s []) t v)
+
+module _ (table : List (List ℕ)) (s t v : ℕ) (low : s < 24) (room : PairRoom table) where
+  -- The first state with another has what it had,
+  with_pair_beside : (y : ℕ) → (y ≡ t → ⊥) → pair (with_pair table s t v) s y ≡ pair table s y
+  with_pair_beside y n =
+      ap (λ (row : List ℕ). get_or row y 0) (get_or-set_same table s (set (get_or table s []) t v) [] (omega (arith, room.rows)))
+      ∙ get_or-set_other (get_or table s []) t y v 0 n
+
+  -- so has any other first state,
+  with_pair_else : (x y : ℕ) → (x ≡ s → ⊥) → pair (with_pair table s t v) x y ≡ pair table x y
+  with_pair_else x y n = ap (λ (row : List ℕ). get_or row y 0) (get_or-set_other table s x (set (get_or table s []) t v) [] n)
+
+  -- and so has any pair with another second state.
+  pub with_pair_other : (x y : ℕ) → (y ≡ t → ⊥) → pair (with_pair table s t v) x y ≡ pair table x y
+  with_pair_other x y n = go (ℕ_discrete x s)
+    where
+      go : Dec (x ≡ s) → pair (with_pair table s t v) x y ≡ pair table x y
+      go (yes e) = rw e (with_pair_beside y n)
+      go (no d) = with_pair_else x y d
+
+  -- The room is the same.
+  pub with_pair_room : PairRoom (with_pair table s t v)
+  with_pair_room = record { rows = length-set table s (set (get_or table s []) t v) ∙ room.rows; long = λ x b. long x b (ℕ_discrete x s) }
+    where
+      long : (x : ℕ) → x < 24 → Dec (x ≡ s) → length (get_or (with_pair table s t v) x []) ≡ 32
+      long x b (yes e) =
+          rw e
+          (ap length (get_or-set_same table s (set (get_or table s []) t v) [] (omega (arith, room.rows)))
+          ∙ (length-set (get_or table s []) t v ∙ room.long s low))
+      long x b (no n) = ap length (get_or-set_other table s x (set (get_or table s []) t v) [] n) ∙ room.long x b
+
 -- ---- one more for a pair
 
 module _ (table : List (List ℕ)) (s t : ℕ) (low : s < 24) (high : t < 24) (room : PairRoom table) where
@@ -37,24 +73,15 @@ module _ (table : List (List ℕ)) (s t : ℕ) (low : s < 24) (high : t < 24) (r
 
   -- the first state with another as many as before,
   more_beside : (y : ℕ) → (y ≡ t → ⊥) → pair (one_more table s t) s y ≡ pair table s y
-  more_beside y n =
-      ap (λ (row : List ℕ). get_or row y 0) (get_or-set_same table s (set (get_or table s []) t (pair table s t + 1)) [] (omega (arith, room.rows)))
-      ∙ get_or-set_other (get_or table s []) t y (pair table s t + 1) 0 n
+  more_beside = with_pair_beside table s t (pair table s t + 1) low room
 
   -- and so has any other first state.
   more_else : (x y : ℕ) → (x ≡ s → ⊥) → pair (one_more table s t) x y ≡ pair table x y
-  more_else x y n = ap (λ (row : List ℕ). get_or row y 0) (get_or-set_other table s x (set (get_or table s []) t (pair table s t + 1)) [] n)
+  more_else = with_pair_else table s t (pair table s t + 1) low room
 
   -- The room is the same.
   pub more_room : PairRoom (one_more table s t)
-  more_room = record { rows = length-set table s (set (get_or table s []) t (pair table s t + 1)) ∙ room.rows; long = λ x b. long x b (ℕ_discrete x s) }
-    where
-      long : (x : ℕ) → x < 24 → Dec (x ≡ s) → length (get_or (one_more table s t) x []) ≡ 32
-      long x b (yes e) =
-          rw e
-          (ap length (get_or-set_same table s (set (get_or table s []) t (pair table s t + 1)) [] (omega (arith, room.rows)))
-          ∙ (length-set (get_or table s []) t (pair table s t + 1) ∙ room.long s low))
-      long x b (no n) = ap length (get_or-set_other table s x (set (get_or table s []) t (pair table s t + 1)) [] n) ∙ room.long x b
+  more_room = with_pair_room table s t (pair table s t + 1) low room
 
 -- ---- the rows between states
 

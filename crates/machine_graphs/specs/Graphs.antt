@@ -29,7 +29,7 @@ pub record NoRowsOfStates (last : ℕ) (graph : Graph) : Type 0 where
   pub no_pair : (s t : ℕ) → s < 24 → t < 24 → pair (between_of graph) s t ≡ 0
   pub last_is : last_of graph ≡ last
 
--- A graph without rows, before `last`: none stands in all of the room for pairs.
+-- A graph without rows, before `last`: no pair in the whole room has any.
 pub record NoRows (last : ℕ) (graph : Graph) : Type 0 where
   pub head_long : length (head_of graph) ≡ 24
   pub into_long : length (into_of graph) ≡ 32
